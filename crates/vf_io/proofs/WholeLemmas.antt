@@ -1,9 +1,10 @@
 -- One more piece read of a file, and one more line put of a text.
-use Rattle.std.proofs.Common.{◌≡◌, ℕ, ◌++◌, List, [], ◌∷◌, Option, Some, None, sym, ap, ◌∙◌, append_assoc, subst}
-use Rattle.std.proofs.lemmas.List.{flat_map_more}
+use Rattle.std.proofs.Common.{◌≡◌, ℕ, ◌+◌, ◌++◌, min, take, length, arith, List, [], ◌∷◌, Option, Some, None, sym, ap, ◌∙◌, append_assoc, subst}
+use Rattle.std.proofs.lemmas.List.{flat_map_more, take-append-le, take_min}
+use Rattle.std.proofs.Math.Seq.{take-append-add}
 use Rattle.std.specs.Io.KnownBytes.{Appends}
 use Rattle.std.specs.Prelude.{flat_map}
-use Rattle.vf_io.specs.Bytes.{AddsPieces}
+use Rattle.vf_io.specs.Bytes.{AddsPieces, AppendsFront}
 use Rattle.vf_io.specs.Pieces.{pieces_of}
 use Rattle.vf_io.specs.Whole.{HasPut}
 
@@ -40,3 +41,14 @@ PutSoFar-more wo wm wn po pm pn text rest line behind so_far first whole written
     put = AddsPieces-append po pm pn so_far.whole (line ∷ []) so_far.put.put put;
   };
 }
+
+-- a front of the next line was written, so a front of the text was
+pub PutSoFar-front : (written_old written_mid written_new : Option (List ℕ)) (pieces_old pieces_mid : Option (List (List ℕ))) (text rest line behind : List ℕ)
+    → PutSoFar written_old written_mid pieces_old pieces_mid text rest → rest ≡ line ++ behind → AppendsFront written_mid written_new line → AppendsFront written_old written_new text
+PutSoFar-front wo wm wn po pm text rest line behind so_far cut written =
+    let whole = flat_map (λ piece. piece) so_far.whole in
+    let n = min written.0 (length line) in
+    let line_front : take n (line ++ behind) ≡ take written.0 line = take-append-le n line behind (omega arith) ∙ take_min written.0 line in
+    let front : take (length whole + n) text ≡ whole ++ take written.0 line =
+    ap (λ t. take (length whole + n) t) (so_far.bytes ∙ ap (λ r. whole ++ r) cut) ∙ take-append-add whole (line ++ behind) n ∙ ap (λ f. whole ++ f) line_front in
+    (length whole + n, subst (λ (f : List ℕ). Appends wo wn f) (sym front) (Appends-append wo wm wn whole (take written.0 line) so_far.put.written written.1))

@@ -1,5 +1,6 @@
 ghost use Rattle.std.specs.Prelude.{OnOk, OnErr};
 ghost use Rattle.std.specs.Io.KnownBytes.{Appends};
+ghost use Rattle.vf_io.specs.Bytes.{AppendsFront};
 ghost use Rattle.vf_io.specs.Causes.{HasCause};
 ghost use Rattle.vf_io.specs.Pieces.{pieces_of};
 ghost use Rattle.vf_io.specs.Whole.{HasPut, StopsInPiece};
@@ -13,6 +14,7 @@ use crate::sink::Sink;
 pub fn put_lines<K: Sink>(sink: &mut K, text: &[u8]) -> Result<(), Failed>
     ensures ok { OnOk result (Appends (K.written sink.old) (K.written sink.new) text.now) }
     ensures lines { OnOk result (HasPut (K.written sink.old) (K.written sink.new) (K.pieces sink.old) (K.pieces sink.new) (pieces_of text.now)) }
+    ensures front { OnErr result (AppendsFront (K.written sink.old) (K.written sink.new) text.now) }
     ensures err { OnErr result (StopsInPiece (K.written sink.old) (K.written sink.new) (K.pieces sink.old) (K.pieces sink.new) (pieces_of text.now)) }
     ensures cause { HasCause (K.faults sink.old) (K.faults sink.new) result }
 {
