@@ -6,6 +6,8 @@ mod fault;
 mod listing;
 mod page;
 mod status;
+#[cfg(test)]
+mod tests;
 mod top;
 
 use crate::status::Status;
@@ -29,6 +31,12 @@ fn main(rt: HostRuntime) -> ExitCode {
         Err(_) => Vec::new(alloc),
     };
     let mut shelf = FolderShelf::new(&rt);
-    let mut sink = StdSink::new(&rt);
-    ExitCode::from(run(alloc, words.as_slice(), &mut shelf, &mut sink))
+    let Ok(mut sink) = StdSink::new(alloc, &rt) else {
+        return ExitCode::from(Status::NoMemory);
+    };
+    let status = run(alloc, words.as_slice(), &mut shelf, &mut sink);
+    match sink.flush() {
+        Ok(()) => ExitCode::from(status),
+        Err(_) => ExitCode::from(Status::WriteFault),
+    }
 }

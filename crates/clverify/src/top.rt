@@ -1,4 +1,4 @@
-ghost use Rattle.std.specs.Prelude.{◌≡◌, ◌≢◌, ◌≤◌, ◌⊎◌, None, Some, length, map, All, string_bytes};
+ghost use Rattle.std.specs.Prelude.{◌≡◌, ◌≢◌, ◌≤◌, ◌⊎◌, None, Some, vec_len, map, All, string_bytes};
 ghost use Rattle.vf_io.specs.Causes.{Rose};
 ghost use Rattle.cl_moves.specs.Program.{program_of};
 ghost use Rattle.clverify.specs.Due.{due, refused, listed};
@@ -51,21 +51,23 @@ fn list_file<S: Shelf, K: Sink>(alloc: Global, file: &str, shelf: &mut S, sink: 
     ensures files { S.files shelf.new ≡ S.files shelf.old }
 {
     match read_all(alloc, shelf, file, MAX_BYTES as u32) {
-        Ok(bytes) => list_bytes(alloc, &bytes, sink),
+        Ok(bytes) => list_bytes(alloc, bytes, sink),
         Err(ReadEnd::TooLong) => refuse(alloc, Fault::TooLong(Input::Cl), sink),
         Err(ReadEnd::Failed) => Status::ReadFault,
         Err(ReadEnd::NoMemory) => Status::NoMemory,
     }
 }
 
-/// Lists the moves of a text, or refuses it.
-fn list_bytes<K: Sink>(alloc: Global, bytes: &[u8], sink: &mut K) -> Status
-    requires { length bytes.now ≤ MAX_BYTES }
-    ensures answer { Answers result (Some (listed (program_of bytes.now))) (K.written sink.old) (K.written sink.new) }
+/// Lists the moves of a text, or refuses it. The text is let go before the listing is made.
+fn list_bytes<K: Sink>(alloc: Global, bytes: Vec<u8>, sink: &mut K) -> Status
+    requires { vec_len bytes ≤ MAX_BYTES }
+    ensures answer { Answers result (Some (listed (program_of bytes.items))) (K.written sink.old) (K.written sink.new) }
     ensures no_read { result ≢ Status.ReadFault }
     ensures write_fault { result ≡ Status.WriteFault → Rose (K.faults sink.old) (K.faults sink.new) }
 {
-    match read_program(alloc, bytes) {
+    let read = read_program(alloc, &bytes);
+    drop(bytes);
+    match read {
         Ok(program) => match list_text(alloc, &program) {
             Ok(text) => write_answer(sink, &text, Status::Clean),
             Err(NoMemory) => Status::NoMemory,

@@ -1,21 +1,50 @@
-ghost use Rattle.std.specs.Prelude.{None};
+ghost use Rattle.std.specs.Prelude.{◌≤◌, None, OnErr};
+ghost use Rattle.vf_io.specs.Causes.{Rose};
 
-use crate::answers::Failed;
+use crate::answers::{Failed, NoMemory};
 use crate::sink::Sink;
+use std::alloc::Global;
 use std::io;
-use std::io::Write;
+use std::io::{BufWriter, Printer, Write};
 
-/// Standard output. It tells nothing of what was written: what the system takes is trusted.
+/// The bytes that are gathered before standard output gets them.
+const GATHERED: usize = 65536;
+
+/// Standard output. It gathers lines and tells nothing of what was written: what the system takes is
+/// trusted. `flush` hands on what is still gathered.
 #[derive(Drop)]
 pub struct StdSink<'a, R: Print> {
-    rt: &'a R,
+    writer: BufWriter<Printer<'a, R>>,
     faults: u64,
 }
 
 impl<'a, R: Print> StdSink<'a, R> {
     /// The sink that writes to standard output.
-    pub fn new(rt: &'a R) -> StdSink<'a, R> {
-        StdSink { rt, faults: 0 }
+    pub fn new(alloc: Global, rt: &'a R) -> Result<StdSink<'a, R>, NoMemory> {
+        match BufWriter::with_capacity(alloc, GATHERED, io::writer(rt)) {
+            Ok(writer) => Ok(StdSink { writer, faults: 0 }),
+            Err(_) => Err(NoMemory),
+        }
+    }
+
+    /// Hands on what is still gathered.
+    pub fn flush(&mut self) -> Result<(), Failed>
+        ensures later { self.old.faults ≤ self.new.faults }
+        ensures rose { OnErr result (Rose self.old.faults self.new.faults) }
+    {
+        match self.writer.flush() {
+            Ok(()) => Ok(()),
+            Err(_) => Err(self.fail()),
+        }
+    }
+
+    /// Counts a fault.
+    fn fail(&mut self) -> Failed
+        ensures later { self.old.faults ≤ self.new.faults }
+        ensures rose { Rose self.old.faults self.new.faults }
+    {
+        self.faults = self.faults.saturating_add(1);
+        Failed
     }
 }
 
@@ -26,12 +55,9 @@ impl<'a, R: Print> Sink for StdSink<'a, R> {
 
     // A write that takes nothing counts as a failure, as `write_all` has it.
     fn put(&mut self, bytes: &[u8]) -> Result<(), Failed> {
-        match io::writer(self.rt).write_all(bytes) {
+        match self.writer.write_all(bytes) {
             Ok(()) => Ok(()),
-            Err(_) => {
-                self.faults = self.faults.saturating_add(1);
-                Err(Failed)
-            }
+            Err(_) => Err(self.fail()),
         }
     }
 }
