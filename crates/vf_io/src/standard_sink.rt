@@ -1,4 +1,4 @@
-ghost use Rattle.std.specs.Prelude.{None};
+ghost use Rattle.std.specs.Prelude.{◌≡◌, None};
 
 use crate::answers::Failed;
 use crate::sink::Sink;
@@ -14,7 +14,9 @@ pub struct StdSink<'a, R: Print> {
 
 impl<'a, R: Print> StdSink<'a, R> {
     /// The sink that writes to standard output.
-    pub fn new(rt: &'a R) -> StdSink<'a, R> {
+    pub fn new(rt: &'a R) -> StdSink<'a, R>
+        ensures counts { ⟦<StdSink<'a, R> as Sink>⟧.faults result ≡ 0 }
+    {
         StdSink { rt, faults: 0 }
     }
 }
