@@ -74,3 +74,6 @@ impl<'a, R: Files> Shelf for FolderShelf<'a, R> {
         }
     }
 }
+
+#[cfg(test)]
+mod tests;

@@ -187,3 +187,6 @@ fn copy_front(buffer: &mut [u8], bytes: &[u8]) -> usize
     buffer[..count].copy_from_slice(&bytes[..count]);
     count
 }
+
+#[cfg(test)]
+mod tests;

@@ -37,3 +37,6 @@ impl<'a, R: Print> Sink for StdSink<'a, R> {
         }
     }
 }
+
+#[cfg(test)]
+mod tests;

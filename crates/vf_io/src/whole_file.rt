@@ -58,3 +58,6 @@ pub fn read_all<S: Shelf>(
         }
     }
 }
+
+#[cfg(test)]
+mod tests;
