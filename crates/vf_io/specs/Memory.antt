@@ -1,5 +1,5 @@
 -- What a shelf and a sink in memory keep, and which of their calls fail.
-use Rattle.std.specs.Prelude.{◌≡◌, ℕ, ◌+◌, ◌-◌, ◌<◌, ◌==◌, ◌||◌, min, Bool, nat_lt, List, [], length, is_none, unwrap_or}
+use Rattle.std.specs.Prelude.{◌≡◌, ℕ, ◌+◌, ◌-◌, ◌<◌, ◌==◌, ◌||◌, min, Bool, nat_lt, List, [], length, is_none, unwrap_or, if◌then◌else◌}
 use Rattle.std.specs.List.{list_any, slice_get}
 use Rattle.std.specs.Option.{option_map}
 use Rattle.std.specs.Ordering.{nat_cmp}
@@ -18,6 +18,10 @@ raised n = min (n + 1) most_faults
 -- the number of this call is among the failing ones
 abbrev pub fails_now : List ℕ → ℕ → Bool
 fails_now failing call = list_any (λ number. number == call) failing
+
+-- the count of faults behind a call that failed or did not
+abbrev pub faults_behind : Bool → ℕ → ℕ
+faults_behind failed before = if failed then raised before else before
 
 -- no file has the name
 abbrev pub is_absent : Named → List ℕ → Bool

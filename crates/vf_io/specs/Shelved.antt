@@ -27,6 +27,10 @@ call_count shelf = shelf.calls
 abbrev pub fault_count : MemShelf → ℕ
 fault_count shelf = shelf.faults
 
+-- the numbers of the calls that fail
+abbrev pub failing_calls : MemShelf → List ℕ
+failing_calls shelf = shelf.failing.items
+
 -- the next call fails by its number
 abbrev pub fails_next : MemShelf → Bool
-fails_next shelf = fails_now shelf.failing.items shelf.calls
+fails_next shelf = fails_now (failing_calls shelf) shelf.calls

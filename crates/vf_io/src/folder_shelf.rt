@@ -18,7 +18,10 @@ pub struct FolderShelf<'a, R: Files> {
 
 impl<'a, R: Files> FolderShelf<'a, R> {
     /// The shelf of the current folder, with no file open.
-    pub fn new(rt: &'a R) -> FolderShelf<'a, R> {
+    pub fn new(rt: &'a R) -> FolderShelf<'a, R>
+        ensures closed { ⟦<FolderShelf<'a, R> as Shelf>⟧.is_open result ≡ false }
+        ensures counts { ⟦<FolderShelf<'a, R> as Shelf>⟧.faults result ≡ 0 }
+    {
         FolderShelf {
             rt,
             file: None,
@@ -71,3 +74,6 @@ impl<'a, R: Files> Shelf for FolderShelf<'a, R> {
         }
     }
 }
+
+#[cfg(test)]
+mod tests;

@@ -4,9 +4,9 @@ ghost use Rattle.std.specs.Cmp.Lexicographic.{slice_cmp};
 ghost use Rattle.std.specs.FinMap.{find};
 ghost use Rattle.vf_io.specs.Causes.{HasCause};
 ghost use Rattle.vf_io.specs.Files.{bytes_of};
-ghost use Rattle.vf_io.specs.Memory.{IsPlaceOf, contents_at, raised, is_absent};
+ghost use Rattle.vf_io.specs.Memory.{IsPlaceOf, contents_at, raised, faults_behind, is_absent};
 ghost use Rattle.vf_io.specs.Reading.{TakesBytes, CountsRead};
-ghost use Rattle.vf_io.specs.Shelved.{named_of, named_files, told_files, unread_bytes, call_count, fault_count, fails_next};
+ghost use Rattle.vf_io.specs.Shelved.{named_of, named_files, told_files, unread_bytes, call_count, fault_count, failing_calls, fails_next};
 
 use crate::answers::Failed;
 use crate::shelf::Shelf;
@@ -29,6 +29,7 @@ impl MemShelf {
     /// together, fail. Of two files with one name the first counts.
     pub fn new(files: Vec<(String, Vec<u8>)>, failing: Vec<u64>) -> MemShelf
         ensures files { named_files result ≡ named_of files.items }
+        ensures failing { failing_calls result ≡ failing.items }
         ensures counts { (call_count result ≡ 0) × (fault_count result ≡ 0) }
         ensures closed { unread_bytes result ≡ None }
     {
@@ -100,7 +101,9 @@ impl Shelf for MemShelf {
         ensures closed { OnErr result (is_some (unread_bytes self.new) ≡ false) }
         ensures failed { is_err result ≡ (fails_next self.old || is_absent (named_files self.old) name.now) }
         ensures files { told_files self.new ≡ told_files self.old }
+        ensures kept { (named_files self.new ≡ named_files self.old) × (failing_calls self.new ≡ failing_calls self.old) }
         ensures counted { call_count self.new ≡ raised (call_count self.old) }
+        ensures fault { fault_count self.new ≡ faults_behind (is_err result) (fault_count self.old) }
         ensures cause { HasCause (fault_count self.old) (fault_count self.new) result }
         ensures reads { 0 ≤ 0 }
         ensures allows { (n : List ℕ) → Unit {0} ↔ Unit {0} }
@@ -125,7 +128,9 @@ impl Shelf for MemShelf {
         ensures closed { OnErr result (is_some (unread_bytes self.new) ≡ false) }
         ensures failed { is_err result ≡ fails_next self.old }
         ensures files { told_files self.new ≡ told_files self.old }
+        ensures kept { (named_files self.new ≡ named_files self.old) × (failing_calls self.new ≡ failing_calls self.old) }
         ensures counted { call_count self.new ≡ raised (call_count self.old) }
+        ensures fault { fault_count self.new ≡ faults_behind (is_err result) (fault_count self.old) }
         ensures cause { HasCause (fault_count self.old) (fault_count self.new) result }
         ensures reads { CountsRead 0 0 result }
         ensures allows { (n : List ℕ) → Unit {0} ↔ Unit {0} }
@@ -182,3 +187,6 @@ fn copy_front(buffer: &mut [u8], bytes: &[u8]) -> usize
     buffer[..count].copy_from_slice(&bytes[..count]);
     count
 }
+
+#[cfg(test)]
+mod tests;

@@ -2,7 +2,7 @@ ghost use Rattle.std.specs.Prelude.{◌≡◌, ℕ, ◌<◌, [], ◌∷◌, leng
 ghost use Rattle.std.specs.Io.KnownBytes.{Appends};
 ghost use Rattle.vf_io.specs.Bytes.{AppendsFront, AddsPieces};
 ghost use Rattle.vf_io.specs.Causes.{HasCause};
-ghost use Rattle.vf_io.specs.Memory.{raised, refuses};
+ghost use Rattle.vf_io.specs.Memory.{raised, faults_behind, refuses};
 
 use crate::answers::{Failed, NoMemory};
 use crate::sink::Sink;
@@ -63,6 +63,7 @@ impl Sink for MemSink {
         ensures refused { is_err result ≡ refuses self.old bytes.now }
         ensures calls { self.new.calls ≡ raised self.old.calls }
         ensures kept { (self.new.room ≡ self.old.room) × (self.new.failing ≡ self.old.failing) }
+        ensures fault { self.new.faults ≡ faults_behind (is_err result) self.old.faults }
         ensures cause { HasCause self.old.faults self.new.faults result }
     {
         let refused = self.failing.contains(&self.calls);
@@ -75,3 +76,6 @@ impl Sink for MemSink {
         Ok(())
     }
 }
+
+#[cfg(test)]
+mod tests;

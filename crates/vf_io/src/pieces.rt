@@ -16,3 +16,6 @@ pub fn split_line(text: &[u8]) -> (&[u8], &[u8])
     };
     text.split_at(len)
 }
+
+#[cfg(test)]
+mod tests;

@@ -1,4 +1,4 @@
-ghost use Rattle.std.specs.Prelude.{◌≤◌, None, OnErr};
+ghost use Rattle.std.specs.Prelude.{◌≡◌, ◌≤◌, None, IfOk, OnErr};
 ghost use Rattle.vf_io.specs.Causes.{Rose};
 
 use crate::answers::{Failed, NoMemory};
@@ -20,7 +20,9 @@ pub struct StdSink<'a, R: Print> {
 
 impl<'a, R: Print> StdSink<'a, R> {
     /// The sink that writes to standard output.
-    pub fn new(alloc: Global, rt: &'a R) -> Result<StdSink<'a, R>, NoMemory> {
+    pub fn new(alloc: Global, rt: &'a R) -> Result<StdSink<'a, R>, NoMemory>
+        ensures { IfOk result (λ sink. ⟦<StdSink<'a, R> as Sink>⟧.faults sink ≡ 0) }
+    {
         match BufWriter::with_capacity(alloc, GATHERED, io::writer(rt)) {
             Ok(writer) => Ok(StdSink { writer, faults: 0 }),
             Err(_) => Err(NoMemory),
@@ -61,3 +63,6 @@ impl<'a, R: Print> Sink for StdSink<'a, R> {
         }
     }
 }
+
+#[cfg(test)]
+mod tests;

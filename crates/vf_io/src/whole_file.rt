@@ -1,4 +1,4 @@
-ghost use Rattle.std.specs.Prelude.{◌≡◌, ℕ, ◌+◌, ◌<◌, ◌≤◌, ◌↔◌, List, [], Some, Err, length, vec_len, IfOk, IfSome, OnOk};
+ghost use Rattle.std.specs.Prelude.{◌≡◌, ℕ, ◌+◌, ◌<◌, ◌≤◌, ◌↔◌, List, [], Some, Err, false, length, vec_len, IfOk, IfSome, OnOk};
 ghost use Rattle.vf_io.specs.Causes.{Rose};
 ghost use Rattle.vf_io.specs.Files.{bytes_of};
 
@@ -32,6 +32,7 @@ pub fn read_all<S: Shelf>(
     ensures within { IfOk result (λ v. vec_len v ≤ limit) }
     ensures too_long { result ≡ Err ReadEnd.TooLong → IfSome (S.files shelf.old) (λ told. limit < length (bytes_of told name.now)) }
     ensures failed { result ≡ Err ReadEnd.Failed → Rose (S.faults shelf.old) (S.faults shelf.new) }
+    ensures closed { result ≡ Err ReadEnd.Failed → S.is_open shelf.new ≡ false }
     ensures later { S.faults shelf.old ≤ S.faults shelf.new }
     ensures files { S.files shelf.new ≡ S.files shelf.old }
     ensures reads { S.reads shelf.new ≤ S.reads shelf.old + limit + 1 }
@@ -57,3 +58,6 @@ pub fn read_all<S: Shelf>(
         }
     }
 }
+
+#[cfg(test)]
+mod tests;
