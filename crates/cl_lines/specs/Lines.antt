@@ -16,5 +16,6 @@ without_last end (b ∷ c ∷ bytes) = b ∷ without_last end (c ∷ bytes)
 abbrev pub line_of : List ℕ → List ℕ
 line_of piece = without_last carriage_return (without_last line_feed piece)
 
+-- the lines of all the bytes, in order
 abbrev pub lines_of : List ℕ → List (List ℕ)
 lines_of bytes = map line_of (pieces_of bytes)

@@ -61,6 +61,7 @@ abbrev pub micrometres : Unit → ℕ
 micrometres Mm = 1000
 micrometres Inch = 25400
 
+-- a size and its sign as a whole number
 abbrev pub with_sign : Bool → ℕ → ℤ
 with_sign negative size = if negative then neg_ℤ (pos size) else pos size
 

@@ -10,3 +10,6 @@ mod text;
 pub use fault::{ClEnd, ClFault, ClWhy};
 pub use number::{NumberFault, Unit, read_length};
 pub use text::{Lines, MAX_BYTES, Text};
+
+#[cfg(test)]
+mod tests;

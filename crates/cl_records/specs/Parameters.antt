@@ -13,6 +13,7 @@ abbrev pub unless_last_blank : ℕ → List ℕ → List ℕ
 unless_last_blank b [] = if is_blank b then [] else b ∷ []
 unless_last_blank b (c ∷ bytes) = b ∷ c ∷ bytes
 
+-- the bytes without the blanks at their end
 abbrev pub without_last_blanks : List ℕ → List ℕ
 without_last_blanks [] = []
 without_last_blanks (b ∷ bytes) = unless_last_blank b (without_last_blanks bytes)

@@ -20,10 +20,12 @@ use Rattle.cl_records.specs.declared.word.Major.TheVariants as majors
 abbrev pub coordinate_of : List ℕ → Result ℤ NumberFault
 coordinate_of text = length_of Mm (neg_ℤ (pos 1000000)) (pos 1000000) text
 
+-- the text was no number
 abbrev pub is_no_number : Result ℤ NumberFault → Bool
 is_no_number (Err Syntax) = true
 is_no_number _ = false
 
+-- the number was out of its range
 abbrev pub is_out_of_range : Result ℤ NumberFault → Bool
 is_out_of_range (Err Range) = true
 is_out_of_range _ = false
@@ -45,6 +47,7 @@ abbrev pub at_point : (List ℤ → Record) → Result (List ℤ) ClWhy → Resu
 at_point make (Ok tip) = Ok (make tip)
 at_point make (Err why) = Err why
 
+-- what a major word makes of what follows it
 abbrev pub read_as : Major → List ℕ → Result Record ClWhy
 read_as majors.Goto behind = at_point (λ tip. records.Goto tip None) (point_of (parameters_of behind))
 read_as majors.From behind = at_point (λ tip. records.From tip None) (point_of (parameters_of behind))

@@ -15,6 +15,7 @@ is_word_byte b = is_ascii_alphanumeric b || (b == 45 || b == 95)
 abbrev pub word_of : List ℕ → List ℕ
 word_of text = take (prefix_len is_word_byte (behind_blanks text)) (behind_blanks text)
 
+-- what follows that run
 abbrev pub behind_word : List ℕ → List ℕ
 behind_word text = drop (prefix_len is_word_byte (behind_blanks text)) (behind_blanks text)
 

@@ -9,3 +9,6 @@ mod word;
 
 pub use records::Records;
 pub use statement::Record;
+
+#[cfg(test)]
+mod tests;
