@@ -49,6 +49,7 @@ step line Fini fold = Ok fold
 abbrev pub finished : Fold → Program
 finished fold = record { moves = fold.moves; passed = 0 }
 
+-- the rest goes on from what one record did, and a fault has that record's line
 abbrev pub continued : ℕ → Result Fold ClWhy → (Fold → Result Program ClFault) → Result Program ClFault
 continued line (Ok fold) rest = rest fold
 continued line (Err why) rest = Err (record { line = line; why = why })

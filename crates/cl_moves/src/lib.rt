@@ -7,3 +7,6 @@ mod program;
 
 pub use moves::{CutterText, MAX_MOVES, Move, Moves};
 pub use program::{Program, read_program};
+
+#[cfg(test)]
+mod tests;

@@ -61,6 +61,13 @@ impl Moves {
         Moves { items }
     }
 
+    /// The list of the moves. It takes no memory.
+    pub fn into_vec(self) -> Vec<Move>
+        ensures { result.items ≡ self }
+    {
+        self.items
+    }
+
     /// The moves as they lie in memory.
     pub fn as_slice(&self) -> &[Move]
         ensures { result.now ≡ self.now }
