@@ -1,0 +1,4 @@
+pub mod Sizes
+pub mod Distances
+pub mod Rows
+pub mod Windows

@@ -1,0 +1,5 @@
+pub mod Ranges
+pub mod Families
+pub mod Lattice
+pub mod Strips
+pub mod Reach
