@@ -2,3 +2,4 @@ pub mod Sizes
 pub mod Distances
 pub mod Rows
 pub mod Windows
+pub mod Listed

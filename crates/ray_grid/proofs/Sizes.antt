@@ -3,7 +3,7 @@ use Rattle.std.proofs.Common.{◌≡◌, ℕ, suc, zero, ◌+◌, ◌-◌, ◌*�
 use Rattle.std.proofs.lemmas.Int.{ints, to_z-of_z, to_z_pos}
 use Rattle.std.proofs.Math.IntN.{pos-*ℤ-pos}
 use Rattle.std.proofs.Math.Nat.{mul-le-mul, mul-le-mul_right}
-use Rattle.ray_grid.specs.Ranges.{IsGrid, IsCoordinate, along}
+use Rattle.ray_grid.specs.Ranges.{IsGrid, IsAxis, IsCoordinate, along}
 
 pub abs_is : (z : ℤ) → pos 1 ≤ℤ z → z ≡ pos (unsigned_abs z)
 abs_is (pos n) h = refl
@@ -61,6 +61,12 @@ scaled o z k fits small coordinate positive last =
       value = to_z-of_z w32 (to_z w32 (of_z w32 o) +ℤ to_z w32 (of_z w32 (to_z w32 k *ℤ to_z w32 (of_z w32 z)))) fits_sum ∙ sum;
     }
 
+pub axis_of : (origin : List ℤ) (pitch step : ℤ) (counts : List ℕ) (axis : ℕ) → IsGrid origin pitch step counts → axis < 3 → IsAxis pitch step (along origin axis) (slice_index counts axis)
+axis_of origin pitch step counts zero g three = g.x
+axis_of origin pitch step counts (suc zero) g three = g.y
+axis_of origin pitch step counts (suc (suc zero)) g three = g.z
+axis_of origin pitch step counts (suc (suc (suc axis))) g three = absurd (omega arith)
+
 pub node_scaled : (origin : List ℤ) (pitch step : ℤ) (counts : List ℕ) (axis n : ℕ) → IsGrid origin pitch step counts → FitsSigned w32 pitch → axis < 3 → n < slice_index counts axis → Scaled (along origin axis) pitch n
 node_scaled origin pitch step counts axis n g fits three lt =
     let one : pos 1 ≤ℤ pitch = g.pitch_in.from_low in
@@ -68,13 +74,18 @@ node_scaled origin pitch step counts axis n g fits three lt =
     let pp = abs_is pitch one in
     let a = g.step_in.from_low in
     let b = g.step_in.to_high in
-    let most = g.most_nodes axis three in
-    scaled (along origin axis) pitch n fits (omega arith) (g.origin_in axis three) one
-    (node_within (along origin axis) (unsigned_abs pitch) (unsigned_abs step) (slice_index counts axis) n (omega (arith, ints)) (omega (arith, ints)) g.divides lt (g.last axis three))
+    let ax = axis_of origin pitch step counts axis g three in
+    let most = ax.most in
+    scaled (along origin axis) pitch n fits (omega arith) ax.origin_in one
+    (node_within (along origin axis) (unsigned_abs pitch) (unsigned_abs step) (slice_index counts axis) n (omega (arith, ints)) (omega (arith, ints)) g.divides lt ax.last)
+
+pub few_places : (origin : List ℤ) (pitch step : ℤ) (counts : List ℕ) (axis : ℕ) → IsGrid origin pitch step counts → axis < 3 → slice_index counts axis * (unsigned_abs pitch / unsigned_abs step) ≤ 400000
+few_places origin pitch step counts axis g three = mul-le-mul (axis_of origin pitch step counts axis g three).most g.fine
 
 pub place_scaled : (origin : List ℤ) (pitch step : ℤ) (counts : List ℕ) (axis l : ℕ) → IsGrid origin pitch step counts → FitsSigned w32 step → axis < 3 → l < slice_index counts axis * (unsigned_abs pitch / unsigned_abs step)
     → Scaled (along origin axis) step l
 place_scaled origin pitch step counts axis l g fits three lt =
-    let most = mul-le-mul (g.most_nodes axis three) g.fine in
-    scaled (along origin axis) step l fits (omega arith) (g.origin_in axis three) g.step_in.from_low
-    (place_within (along origin axis) (unsigned_abs step) (slice_index counts axis * (unsigned_abs pitch / unsigned_abs step)) l lt (g.last axis three))
+    let ax = axis_of origin pitch step counts axis g three in
+    let most = mul-le-mul ax.most g.fine in
+    scaled (along origin axis) step l fits (omega arith) ax.origin_in g.step_in.from_low
+    (place_within (along origin axis) (unsigned_abs step) (slice_index counts axis * (unsigned_abs pitch / unsigned_abs step)) l lt ax.last)

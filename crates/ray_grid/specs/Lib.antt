@@ -3,3 +3,4 @@ pub mod Families
 pub mod Lattice
 pub mod Strips
 pub mod Reach
+pub mod Points

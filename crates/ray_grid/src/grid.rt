@@ -16,8 +16,9 @@ pub struct Grid {
 }
 
 impl Grid {
-    ghost use Rattle.std.specs.Prelude.{◌≡◌, ◌*◌, ◌<◌, slice_index};
+    ghost use Rattle.std.specs.Prelude.{◌≡◌, ◌*◌, ◌<◌, slice_index, Contains};
     ghost use Rattle.ray_grid.specs.Lattice.{IsRay, points_of, per_node, node_at, place_at, point_of};
+    ghost use Rattle.ray_grid.specs.Points.{lattice_of};
 
     /// How many points a ray of the family has.
     pub fn points(&self, family: Family) -> u32
@@ -30,7 +31,8 @@ impl Grid {
     pub fn point(&self, ray: &Ray, l: u32) -> [i32; 3]
         requires ray { IsRay self.now ray.now }
         requires point { l < points_of self.now ray.now.family }
-        ensures { result ≡ point_of self.now ray.now l }
+        ensures position { result ≡ point_of self.now ray.now l }
+        ensures listed { Contains (lattice_of self.now) record { ray = ray.now; l = l; position = point_of self.now ray.now l } }
     {
         match ray.family {
             Family::X => [

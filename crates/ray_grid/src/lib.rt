@@ -5,6 +5,8 @@ mod grid;
 mod near;
 mod ray;
 mod strips;
+#[cfg(test)]
+mod tests;
 mod window;
 
 pub use grid::Grid;
