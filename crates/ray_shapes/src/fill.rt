@@ -1,5 +1,4 @@
 ghost use Rattle.std.specs.Prelude.{◌≡◌, ℕ, ◌<◌, ◌≤◌, ◌↔◌, ◌&&◌, nat_lt, IsTrue, IfOk, All, length};
-ghost use Rattle.std.specs.List.Sorted.{IsPermutation};
 ghost use Rattle.vf_spans.specs.Members.{has};
 ghost use Rattle.ray_grid.specs.Lattice.{IsRay, points_of, point_of};
 ghost use Rattle.ray_shapes.specs.Lines.{position};
@@ -31,8 +30,7 @@ pub fn body_spans(
 {
     let line = Line::of(grid, ray);
     let mut parts = parts_in(alloc, bodies, &line)?;
-    put_in_order(&mut parts);
-    join(alloc, line.points, &parts)
+    cover(alloc, line.points, &mut parts)
 }
 
 /// The part of a line that lies in a body of these planes.
@@ -69,15 +67,18 @@ fn parts_in(alloc: Global, bodies: &[Body], line: &Line) -> Result<Vec<Interval>
     Ok(parts)
 }
 
-/// Puts the parts in the order of their first indices.
-fn put_in_order(parts: &mut [Interval])
-    ensures permutation { IsPermutation parts.old parts.new }
-    ensures order { InOrder parts.new }
+/// The set of what the parts cover, in any order.
+fn cover(alloc: Global, bound: u32, parts: &mut [Interval]) -> Result<Spans, NoMemory>
+    requires { All (λ part. part.hi ≤ bound) parts.old }
+    ensures bound { IfOk result (λ s. length s ≡ bound) }
+    ensures covered { IfOk result (λ s. (i : ℕ) → has s i ≡ covers parts.old i) }
 {
     parts.sort_unstable_by_key(|part| part.lo);
+    join(alloc, bound, parts)
 }
 
-/// The set of what the parts cover, in one walk: of each part what lies beyond all parts before it.
+/// The set of what the parts cover, which stand in the order of their first indices, in one walk: of
+/// each part what lies beyond all parts before it is added.
 fn join(alloc: Global, bound: u32, parts: &[Interval]) -> Result<Spans, NoMemory>
     requires order { InOrder parts.now }
     requires within { All (λ part. part.hi ≤ bound) parts.now }
@@ -88,10 +89,11 @@ fn join(alloc: Global, bound: u32, parts: &[Interval]) -> Result<Spans, NoMemory
     let mut end = 0;
     for part in parts {
         let lo = part.lo.max(end);
-        if lo < part.hi {
-            set.push_range(lo, part.hi)?;
-            end = part.hi;
+        if lo >= part.hi {
+            continue;
         }
+        set.push_range(lo, part.hi)?;
+        end = part.hi;
     }
     Ok(set)
 }
