@@ -53,21 +53,21 @@ below_test m i lt = grind (arith, nat_tests)
 same_test : (m n i : ℕ) → (m ≤ i → n ≤ i) → (n ≤ i → m ≤ i) → leb m i ≡ leb n i
 same_test m n i p q =
     dite (dec_le m i)
-        (λ le. let a : leb m i ≡ true = grind (arith, nat_tests) in let le' = p le in let b : leb n i ≡ true = grind (arith, nat_tests) in a ∙ sym b)
-        (λ no. let a : leb m i ≡ false = grind (arith, nat_tests) in let b : leb n i ≡ false = below_test n i (dite (dec_le n i) (λ ge. absurd (no (q ge))) (λ lt. omega arith)) in a ∙ sym b)
+    (λ le. let a : leb m i ≡ true = grind (arith, nat_tests) in let le' = p le in let b : leb n i ≡ true = grind (arith, nat_tests) in a ∙ sym b)
+    (λ no. let a : leb m i ≡ false = grind (arith, nat_tests) in let b : leb n i ≡ false = below_test n i (dite (dec_le n i) (λ ge. absurd (no (q ge))) (λ lt. omega arith)) in a ∙ sym b)
 
 pub held_push : (parts : List Interval) (k end i from : ℕ) (part : Interval) (held new : Bool) → k < length parts → get_or parts k part ≡ part → held ≡ covers (take k parts) i
     → from ≤ part.lo → (from ≤ i → i < end → IsTrue held) → new ≡ (held || (leb (max part.lo end) i && ltb i part.hi)) → new ≡ covers (take (k + 1) parts) i
 held_push parts k end i from part held new lt is before low full pushed =
     dite (dec_le end i)
-        (λ past.
-        let same : leb (max part.lo end) i ≡ leb part.lo i = same_test (max part.lo end) part.lo i (omega arith) (omega arith) in
-        pushed ∙ ap₂ (λ a b. a || (b && ltb i part.hi)) before same ∙ sym (covers_more parts k i part lt is))
-        (λ no.
-        let none : leb (max part.lo end) i ≡ false = below_test (max part.lo end) i (omega arith) in
-        pushed ∙ ap (λ b. held || (b && ltb i part.hi)) none ∙ sym (or_false held)
-        ∙ absorbed held (covers (take k parts) i) (is_in i part) before (λ t. let q = in_parts i part t in let a = q.0 in full (omega arith) (omega arith))
-        ∙ sym (covers_more parts k i part lt is))
+    (λ past.
+    let same : leb (max part.lo end) i ≡ leb part.lo i = same_test (max part.lo end) part.lo i (omega arith) (omega arith) in
+    pushed ∙ ap₂ (λ a b. a || (b && ltb i part.hi)) before same ∙ sym (covers_more parts k i part lt is))
+    (λ no.
+    let none : leb (max part.lo end) i ≡ false = below_test (max part.lo end) i (omega arith) in
+    pushed ∙ ap (λ b. held || (b && ltb i part.hi)) none ∙ sym (or_false held)
+    ∙ absorbed held (covers (take k parts) i) (is_in i part) before (λ t. let q = in_parts i part t in let a = q.0 in full (omega arith) (omega arith))
+    ∙ sym (covers_more parts k i part lt is))
 
 -- what is held after a range was pushed
 pub below_push : (held new : Bool) (i lo hi end : ℕ) → new ≡ (held || (leb lo i && ltb i hi)) → (IsTrue held → i < end) → end ≤ hi → IsTrue new → i < hi
@@ -81,9 +81,8 @@ pub full_push : (held new : Bool) (i lo hi : ℕ) → new ≡ (held || (leb lo i
 full_push true new i lo hi pushed full lt = pushed
 full_push false new i lo hi pushed full lt =
     dite (dec_le lo i)
-        (λ le. pushed ∙ both_tests lo i hi le lt)
-        (λ no. let q : false ≡ true = full (omega arith) in cc)
-
+    (λ le. pushed ∙ both_tests lo i hi le lt)
+    (λ no. let q : false ≡ true = full (omega arith) in cc)
 
 -- the element of a place, whatever is read past the end
 pub read_itself : (parts : List Interval) (k : ℕ) (d : Interval) → k < length parts → get_or parts k (get_or parts k d) ≡ get_or parts k d

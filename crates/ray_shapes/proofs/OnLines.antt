@@ -115,4 +115,3 @@ pub held : (plane : Plane) (f : Family) (first : List ℤ) (step start slope : �
     → ((start +ℤ (slope *ℤ pos l)) ≤ℤ plane.d) ↔ IsTrue (holds plane (position f first step l))
 held plane f first step start slope l is =
     subst (λ (z : ℤ). (z ≤ℤ plane.d) ↔ IsTrue (holds plane (position f first step l))) is (test_is (value_at plane (position f first step l)) plane.d)
-

@@ -53,7 +53,7 @@ pub record Rises (start slope limit : ℤ) (a b steps : ℕ) : Type 0 where
 pub rises : (start slope limit : ℤ) (a b steps : ℕ) → a ≤ b → (start +ℤ (slope *ℤ pos a)) ≤ℤ limit → ¬ ((start +ℤ (slope *ℤ pos b)) ≤ℤ limit) → Rises start slope limit a b steps
 rises start (pos k) limit a b steps ab first last =
     let from_a : (l : ℕ) → a ≤ l → (start +ℤ (pos k *ℤ pos l)) ≡ ((start +ℤ (pos k *ℤ pos a)) +ℤ pos ((l - a) * k)) =
-        λ l al. let rise = up k a (l - a) in let z = ap (λ n. pos k *ℤ pos n) (let same : a + (l - a) ≡ l = omega arith in same) in omega (arith, ints) in
+    λ l al. let rise = up k a (l - a) in let z = ap (λ n. pos k *ℤ pos n) (let same : a + (l - a) ≡ l = omega arith in same) in omega (arith, ints) in
     record {
       steep = steep_pos start k limit a b first last;
       inside = λ fit. dite (dec_le b (a + steps)) (λ past. absurd (last (subst (λ (z : ℤ). z ≤ℤ limit) (sym (from_a b ab)) ((fit (b - a)).0 (omega arith))))) (λ no. omega arith);
@@ -74,7 +74,7 @@ pub record Falls (start slope limit : ℤ) (a b steps : ℕ) : Type 0 where
 pub falls : (start slope limit : ℤ) (a b steps : ℕ) → a ≤ b → ¬ ((start +ℤ (slope *ℤ pos a)) ≤ℤ limit) → (start +ℤ (slope *ℤ pos b)) ≤ℤ limit → Falls start slope limit a b steps
 falls start (negsuc k) limit a b steps ab first last =
     let from_b : (l : ℕ) → l ≤ b → (start +ℤ (negsuc k *ℤ pos l)) ≡ ((start +ℤ (negsuc k *ℤ pos b)) +ℤ pos ((b - l) * suc k)) =
-        λ l lb. let fall = down k l (b - l) in let z = ap (λ n. negsuc k *ℤ pos n) (let same : l + (b - l) ≡ b = omega arith in same) in omega (arith, ints) in
+    λ l lb. let fall = down k l (b - l) in let z = ap (λ n. negsuc k *ℤ pos n) (let same : l + (b - l) ≡ b = omega arith in same) in omega (arith, ints) in
     record {
       steep = omega arith;
       inside = λ fit. dite (dec_le b (a + steps)) (λ past. absurd (first (subst (λ (z : ℤ). z ≤ℤ limit) (sym (from_b a ab)) ((fit (b - a)).0 (omega arith))))) (λ no. omega arith);

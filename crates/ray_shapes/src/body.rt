@@ -1,8 +1,9 @@
-ghost use Rattle.std.specs.Prelude.{◌≡◌, List};
+ghost use Rattle.std.specs.Prelude.{◌≡◌, List, IfOk};
 ghost use Rattle.ray_shapes.specs.declared.plane.Plane.{Plane};
 
 use crate::plane::Plane;
 use std::marker::Model;
+use vf_io::NoMemory;
 
 /// The points that all its planes hold; with no plane, every point.
 #[derive(Debug, Drop)]
@@ -27,6 +28,14 @@ impl Body {
         ensures { result.now ≡ self.now }
     {
         self.planes.as_slice()
+    }
+
+    /// The same body.
+    pub fn copy(&self) -> Result<Body, NoMemory>
+        ensures { IfOk result (λ b. b ≡ self.now) }
+    {
+        let planes = Vec::from_slice(*self.planes.allocator(), self.planes.as_slice())?;
+        Ok(Body { planes })
     }
 
     pub fn into_planes(self) -> Vec<Plane>
@@ -59,6 +68,18 @@ impl Bodies {
         ensures { result.now ≡ self.now }
     {
         self.bodies.as_slice()
+    }
+
+    /// The same bodies.
+    pub fn copy(&self) -> Result<Bodies, NoMemory>
+        ensures { IfOk result (λ b. b ≡ self.now) }
+    {
+        let source = self.bodies.as_slice();
+        let mut bodies = Vec::with_capacity(*self.bodies.allocator(), source.len())?;
+        for body in source {
+            bodies.push(body.copy()?)?;
+        }
+        Ok(Bodies { bodies })
     }
 
     pub fn into_vec(self) -> Vec<Body>

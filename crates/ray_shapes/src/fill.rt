@@ -19,12 +19,7 @@ use vf_spans::Spans;
 ///
 /// A body is the meet of its planes, so on a ray it holds one interval of points. The intervals of
 /// all bodies are laid beside each other in order.
-pub fn body_spans(
-    alloc: Global,
-    bodies: &[Body],
-    grid: &Grid,
-    ray: &Ray,
-) -> Result<Spans, NoMemory>
+pub fn body_spans(alloc: Global, bodies: &[Body], grid: &Grid, ray: &Ray) -> Result<Spans, NoMemory>
     requires { IsRay grid.now ray.now }
     ensures { IfOk result (HoldsPointsOf grid.now ray.now (in_bodies bodies.now)) }
 {

@@ -1,13 +1,15 @@
 //! Bodies as planes, the points that they hold on each ray, and closures kept beside their solid.
 #![tactic(auto)]
 
+mod body;
+mod fill;
 mod half_line;
 mod line;
 mod plane;
-mod body;
-mod fill;
-mod solid;
 mod shape;
+mod solid;
+#[cfg(test)]
+mod tests;
 
 pub use body::{Bodies, Body};
 pub use fill::body_spans;

@@ -22,11 +22,11 @@ pub struct RayShape<F> {
 impl<F: Fn(&Ray) -> Result<Spans, NoMemory>> RayShape<F> {
     /// Keeps the closure beside the grid and the solid that it stands for.
     pub fn new(grid: Grid, solid: Solid, source: F) -> RayShape<F>
-        requires callable { F.IsAlwaysCallable source }
+        requires callable { (ray : _) → IsRay grid ray.now → F.pre source ray }
         requires gives { Gives (FnReturnsAt F.Fn source) grid solid }
         ensures grid { result.grid ≡ grid }
         ensures solid { result.solid ≡ solid }
-        ensures callable { F.IsAlwaysCallable result.source }
+        ensures callable { (ray : _) → IsRay result.grid ray.now → F.pre result.source ray }
         ensures gives { Gives (FnReturnsAt F.Fn result.source) result.grid result.solid }
     {
         RayShape {
@@ -38,7 +38,7 @@ impl<F: Fn(&Ray) -> Result<Spans, NoMemory>> RayShape<F> {
 
     /// The solid's points on a ray of the grid.
     pub fn fill(&self, ray: &Ray) -> Result<Spans, NoMemory>
-        requires callable { F.IsAlwaysCallable self.now.source }
+        requires callable { (ray : _) → IsRay self.now.grid ray.now → F.pre self.now.source ray }
         requires gives { Gives (FnReturnsAt F.Fn self.now.source) self.now.grid self.now.solid }
         requires ray { IsRay self.now.grid ray.now }
         ensures { IfOk result (HoldsPointsOf self.now.grid ray.now (in_solid self.now.solid)) }

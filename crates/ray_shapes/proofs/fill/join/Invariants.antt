@@ -9,5 +9,5 @@ invariant-loop-part l = record {
   bound : length l.set ≡ l.bound;
   below : (i : ℕ) → IsTrue (has l.set i) → i < l.end;
   held : (i : ℕ) → has l.set i ≡ covers (take l.part-index l.parts) i;
-  full : (from : ℕ) × ((k : ℕ) (d : Interval) → l.part-index ≤ k → k < length l.parts → from ≤ (get_or l.parts k d).lo) × ((i : ℕ) → from ≤ i → i < l.end → IsTrue (has l.set i))
+  full : (from : ℕ) × ((k : ℕ) (d : Interval) → l.part-index ≤ k → k < length l.parts → from ≤ (get_or l.parts k d).lo) × ((i : ℕ) → from ≤ i → i < l.end → IsTrue (has l.set i));
 }

@@ -7,5 +7,5 @@ use Rattle.ray_shapes.proofs.fill.parts_in.Given as goal
 abbrev pub invariant-loop-body : goal.invariant-loop-body
 invariant-loop-body l = record {
   within : All (λ part. part.hi ≤ l.line.points) l.parts.items;
-  exact : (i : ℕ) → covers l.parts.items i ≡ (ltb i l.line.points && in_bodies (take l.body-index l.bodies) (position l.line.family l.line.first l.line.step i))
+  exact : (i : ℕ) → covers l.parts.items i ≡ (ltb i l.line.points && in_bodies (take l.body-index l.bodies) (position l.line.family l.line.first l.line.step i));
 }

@@ -307,4 +307,3 @@ returns-clause-exact c =
     let last_out : ¬ ((start +ℤ (slope *ℤ pos (hi - 1))) ≤ℤ limit) = subst (λ (z : ℤ). ¬ (z ≤ℤ limit)) last (told_beyond c.value_at-last.result limit (simp to_z-of_z at c.if-last-limit-2.false)) in
     let ab : lo ≤ hi - 1 = omega (arith, c.requires.some) in
     λ l. (λ p. absurd (let low = p.0 in let high = p.1 in omega arith), λ p. absurd (let low = p.0 in let high = p.1 in both_beyond start slope limit lo (hi - 1) l first_out last_out low (omega arith) p.2))
-

@@ -142,4 +142,3 @@ returns-clause-value c =
     let fits_123 : FitsSigned w64 ((c.product.result +ℤ c.product-2.result) +ℤ c.product-3.result) = omega (arith, ints) in
     let fits_4 : FitsSigned w64 c.product-4.result = search rules in
     λ l. simp to_z-of_z (value_along plane line.family line.first line.step l ∙ ap₂ (λ (m n : ℤ). m +ℤ (n *ℤ pos l)) (sym (ap₂ (λ (m n : ℤ). m +ℤ n) (ap₂ (λ (m n : ℤ). m +ℤ n) x y) z)) (sym slope))
-
