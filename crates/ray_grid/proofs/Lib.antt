@@ -1,0 +1,5 @@
+pub mod Sizes
+pub mod Distances
+pub mod Rows
+pub mod Windows
+pub mod Listed

@@ -1,0 +1,16 @@
+use Rattle.std.proofs.Common.{arith, rules}
+use Rattle.ray_grid.proofs.Sizes.{place_scaled, few_places}
+use Rattle.ray_grid.proofs.grid.Grid.place_on.Goals as goal
+
+pub overflow_cast-result : goal.overflow_cast-result
+overflow_cast-result c =
+    let few = few_places c.args.self.now.origin c.args.self.now.pitch c.args.self.now.step c.args.self.now.counts c.args.axis c.args.self.now.in_range c.requires.axis in omega (arith, c.requires.point)
+
+pub overflow_mul-result : goal.overflow_mul-result
+overflow_mul-result c = (place_scaled c.args.self.now.origin c.args.self.now.pitch c.args.self.now.step c.args.self.now.counts c.args.axis c.args.l c.args.self.now.in_range (search rules) c.requires.axis c.requires.point).product
+
+pub overflow_add-result : goal.overflow_add-result
+overflow_add-result c = (place_scaled c.args.self.now.origin c.args.self.now.pitch c.args.self.now.step c.args.self.now.counts c.args.axis c.args.l c.args.self.now.in_range (search rules) c.requires.axis c.requires.point).sum
+
+pub returns : goal.returns
+returns c = (place_scaled c.args.self.now.origin c.args.self.now.pitch c.args.self.now.step c.args.self.now.counts c.args.axis c.args.l c.args.self.now.in_range (search rules) c.requires.axis c.requires.point).value

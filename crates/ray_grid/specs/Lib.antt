@@ -1,0 +1,6 @@
+pub mod Ranges
+pub mod Families
+pub mod Lattice
+pub mod Strips
+pub mod Reach
+pub mod Points

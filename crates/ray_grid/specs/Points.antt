@@ -1,0 +1,24 @@
+-- The lattice as one list: each point of each ray. A location on the rays of two families is there twice.
+use Rattle.std.specs.Prelude.{ℕ, ℤ, List, map}
+use Rattle.std.specs.List.{flat_map, range_with_len}
+use Rattle.ray_grid.specs.declared.grid.Grid.{Grid}
+use Rattle.ray_grid.specs.declared.ray.Ray.{Ray}
+use Rattle.ray_grid.specs.Lattice.{points_of, point_of}
+use Rattle.ray_grid.specs.Strips.{strips_of}
+
+-- a point of the lattice: its ray, its index along the ray, and its coordinates
+pub record LatticePoint : Type 0 where
+  pub ray : Ray
+  pub l : ℕ
+  pub position : List ℤ
+
+-- the points of a ray, in order
+abbrev pub points_on : Grid → Ray → List LatticePoint
+points_on grid ray = map (λ l. record { ray = ray; l = l; position = point_of grid ray l }) (range_with_len 0 (points_of grid ray.family))
+
+-- the rays of the grid, strip by strip
+abbrev pub rays_of : Grid → List Ray
+rays_of grid = flat_map (λ strip. strip) (strips_of grid)
+
+abbrev pub lattice_of : Grid → List LatticePoint
+lattice_of grid = flat_map (points_on grid) (rays_of grid)

@@ -1,0 +1,13 @@
+//! The lattice: rays of three families through a grid of nodes, their points, strips and windows.
+#![tactic(auto)]
+
+mod grid;
+mod near;
+mod ray;
+mod strips;
+#[cfg(test)]
+mod tests;
+mod window;
+
+pub use grid::Grid;
+pub use ray::{Family, Ray};

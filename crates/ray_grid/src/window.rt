@@ -1,0 +1,63 @@
+use crate::grid::Grid;
+use crate::near::Reach;
+use crate::ray::Ray;
+
+impl Grid {
+    ghost use Rattle.std.specs.Prelude.{◌≡◌, ℕ, ◌<◌, ◌≤◌, ◌↔◌, IsTrue, IsSomeAnd, length, slice_get};
+    ghost use Rattle.ray_grid.specs.Ranges.{along};
+    ghost use Rattle.ray_grid.specs.Families.{first_axis, second_axis};
+    ghost use Rattle.ray_grid.specs.Lattice.{IsRay, points_of, node_at, point_of};
+    ghost use Rattle.ray_grid.specs.Strips.{strips_of, strip_at};
+    ghost use Rattle.ray_grid.specs.Reach.{IsNear, InReach, Enters};
+
+    /// The indices of a ray's points within reach of the segment from `from` to `to`, the first
+    /// included, the second excluded; the two are equal where there are none.
+    ///
+    /// A ray's points differ on one axis alone: the ray's two nodes are near or not, and along it the
+    /// points within reach follow each other.
+    pub fn window(&self, ray: &Ray, from: [i32; 3], to: [i32; 3], reach: i32) -> (u32, u32)
+        requires { IsRay self.now ray.now }
+        ensures order { result.0 ≤ result.1 }
+        ensures within { result.1 ≤ points_of self.now ray.now.family }
+        ensures exact { (l : ℕ) → ((result.0 ≤ l) × (l < result.1)) ↔ ((l < points_of self.now ray.now.family) × InReach from to reach (point_of self.now ray.now l)) }
+    {
+        let near = Reach { from, to, reach };
+        let family = ray.family;
+        let first = family.first_axis();
+        if !near.holds(first, self.node(first, ray.i)) {
+            return (0, 0);
+        }
+        let second = family.second_axis();
+        if !near.holds(second, self.node(second, ray.j)) {
+            return (0, 0);
+        }
+        let axis = family.axis();
+        near.indices(axis, self.origin[axis], self.step, self.points(family))
+    }
+
+    /// The numbers of a strip's rays that have a point within reach of the segment from `from` to
+    /// `to`, the first included, the second excluded; the two are equal where there are none.
+    ///
+    /// The rays of a strip differ in their node `j` alone: all of them have the same points within
+    /// reach along them, if any, and the near nodes follow each other.
+    pub fn strip_window(&self, strip: u32, from: [i32; 3], to: [i32; 3], reach: i32) -> (u32, u32)
+        requires { strip < length (strips_of self.now) }
+        ensures order { result.0 ≤ result.1 }
+        ensures within { result.1 ≤ length (strip_at self.now strip) }
+        ensures exact { (n : ℕ) → ((result.0 ≤ n) × (n < result.1)) ↔ IsSomeAnd (slice_get (strip_at self.now strip) n) (Enters self.now from to reach) }
+    {
+        let near = Reach { from, to, reach };
+        let (family, i) = self.row(strip);
+        let first = family.first_axis();
+        if !near.holds(first, self.node(first, i)) {
+            return (0, 0);
+        }
+        let axis = family.axis();
+        let (start, end) = near.indices(axis, self.origin[axis], self.step, self.points(family));
+        if start == end {
+            return (0, 0);
+        }
+        let second = family.second_axis();
+        near.indices(second, self.origin[second], self.pitch, self.counts[second])
+    }
+}

@@ -1,0 +1,95 @@
+-- What a list of intervals covers, one interval after the other.
+use Rattle.std.proofs.Common.{◌≡◌, ◌↔◌, ℕ, suc, zero, ◌+◌, ◌<◌, ◌≤◌, max, List, [], ◌∷◌, ◌++◌, length, take, drop, get_or, Bool, true, false, not, ◌&&◌, ◌||◌, leb, ltb, IsTrue, arith, refl, sym, ap, ap₂, ◌∙◌, subst}
+use Rattle.std.specs.List.{list_all, list_any}
+use Rattle.std.proofs.lemmas.Bool.Decides.{nat_tests}
+use Rattle.std.proofs.lemmas.List.Folds.{list_all_more, list_any_more, list_all-append}
+use Rattle.std.proofs.lemmas.List.{take-append-drop, get_or_default}
+use native.Mathlib.Decide.{dec_le}
+use mathlib.Core.Logic.{dite}
+use Rattle.ray_shapes.specs.declared.half_line.Interval.{Interval}
+use Rattle.ray_shapes.specs.Parts.{is_in, covers, InOrder}
+
+and_first : (a b : Bool) → (a && b) ≡ true → a ≡ true
+and_first true b h = refl
+and_first false b h = cc
+
+-- what all elements pass, the first of them pass
+pub all_first : {X : Type 0} → (p : X → Bool) (xs : List X) (n : ℕ) → list_all p xs ≡ true → list_all p (take n xs) ≡ true
+all_first p xs n h = and_first (list_all p (take n xs)) (list_all p (drop n xs)) (sym (list_all-append p (take n xs) (drop n xs)) ∙ ap (list_all p) (take-append-drop n xs) ∙ h)
+
+or_false : (a : Bool) → a ≡ (a || false)
+or_false true = refl
+or_false false = refl
+
+or_true : (a : Bool) → (a || true) ≡ true
+or_true true = refl
+or_true false = refl
+
+-- an interval that covers only what is held adds nothing
+absorbed : (held before here : Bool) → held ≡ before → (here ≡ true → held ≡ true) → held ≡ (before || here)
+absorbed held before true same covered = covered refl ∙ sym (or_true before)
+absorbed held before false same covered = same ∙ or_false before
+
+-- what is covered with one more interval
+covers_more : (parts : List Interval) (k i : ℕ) (part : Interval) → k < length parts → get_or parts k part ≡ part → covers (take (k + 1) parts) i ≡ (covers (take k parts) i || is_in i part)
+covers_more parts k i part lt is = list_any_more (is_in i) parts k part lt ∙ ap (λ (p : Interval). covers (take k parts) i || is_in i p) is
+
+and_second : (a : Bool) (i n : ℕ) → (a && ltb i n) ≡ true → i < n
+and_second true i n h = grind (arith, nat_tests)
+and_second false i n h = absurd (cc)
+
+in_parts : (i : ℕ) (part : Interval) → is_in i part ≡ true → (part.lo ≤ i) × (i < part.hi)
+in_parts i part h = (let q = and_first (leb part.lo i) (ltb i part.hi) h in grind (arith, nat_tests), and_second (leb part.lo i) i part.hi h)
+
+pub held_none : (parts : List Interval) (k end i from : ℕ) (part : Interval) (held : Bool) → k < length parts → get_or parts k part ≡ part → held ≡ covers (take k parts) i
+    → from ≤ part.lo → (from ≤ i → i < end → IsTrue held) → part.hi ≤ max part.lo end → held ≡ covers (take (k + 1) parts) i
+held_none parts k end i from part held lt is before low full beyond =
+    absorbed held (covers (take k parts) i) (is_in i part) before (λ t. let q = in_parts i part t in let a = q.0 in let b = q.1 in full (omega arith) (omega arith))
+    ∙ sym (covers_more parts k i part lt is)
+
+below_test : (m i : ℕ) → i < m → leb m i ≡ false
+below_test m i lt = grind (arith, nat_tests)
+
+same_test : (m n i : ℕ) → (m ≤ i → n ≤ i) → (n ≤ i → m ≤ i) → leb m i ≡ leb n i
+same_test m n i p q =
+    dite (dec_le m i)
+    (λ le. let a : leb m i ≡ true = grind (arith, nat_tests) in let le' = p le in let b : leb n i ≡ true = grind (arith, nat_tests) in a ∙ sym b)
+    (λ no. let a : leb m i ≡ false = grind (arith, nat_tests) in let b : leb n i ≡ false = below_test n i (dite (dec_le n i) (λ ge. absurd (no (q ge))) (λ lt. omega arith)) in a ∙ sym b)
+
+pub held_push : (parts : List Interval) (k end i from : ℕ) (part : Interval) (held new : Bool) → k < length parts → get_or parts k part ≡ part → held ≡ covers (take k parts) i
+    → from ≤ part.lo → (from ≤ i → i < end → IsTrue held) → new ≡ (held || (leb (max part.lo end) i && ltb i part.hi)) → new ≡ covers (take (k + 1) parts) i
+held_push parts k end i from part held new lt is before low full pushed =
+    dite (dec_le end i)
+    (λ past.
+    let same : leb (max part.lo end) i ≡ leb part.lo i = same_test (max part.lo end) part.lo i (omega arith) (omega arith) in
+    pushed ∙ ap₂ (λ a b. a || (b && ltb i part.hi)) before same ∙ sym (covers_more parts k i part lt is))
+    (λ no.
+    let none : leb (max part.lo end) i ≡ false = below_test (max part.lo end) i (omega arith) in
+    pushed ∙ ap (λ b. held || (b && ltb i part.hi)) none ∙ sym (or_false held)
+    ∙ absorbed held (covers (take k parts) i) (is_in i part) before (λ t. let q = in_parts i part t in let a = q.0 in full (omega arith) (omega arith))
+    ∙ sym (covers_more parts k i part lt is))
+
+-- what is held after a range was pushed
+pub below_push : (held new : Bool) (i lo hi end : ℕ) → new ≡ (held || (leb lo i && ltb i hi)) → (IsTrue held → i < end) → end ≤ hi → IsTrue new → i < hi
+below_push true new i lo hi end pushed below le t = let q = below refl in omega arith
+below_push false new i lo hi end pushed below le t = and_second (leb lo i) i hi (sym pushed ∙ t)
+
+both_tests : (lo i hi : ℕ) → lo ≤ i → i < hi → (leb lo i && ltb i hi) ≡ true
+both_tests lo i hi le lt = let a : leb lo i ≡ true = grind (arith, nat_tests) in let b : ltb i hi ≡ true = grind (arith, nat_tests) in ap₂ (λ p q. p && q) a b
+
+pub full_push : (held new : Bool) (i lo hi : ℕ) → new ≡ (held || (leb lo i && ltb i hi)) → (i < lo → IsTrue held) → i < hi → IsTrue new
+full_push true new i lo hi pushed full lt = pushed
+full_push false new i lo hi pushed full lt =
+    dite (dec_le lo i)
+    (λ le. pushed ∙ both_tests lo i hi le lt)
+    (λ no. let q : false ≡ true = full (omega arith) in cc)
+
+-- the element of a place, whatever is read past the end
+pub read_itself : (parts : List Interval) (k : ℕ) (d : Interval) → k < length parts → get_or parts k (get_or parts k d) ≡ get_or parts k d
+read_itself parts k d lt = get_or_default parts k (get_or parts k d) d lt
+
+pub later : (parts : List Interval) (k m : ℕ) (d e : Interval) → InOrder parts → k ≤ m → m < length parts → (get_or parts k d).lo ≤ (get_or parts m e).lo
+later parts k m d e order le lt =
+    let up = order k m e le lt in
+    let same = ap (λ (p : Interval). p.lo) (get_or_default parts k d e (omega arith)) in
+    omega arith

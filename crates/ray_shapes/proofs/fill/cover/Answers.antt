@@ -1,0 +1,18 @@
+use Rattle.std.proofs.Common.{◌≡◌, ◌≤◌, ◌∙◌, ℕ, rules, sym, All}
+use Rattle.std.proofs.lemmas.Result.{IfOk-weaker}
+use Rattle.std.proofs.lemmas.List.Sorted.{IsNonDecreasingBy-from_sort_by_key, All-permutation, list_any-IsPermutation}
+use Rattle.vf_spans.specs.Members.{has}
+use Rattle.ray_shapes.specs.declared.half_line.Interval.{Interval}
+use Rattle.ray_shapes.specs.Parts.{is_in, covers}
+use Rattle.ray_shapes.proofs.fill.cover.Goals as goal
+
+pub join-requires-clause-order : goal.join-requires-clause-order
+join-requires-clause-order c = IsNonDecreasingBy-from_sort_by_key (λ (part : Interval). part.lo) _ c.sort_unstable_by_key.ensures.sorted (λ a r f' k. search rules)
+
+pub join-requires-clause-within : goal.join-requires-clause-within
+join-requires-clause-within c = All-permutation (λ (part : Interval). part.hi ≤ c.args.bound) _ _ c.sort_unstable_by_key.ensures.permutation c.requires
+
+pub returns-clause-covered : goal.returns-clause-covered
+returns-clause-covered c =
+    IfOk-weaker c.join.result (λ s. (i : ℕ) → has s i ≡ covers c.sort_unstable_by_key.new.self i) (λ s. (i : ℕ) → has s i ≡ covers c.args.parts.now i)
+    (λ s h i. h i ∙ sym (list_any-IsPermutation (is_in i) _ _ c.sort_unstable_by_key.ensures.permutation)) c.join.ensures.covered

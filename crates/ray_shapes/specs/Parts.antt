@@ -1,0 +1,17 @@
+-- Intervals of indices, and what a list of them covers.
+use Rattle.std.specs.Prelude.{ℕ, ◌<◌, ◌≤◌, nat_le, nat_lt, ◌&&◌, Bool, List, length}
+use Rattle.std.specs.List.{list_any}
+use Rattle.std.specs.List.Sorted.{IsNonDecreasingBy}
+use Rattle.ray_shapes.specs.declared.half_line.Interval.{Interval}
+
+-- an interval covers its indices from lo on and below hi
+abbrev pub is_in : ℕ → Interval → Bool
+is_in i part = nat_le part.lo i && nat_lt i part.hi
+
+-- some of the intervals covers the index
+abbrev pub covers : List Interval → ℕ → Bool
+covers parts i = list_any (is_in i) parts
+
+-- the intervals stand in the order of their first indices
+abbrev pub InOrder : List Interval → Type 0
+InOrder parts = IsNonDecreasingBy (λ part. part.lo) parts

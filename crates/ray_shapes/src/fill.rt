@@ -1,0 +1,94 @@
+ghost use Rattle.std.specs.Prelude.{◌≡◌, ℕ, ◌<◌, ◌≤◌, ◌↔◌, ◌&&◌, nat_lt, IsTrue, IfOk, All, length};
+ghost use Rattle.vf_spans.specs.Members.{has};
+ghost use Rattle.ray_grid.specs.Lattice.{IsRay, points_of, point_of};
+ghost use Rattle.ray_shapes.specs.Lines.{position};
+ghost use Rattle.ray_shapes.specs.Planes.{in_body, in_bodies};
+ghost use Rattle.ray_shapes.specs.Parts.{covers, InOrder};
+ghost use Rattle.ray_shapes.specs.Sets.{HoldsPointsOf};
+
+use crate::body::Body;
+use crate::half_line::Interval;
+use crate::line::Line;
+use crate::plane::Plane;
+use ray_grid::{Grid, Ray};
+use std::alloc::Global;
+use vf_io::NoMemory;
+use vf_spans::Spans;
+
+/// The points of a ray of the grid that lie in some of the bodies.
+///
+/// A body is the meet of its planes, so on a ray it holds one interval of points. The intervals of
+/// all bodies are laid beside each other in order.
+pub fn body_spans(alloc: Global, bodies: &[Body], grid: &Grid, ray: &Ray) -> Result<Spans, NoMemory>
+    requires { IsRay grid.now ray.now }
+    ensures { IfOk result (HoldsPointsOf grid.now ray.now (in_bodies bodies.now)) }
+{
+    let line = Line::of(grid, ray);
+    let mut parts = parts_in(alloc, bodies, &line)?;
+    cover(alloc, line.points, &mut parts)
+}
+
+/// The part of a line that lies in a body of these planes.
+fn part_in(planes: &[Plane], line: &Line) -> Interval
+    ensures order { result.lo ≤ result.hi }
+    ensures within { result.hi ≤ line.now.points }
+    ensures exact { (l : ℕ) → ((result.lo ≤ l) × (l < result.hi)) ↔ ((l < line.now.points) × IsTrue (in_body planes.now (position line.now.family line.now.first line.now.step l))) }
+{
+    let mut part = Interval {
+        lo: 0,
+        hi: line.points,
+    };
+    for plane in planes {
+        if part.lo >= part.hi {
+            return part;
+        }
+        part = plane.cut(line, part);
+    }
+    part
+}
+
+/// The parts of a line that lie in the bodies, those that are not empty.
+fn parts_in(alloc: Global, bodies: &[Body], line: &Line) -> Result<Vec<Interval>, NoMemory>
+    ensures within { IfOk result (λ v. All (λ part. part.hi ≤ line.now.points) v.items) }
+    ensures exact { IfOk result (λ v. (l : ℕ) → covers v.items l ≡ (nat_lt l line.now.points && in_bodies bodies.now (position line.now.family line.now.first line.now.step l))) }
+{
+    let mut parts = Vec::new(alloc);
+    for body in bodies {
+        let part = part_in(body.planes(), line);
+        if part.lo < part.hi {
+            parts.push(part)?;
+        }
+    }
+    Ok(parts)
+}
+
+/// The set of what the parts cover, in any order.
+fn cover(alloc: Global, bound: u32, parts: &mut [Interval]) -> Result<Spans, NoMemory>
+    requires { All (λ part. part.hi ≤ bound) parts.old }
+    ensures bound { IfOk result (λ s. length s ≡ bound) }
+    ensures covered { IfOk result (λ s. (i : ℕ) → has s i ≡ covers parts.old i) }
+{
+    parts.sort_unstable_by_key(|part| part.lo);
+    join(alloc, bound, parts)
+}
+
+/// The set of what the parts cover, which stand in the order of their first indices, in one walk: of
+/// each part what lies beyond all parts before it is added.
+fn join(alloc: Global, bound: u32, parts: &[Interval]) -> Result<Spans, NoMemory>
+    requires order { InOrder parts.now }
+    requires within { All (λ part. part.hi ≤ bound) parts.now }
+    ensures bound { IfOk result (λ s. length s ≡ bound) }
+    ensures covered { IfOk result (λ s. (i : ℕ) → has s i ≡ covers parts.now i) }
+{
+    let mut set = Spans::new(alloc, bound);
+    let mut end = 0;
+    for part in parts {
+        let lo = part.lo.max(end);
+        if lo >= part.hi {
+            continue;
+        }
+        set.push_range(lo, part.hi)?;
+        end = part.hi;
+    }
+    Ok(set)
+}

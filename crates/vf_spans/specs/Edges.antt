@@ -1,0 +1,22 @@
+-- How a set is kept: by its edges, the first index of each range and the first one past it, in one ascending list.
+use Rattle.std.specs.Prelude.{◌≡◌, ℕ, ◌<◌, ◌≤◌, ◌%◌, Bool, false, not, nat_le, if◌then◌else◌, List, [], ◌∷◌, length, map, slice_index}
+use Rattle.std.specs.List.{range_with_len}
+
+-- x is inside where an odd number of edges are at most x
+abbrev pub inside : List ℕ → ℕ → Bool
+inside [] x = false
+inside (edge ∷ edges) x = if nat_le edge x then not (inside edges x) else inside edges x
+
+-- the set below a bound that has these edges
+abbrev pub flags_of : ℕ → List ℕ → List Bool
+flags_of bound edges = map (inside edges) (range_with_len 0 bound)
+
+-- the edges ascend
+abbrev pub Ascends : List ℕ → Type 0
+Ascends edges = (k m : ℕ) → k < m → m < length edges → slice_index edges k < slice_index edges m
+
+-- the edges are those of ranges below a bound: they ascend, none is above the bound, and each range has both
+pub record AreEdges (bound : ℕ) (edges : List ℕ) : Type 0 where
+  pub ascends : Ascends edges
+  pub within : (k : ℕ) → k < length edges → slice_index edges k ≤ bound
+  pub paired : length edges % 2 ≡ 0

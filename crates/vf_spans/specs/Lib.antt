@@ -1,0 +1,3 @@
+pub mod Members
+pub mod Edges
+pub mod Merge

@@ -1,0 +1,9 @@
+//! Sets of indices below a bound, kept as ranges, with union, difference and intersection.
+#![tactic(auto)]
+
+mod merge;
+mod spans;
+#[cfg(test)]
+mod tests;
+
+pub use spans::Spans;
