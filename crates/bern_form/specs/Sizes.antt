@@ -14,6 +14,10 @@ offset_limit = 2048000000
 abbrev pub axis_limit : ℕ
 axis_limit = 102400000
 
+-- a scaled length of a slab: S * 300,000
+abbrev pub length_limit : ℕ
+length_limit = 307200000
+
 -- a form of degree 2 whose outer coefficients are at most m in absolute value and whose middle one is at most 2 m
 pub record IsBounded2 (m : ℕ) (c : List ℤ) : Type 0 where
   pub first : unsigned_abs (at c 0) ≤ m
