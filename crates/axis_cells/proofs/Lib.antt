@@ -1,2 +1,3 @@
 pub mod Fits
 pub mod Tests
+pub mod Bounds

@@ -2,7 +2,11 @@
 #![tactic(auto)]
 
 mod sweep;
+mod cell;
 mod length;
+mod mark;
+mod point;
+mod reach;
 mod pose;
 mod sample;
 
@@ -11,4 +15,7 @@ mod sample;
 
 
 
+pub use mark::Mark;
+pub use point::{at_sample, cell_excludes};
+pub use reach::in_reach;
 pub use sweep::Sweep;

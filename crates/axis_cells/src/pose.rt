@@ -5,6 +5,7 @@ ghost use Rattle.bern_form.specs.Sizes.{axis_limit, offset_limit, scale_limit};
 use crate::sweep::Sweep;
 
 /// Where a point stands towards the cutter at one sample: its offset from the tip, and the axis, both times the scale.
+#[derive(Drop)]
 pub struct Pose {
     pub offset: [i64; 3],
     pub axis: [i64; 3],

@@ -43,6 +43,7 @@ fn lies_within(u: i128, lowest: i128, height: i128, highest: i128, width: i128, 
 
 /// What the slabs' tests at one sample share, by the point's offset p and the axis a: u = p.a, n = |a|^2, and
 /// w = |p|^2 n - u^2, the squared distance from the axis times n.
+#[derive(Drop)]
 pub struct Sample {
     pub scale: i128,
     pub u: i128,
