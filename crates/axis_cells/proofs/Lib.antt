@@ -1,3 +1,4 @@
 pub mod Fits
 pub mod Tests
 pub mod Bounds
+pub mod Marks

@@ -1,8 +1,8 @@
 -- The cell rule in terms of what a cell keeps.
-use Rattle.std.specs.Prelude.{◌≡◌, ◌↔◌, Bool, IsTrue, List, ℕ, ℤ, pos, ◌*ℤ◌, ◌⊎◌}
+use Rattle.std.specs.Prelude.{◌≡◌, ◌↔◌, Bool, IsTrue, List, ℕ, ℤ, pos, ◌*ℤ◌, ◌⊎◌, Contains}
 use Rattle.bern_form.specs.Forms.{AllNegative, AllPositive, difference4, lifted, product22, scaled2}
 use Rattle.bern_form.specs.Motion.{Motion}
-use Rattle.bern_form.specs.Slab.{SlabSize}
+use Rattle.bern_form.specs.Slab.{Covers, SlabSize}
 use Rattle.bern_form.specs.Cells.{n_list, u_list, w_list}
 
 -- n times the square of a scaled length, raised to degree 4
@@ -24,3 +24,19 @@ pub record IsCellOf (scale : ℤ) (behind : Bool) (n height width : List ℤ) (m
   pub n_is : n ≡ n_list m k S
   pub height_is : height ≡ product22 (u_list m p k S) (u_list m p k S)
   pub width_is : width ≡ w_list m p k S
+
+-- some of the slabs is not excluded on the cell
+pub record LeavesSome (scale : ℤ) (behind : Bool) (n height width : List ℤ) (slabs : List SlabSize) : Type 0 where
+  pub slab : SlabSize
+  pub among : Contains slabs slab
+  pub left : ¬ IsExcludedBy scale behind n height width slab
+
+-- each of them is
+pub record ExcludesAll (scale : ℤ) (behind : Bool) (n height width : List ℤ) (slabs : List SlabSize) : Type 0 where
+  pub each : (slab : SlabSize) → Contains slabs slab → IsExcludedBy scale behind n height width slab
+
+-- some of the slabs covers a place
+pub record CoveredBySome (scale u n w : ℤ) (slabs : List SlabSize) : Type 0 where
+  pub slab : SlabSize
+  pub among : Contains slabs slab
+  pub covers : Covers slab scale u n w

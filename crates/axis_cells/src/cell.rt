@@ -1,8 +1,8 @@
-ghost use Rattle.std.specs.Prelude.{◌≡◌, ◌+◌, ◌*◌, ◌<◌, ◌≤◌, ◌↔◌, ◌⊎◌, [], ◌∷◌, pos, ◌*ℤ◌, unsigned_abs, IsTrue};
+ghost use Rattle.std.specs.Prelude.{◌≡◌, ◌+◌, ◌*◌, ◌<◌, ◌≤◌, ◌↔◌, ◌⊎◌, [], ◌∷◌, pos, ◌*ℤ◌, unsigned_abs, IsTrue, MatchBool};
 ghost use Rattle.bern_form.specs.Forms.{AllNegative, AllPositive, difference4, lifted, product22, scaled2, scaled4};
 ghost use Rattle.bern_form.specs.Motion.{IsPoint, IsWithin};
 ghost use Rattle.bern_form.specs.Cells.{cross};
-ghost use Rattle.axis_cells.specs.Exclusion.{IsCellOf, IsExcludedBy};
+ghost use Rattle.axis_cells.specs.Exclusion.{ExcludesAll, IsCellOf, IsExcludedBy, LeavesSome};
 ghost use Rattle.bern_form.specs.Sizes.{IsBounded2, IsBounded4, axis_limit, length_limit, offset_limit, scale_limit};
 
 use crate::length::scaled_square;
@@ -156,5 +156,21 @@ impl Cell {
             return true;
         }
         self.is_beside(slab.dia)
+    }
+
+    /// Whether some of the slabs is not excluded on this cell.
+    pub fn leaves_some(&self, slabs: &[Slab]) -> bool
+        ensures {
+            MatchBool result
+            (LeavesSome self.now.scale self.now.is_behind self.now.n.c self.now.height.c self.now.width.c slabs.now)
+            (ExcludesAll self.now.scale self.now.is_behind self.now.n.c self.now.height.c self.now.width.c slabs.now)
+        }
+    {
+        for slab in slabs {
+            if !self.excludes(slab) {
+                return true;
+            }
+        }
+        false
     }
 }

@@ -5,6 +5,7 @@ mod sweep;
 mod cell;
 mod length;
 mod mark;
+mod plain;
 mod point;
 mod reach;
 mod pose;
@@ -16,6 +17,7 @@ mod sample;
 
 
 pub use mark::Mark;
+pub use plain::plain_mark;
 pub use point::{at_sample, cell_excludes};
 pub use reach::in_reach;
 pub use sweep::Sweep;

@@ -1,4 +1,4 @@
-ghost use Rattle.std.specs.Prelude.{◌≡◌, ◌^◌, ◌<◌, ◌≤◌, ◌↔◌, ℕ, pos, ◌≤ℤ◌, IsTrue, MatchBool};
+ghost use Rattle.std.specs.Prelude.{◌≡◌, ◌^◌, ◌<◌, ◌≤◌, ◌↔◌, ℕ, pos, ◌≤ℤ◌, IsTrue};
 ghost use Rattle.bern_form.specs.Motion.{IsPoint};
 ghost use Rattle.bern_form.specs.Slab.{HoldsAt};
 ghost use Rattle.bern_form.specs.Cells.{Excluded, IsInCell};
@@ -12,9 +12,10 @@ use bern_form::Slab;
 
 /// How many cells a depth has: 2^depth.
 #[inline]
-fn cells_of(depth: u32) -> u32
+pub fn cells_of(depth: u32) -> u32
     requires { depth ≤ 10 }
     ensures cells { result ≡ 2 ^ depth }
+    ensures some { 0 < result }
     ensures few { result ≤ scale_limit }
 {
     1 << depth

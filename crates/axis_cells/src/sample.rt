@@ -1,7 +1,8 @@
-ghost use Rattle.std.specs.Prelude.{◌≡◌, ◌*◌, ◌≤◌, ◌↔◌, pos, ◌≤ℤ◌, unsigned_abs, IsTrue};
+ghost use Rattle.std.specs.Prelude.{◌≡◌, ◌*◌, ◌≤◌, ◌↔◌, pos, ◌≤ℤ◌, unsigned_abs, IsTrue, MatchBool};
 ghost use Rattle.bern_form.specs.Motion.{IsWithin, dot, spread};
 ghost use Rattle.bern_form.specs.Sizes.{axis_limit, offset_limit, scale_limit};
 ghost use Rattle.bern_form.specs.Slab.{Covers};
+ghost use Rattle.axis_cells.specs.Exclusion.{CoveredBySome};
 
 use crate::length::scaled_square;
 use crate::pose::Pose;
@@ -84,5 +85,20 @@ impl Sample {
         let height = self.u * self.u;
         let width = 4 * self.w;
         lies_within(self.u, lowest, height, highest, width, widest)
+    }
+
+    /// Whether some of the slabs holds the point at this sample.
+    pub fn is_covered_by_some(&self, slabs: &[Slab]) -> bool
+        ensures {
+            MatchBool result (CoveredBySome self.now.scale self.now.u self.now.n self.now.w slabs.now)
+            (¬ CoveredBySome self.now.scale self.now.u self.now.n self.now.w slabs.now)
+        }
+    {
+        for slab in slabs {
+            if self.is_covered_by(slab) {
+                return true;
+            }
+        }
+        false
     }
 }
