@@ -1,0 +1,6 @@
+//! The inner and the outer stack of slabs of a cutter, between which the exact cutter lies.
+#![tactic(auto)]
+
+mod cutter;
+
+pub use cutter::Cutter;
