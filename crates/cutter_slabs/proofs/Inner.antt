@@ -55,7 +55,7 @@ slab_inside r E h lo hi s u N W l m k c =
 square_core : (a e t : ℕ) → t + a * a ≤ 2 * (a + e) * a → t ≤ (a + e) * (a + e)
 square_core a e t h = omega arith
 
-square_within : (r a t : ℕ) → a ≤ r → t + a * a ≤ 2 * r * a → t ≤ r * r
+pub square_within : (r a t : ℕ) → a ≤ r → t + a * a ≤ 2 * r * a → t ≤ r * r
 square_within r a t h k =
     let e : a + (r - a) ≡ r = omega arith in
     subst (λ z. t ≤ z * z) e (square_core a (r - a) t (subst (λ z. t + a * a ≤ 2 * z * a) (sym e) k))

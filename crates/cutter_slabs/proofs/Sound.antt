@@ -1,6 +1,7 @@
 -- What the stacks say of the exact cutter at the rational times of a move.
-use Rattle.std.proofs.Common.{◌≡◌, ℕ, ◌+◌, ◌*◌, ◌≤◌, ◌<◌, List, ℤ, pos, ◌*ℤ◌, ◌≤ℤ◌, arith, refl, subst, sym, ⊎_elim}
+use Rattle.std.proofs.Common.{◌≡◌, ℕ, ◌+◌, ◌*◌, ◌≤◌, ◌<◌, List, ℤ, pos, ◌*ℤ◌, ◌≤ℤ◌, arith, refl, subst, sym, ⊎_elim, zero, suc, Bool, true, false, [], ◌∷◌, ◌++◌, length, ltb, length-append}
 use Rattle.std.specs.List.{Contains}
+use Rattle.std.proofs.lemmas.Bool.{cond_both}
 use Rattle.std.proofs.lemmas.Int.{ints}
 use Rattle.bern_form.specs.Motion.{IsSweep, IsTime, Motion, axis_at, dot, offset_at, spread}
 use Rattle.bern_form.specs.Slab.{Covers, HoldsAt, SlabSize}
@@ -9,7 +10,7 @@ use Rattle.bern_form.proofs.Naturals.{dot_natural, natural, spread_natural}
 use Rattle.bern_form.proofs.Exclusion.{cell_of, excluded_never_held, excluded_not_held}
 use Rattle.bern_form.proofs.Reach.{held_within}
 use Rattle.cutter_slabs.specs.Cutter.{CutterSize, InsideAt, IsCutter, Meets}
-use Rattle.cutter_slabs.specs.Stacks.{inner_stack, outer_stack, reach_of, slab_of}
+use Rattle.cutter_slabs.specs.Stacks.{bound_of, inner_slab, inner_stack, outer_slab, outer_stack, reach_of, slab_of, slabs_below}
 use Rattle.cutter_slabs.proofs.Outer.{outer_encloses}
 use Rattle.cutter_slabs.proofs.Inner.{inner_encloses}
 use Rattle.cutter_slabs.proofs.Whole.{cutter_down, cutter_up}
@@ -82,3 +83,20 @@ sample_possible c n m p S valid some cells sweep held =
       in_reach = inside_in_reach c m p held.sample S sweep time inside;
       left = record { cell = cell.0; within = cell.1; slab = outer.slab; among = outer.among; left = λ out. excluded_not_held outer.slab m p cell.0 S held.sample S cell.2 out outer.holds };
     }
+
+apart : (b : Bool) → b ≡ true → b ≡ false → ⊥
+apart b p q = cc
+
+-- both stacks have equally many slabs
+below_as_many : (f g : ℕ → ℕ → SlabSize) (z : ℕ → ℕ) (j : ℕ) → length (slabs_below f z j) ≡ length (slabs_below g z j)
+below_as_many f g z zero = refl
+below_as_many f g z (suc j) =
+    let rest = below_as_many f g z j in
+    cond_both (ltb (z j) (z (suc j))) (f (z j) (z (suc j)) ∷ []) [] (λ l. length (slabs_below f z j ++ l) ≡ length (slabs_below g z (suc j)))
+    (λ e. cond_both (ltb (z j) (z (suc j))) (g (z j) (z (suc j)) ∷ []) [] (λ l. length (slabs_below f z j ++ f (z j) (z (suc j)) ∷ []) ≡ length (slabs_below g z j ++ l))
+    (λ _. simp length-append (omega arith)) (λ n. absurd (apart (ltb (z j) (z (suc j))) e n)))
+    (λ e. cond_both (ltb (z j) (z (suc j))) (g (z j) (z (suc j)) ∷ []) [] (λ l. length (slabs_below f z j ++ []) ≡ length (slabs_below g z j ++ l))
+    (λ n. absurd (apart (ltb (z j) (z (suc j))) n e)) (λ _. simp length-append (omega arith)))
+
+pub as_many : (c : CutterSize) (n : ℕ) → length (outer_stack c n) ≡ length (inner_stack c n)
+as_many c n = let below = below_as_many (outer_slab c) (inner_slab c) (bound_of c.r n) n in simp length-append (omega arith)

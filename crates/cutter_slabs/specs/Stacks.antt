@@ -1,8 +1,8 @@
 -- The inner and the outer stack of slabs of a cutter.
-use Rattle.std.specs.Prelude.{ℕ, zero, suc, ◌+◌, ◌*◌, ◌-◌, ◌/◌, pos, List, [], ◌∷◌, ◌++◌, if◌then◌else◌, nat_lt}
+use Rattle.std.specs.Prelude.{◌≡◌, ◌<◌, ℕ, zero, suc, ◌+◌, ◌*◌, ◌-◌, ◌/◌, pos, List, [], ◌∷◌, ◌++◌, if◌then◌else◌, nat_lt}
 use Rattle.bern_form.specs.Roots.{ceil_root, floor_root}
 use Rattle.bern_form.specs.Slab.{SlabSize}
-use Rattle.cutter_slabs.specs.Cutter.{CutterSize, flat_of}
+use Rattle.cutter_slabs.specs.Cutter.{CutterSize, IsCutter, flat_of}
 
 -- the j-th of the n + 1 bounds of the slabs below the corner's upper end: r (j / n)^2, rounded down
 abbrev pub bound_of : ℕ → ℕ → ℕ → ℕ
@@ -44,3 +44,10 @@ reach_of c = c.h + c.d
 pub record StacksOf : Type 0 where
   pub cutter : CutterSize
   pub slabs : ℕ
+
+-- two lists of slabs are the stacks of a valid cutter for a number above 0
+pub record AreStacks (c : CutterSize) (n : ℕ) (inner outer : List SlabSize) : Type 0 where
+  pub valid : IsCutter c
+  pub some : 0 < n
+  pub inner_is : inner ≡ inner_stack c n
+  pub outer_is : outer ≡ outer_stack c n

@@ -1,3 +1,5 @@
+ghost use Rattle.std.specs.Prelude.{◌≡◌};
+
 use std::marker::Model;
 
 /// A flat, bull-nose or ball cutter by its diameter `d`, corner radius `r` and height `h` above the tip: an APT cutter whose
@@ -25,4 +27,29 @@ impl Model for Cutter {
     ghost inverse = { λ c. record { d = pos c.d; r = pos c.r; h = pos c.h } };
 
     ghost inverse_ok = { λ c valid i. record { d = fields_back c.d valid.0 i; r = fields_back c.r valid.1 i; h = fields_back c.h valid.2 i } };
+}
+
+impl Cutter {
+    ghost use Rattle.cutter_slabs.specs.Cutter.{IsCutter, flat_of};
+
+    pub(crate) fn diameter(&self) -> u32
+        ensures value { result ≡ self.now.d }
+        ensures valid { IsCutter self.now }
+    {
+        self.d as u32
+    }
+
+    pub(crate) fn corner_radius(&self) -> u32
+        ensures value { result ≡ self.now.r }
+        ensures valid { IsCutter self.now }
+    {
+        self.r as u32
+    }
+
+    pub(crate) fn height(&self) -> u32
+        ensures value { result ≡ self.now.h }
+        ensures valid { IsCutter self.now }
+    {
+        self.h as u32
+    }
 }

@@ -2,5 +2,8 @@
 #![tactic(auto)]
 
 mod cutter;
+mod profile;
+mod stacks;
 
 pub use cutter::Cutter;
+pub use stacks::Stacks;
