@@ -1,4 +1,4 @@
 pub mod Fits
-pub mod Tests
+pub mod Comparisons
 pub mod Bounds
 pub mod Marks

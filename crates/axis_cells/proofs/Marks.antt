@@ -12,7 +12,7 @@ use Rattle.bern_form.proofs.Naturals.{natural}
 use Rattle.bern_form.proofs.Reach.{held_within, reach_more}
 use Rattle.axis_cells.specs.Exclusion.{CoveredBySome, ExcludesAll, IsCellOf, IsExcludedBy, LeavesSome}
 use Rattle.axis_cells.specs.Marked.{FitsInReach}
-use Rattle.axis_cells.proofs.Tests.{excluded_by, excluded_of}
+use Rattle.axis_cells.proofs.Comparisons.{excluded_by, excluded_of}
 
 -- a fact at each index below the length holds of each element
 pub each_contained : (P : SlabSize → Type 0) (xs : List SlabSize) (n : ℕ) → ((k : ℕ) (d : SlabSize) → k < n → P (slice_index_or xs k d)) → length xs ≤ n

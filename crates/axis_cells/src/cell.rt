@@ -8,14 +8,18 @@ ghost use Rattle.bern_form.specs.Sizes.{IsBounded2, IsBounded4, axis_limit, leng
 use crate::length::scaled_square;
 use crate::pose::Pose;
 use crate::sweep::Sweep;
-use bern_form::{Form1, Form2, Form4, Slab, lift24, minus4, plus2, scale2, scale4, times11, times22};
+use bern_form::{
+    Form1, Form2, Form4, Slab, lift24, minus4, plus2, scale2, scale4, times11, times22,
+};
 
 /// A number that is linear on a cell, by its values at both ends.
 #[inline]
 fn linear(first: i64, last: i64) -> Form1
     ensures { result.c ≡ first ∷ last ∷ [] }
 {
-    Form1 { c: [i128::from(first), i128::from(last)] }
+    Form1 {
+        c: [i128::from(first), i128::from(last)],
+    }
 }
 
 /// The scalar product of two vectors that are linear on a cell, from their values `p` and `a` at its first end and `q` and
@@ -62,12 +66,10 @@ impl Cell {
         ensures behind { IsTrue result.is_behind ↔ AllNegative (cross first.now.offset last.now.offset first.now.axis last.now.axis) }
         ensures n { result.n.c ≡ cross first.now.axis last.now.axis first.now.axis last.now.axis }
         ensures height { let u = cross first.now.offset last.now.offset first.now.axis last.now.axis in result.height.c ≡ product22 u u }
-        ensures width {
-            let u = cross first.now.offset last.now.offset first.now.axis last.now.axis in
+        ensures width { let u = cross first.now.offset last.now.offset first.now.axis last.now.axis in
             let n = cross first.now.axis last.now.axis first.now.axis last.now.axis in
             let d = cross first.now.offset last.now.offset first.now.offset last.now.offset in
-            result.width.c ≡ scaled4 (pos 4) (difference4 (product22 d n) (product22 u u))
-        }
+            result.width.c ≡ scaled4 (pos 4) (difference4 (product22 d n) (product22 u u)) }
     {
         let u = scalar_product_on_cell(&first.offset, &last.offset, &first.axis, &last.axis);
         let n = scalar_product_on_cell(&first.axis, &last.axis, &first.axis, &last.axis);
@@ -99,10 +101,8 @@ impl Cell {
     #[inline]
     fn squared(&self, length: i32) -> Form4
         requires { unsigned_abs length ≤ 300000 }
-        ensures list {
-            let square = (self.now.scale *ℤ length) *ℤ (self.now.scale *ℤ length) in
-            result.c ≡ lifted (scaled2 square self.now.n.c)
-        }
+        ensures list { let square = (self.now.scale *ℤ length) *ℤ (self.now.scale *ℤ length) in
+            result.c ≡ lifted (scaled2 square self.now.n.c) }
         ensures small { IsBounded4 (18 * (length_limit * axis_limit) * (length_limit * axis_limit)) result.c }
     {
         lift24(&scale2(&self.n, scaled_square(self.scale, length)))
@@ -111,10 +111,8 @@ impl Cell {
     /// Whether u^2 stays below lo^2 n throughout.
     fn is_below(&self, lo: i32) -> bool
         requires { unsigned_abs lo ≤ 300000 }
-        ensures {
-            let square = (self.now.scale *ℤ lo) *ℤ (self.now.scale *ℤ lo) in
-            IsTrue result ↔ AllNegative (difference4 self.now.height.c (lifted (scaled2 square self.now.n.c)))
-        }
+        ensures { let square = (self.now.scale *ℤ lo) *ℤ (self.now.scale *ℤ lo) in
+            IsTrue result ↔ AllNegative (difference4 self.now.height.c (lifted (scaled2 square self.now.n.c))) }
     {
         minus4(&self.height, &self.squared(lo)).all_negative()
     }
@@ -122,10 +120,8 @@ impl Cell {
     /// Whether u^2 stays above hi^2 n throughout.
     fn is_above(&self, hi: i32) -> bool
         requires { unsigned_abs hi ≤ 300000 }
-        ensures {
-            let square = (self.now.scale *ℤ hi) *ℤ (self.now.scale *ℤ hi) in
-            IsTrue result ↔ AllPositive (difference4 self.now.height.c (lifted (scaled2 square self.now.n.c)))
-        }
+        ensures { let square = (self.now.scale *ℤ hi) *ℤ (self.now.scale *ℤ hi) in
+            IsTrue result ↔ AllPositive (difference4 self.now.height.c (lifted (scaled2 square self.now.n.c))) }
     {
         minus4(&self.height, &self.squared(hi)).all_positive()
     }
@@ -133,10 +129,8 @@ impl Cell {
     /// Whether 4 w stays above dia^2 n throughout.
     fn is_beside(&self, dia: i32) -> bool
         requires { unsigned_abs dia ≤ 300000 }
-        ensures {
-            let square = (self.now.scale *ℤ dia) *ℤ (self.now.scale *ℤ dia) in
-            IsTrue result ↔ AllPositive (difference4 self.now.width.c (lifted (scaled2 square self.now.n.c)))
-        }
+        ensures { let square = (self.now.scale *ℤ dia) *ℤ (self.now.scale *ℤ dia) in
+            IsTrue result ↔ AllPositive (difference4 self.now.width.c (lifted (scaled2 square self.now.n.c))) }
     {
         minus4(&self.width, &self.squared(dia)).all_positive()
     }
@@ -160,11 +154,9 @@ impl Cell {
 
     /// Whether some of the slabs is not excluded on this cell.
     pub fn leaves_some(&self, slabs: &[Slab]) -> bool
-        ensures {
-            MatchBool result
+        ensures { MatchBool result
             (LeavesSome self.now.scale self.now.is_behind self.now.n.c self.now.height.c self.now.width.c slabs.now)
-            (ExcludesAll self.now.scale self.now.is_behind self.now.n.c self.now.height.c self.now.width.c slabs.now)
-        }
+            (ExcludesAll self.now.scale self.now.is_behind self.now.n.c self.now.height.c self.now.width.c slabs.now) }
     {
         for slab in slabs {
             if !self.excludes(slab) {

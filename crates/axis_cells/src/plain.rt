@@ -65,7 +65,13 @@ fn all_fit_in_reach(slabs: &[Slab], reach: i32) -> bool
 
 /// The same as `is_held_at_sample`, for a point out of reach. Slabs that fit into the reach hold no such point at any time, so
 /// no sample is tried. So the many moves that are far from a point cost next to nothing.
-fn is_held_out_of_reach(sweep: &Sweep, slabs: &[Slab], reach: i32, point: &[i32; 3], scale: u32) -> bool
+fn is_held_out_of_reach(
+    sweep: &Sweep,
+    slabs: &[Slab],
+    reach: i32,
+    point: &[i32; 3],
+    scale: u32,
+) -> bool
     requires out { ¬ InReach reach sweep.now point.now }
     requires point { IsPoint point.now }
     requires some { 0 < scale }
@@ -82,7 +88,14 @@ fn is_held_out_of_reach(sweep: &Sweep, slabs: &[Slab], reach: i32, point: &[i32;
 /// The mark of a point by the two stacks of a cutter, or by any two lists of slabs. Removed where some inner slab holds the
 /// point at some sample; else possible where the point is in reach and some outer slab is not excluded on some cell; else
 /// clear. A clear point within reach is held by no outer slab at any rational time of the move.
-pub fn plain_mark(sweep: &Sweep, inner: &[Slab], outer: &[Slab], reach: i32, point: [i32; 3], depth: u32) -> Mark
+pub fn plain_mark(
+    sweep: &Sweep,
+    inner: &[Slab],
+    outer: &[Slab],
+    reach: i32,
+    point: [i32; 3],
+    depth: u32,
+) -> Mark
     requires low { pos 0 ≤ℤ reach }
     requires high { reach ≤ℤ pos 500000 }
     requires point { IsPoint point }

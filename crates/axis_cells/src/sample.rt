@@ -17,7 +17,9 @@ fn scalar_product(p: &[i64; 3], a: &[i64; 3]) -> i128
 {
     let [px, py, pz] = *p;
     let [ax, ay, az] = *a;
-    i128::from(px) * i128::from(ax) + i128::from(py) * i128::from(ay) + i128::from(pz) * i128::from(az)
+    i128::from(px) * i128::from(ax)
+        + i128::from(py) * i128::from(ay)
+        + i128::from(pz) * i128::from(az)
 }
 
 /// Whether a number is between two others, both included.
@@ -30,7 +32,14 @@ fn is_between(low: i128, middle: i128, high: i128) -> bool
 
 /// Whether a point is ahead of the tip, between two heights and within a width, each given by its square.
 #[inline]
-fn lies_within(u: i128, lowest: i128, height: i128, highest: i128, width: i128, widest: i128) -> bool
+fn lies_within(
+    u: i128,
+    lowest: i128,
+    height: i128,
+    highest: i128,
+    width: i128,
+    widest: i128,
+) -> bool
     ensures { IsTrue result ↔ ((pos 0 ≤ℤ u) × (width ≤ℤ widest) × ((lowest ≤ℤ height) × (height ≤ℤ highest))) }
 {
     if u < 0 {
@@ -89,10 +98,8 @@ impl Sample {
 
     /// Whether some of the slabs holds the point at this sample.
     pub fn is_covered_by_some(&self, slabs: &[Slab]) -> bool
-        ensures {
-            MatchBool result (CoveredBySome self.now.scale self.now.u self.now.n self.now.w slabs.now)
-            (¬ CoveredBySome self.now.scale self.now.u self.now.n self.now.w slabs.now)
-        }
+        ensures { MatchBool result (CoveredBySome self.now.scale self.now.u self.now.n self.now.w slabs.now)
+            (¬ CoveredBySome self.now.scale self.now.u self.now.n self.now.w slabs.now) }
     {
         for slab in slabs {
             if self.is_covered_by(slab) {

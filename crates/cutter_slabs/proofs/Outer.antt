@@ -101,9 +101,11 @@ below_slabs z c b u N W e rule (suc j) within h =
     let up : z j < z (suc j) = rises b (z j) (z (suc j)) N (omega arith) in
     let one = Contains-push (slabs_below (outer_slab c) z j) s in
     let same = sym (cond-true (ltb (z j) (z (suc j))) (s ∷ []) [] (lt-ltb (z j) (z (suc j)) up)) in
-    let top = z (suc j) in
-    (s, subst (λ l. Contains (slabs_below (outer_slab c) z j ++ l) s) same one,
-    covers_up b (z j) top (flat_of c + 2 * ceil_root (2 * c.r * top - top * top)) u N W (slab_holds b c.r (flat_of c) (z j) top u N W rule (within (suc j) (omega arith)) g (omega arith))))
+    let top = z (suc j) in (
+      s,
+      subst (λ l. Contains (slabs_below (outer_slab c) z j ++ l) s) same one,
+      covers_up b (z j) top (flat_of c + 2 * ceil_root (2 * c.r * top - top * top)) u N W (slab_holds b c.r (flat_of c) (z j) top u N W rule (within (suc j) (omega arith)) g (omega arith)),
+    ))
     (cases_lt (u * u) (((b * z j) * (b * z j)) * N))
 
 -- A place of the exact cutter is in some slab of the outer stack, with all lengths times b
@@ -119,6 +121,9 @@ outer_encloses c b n u N W valid p inside =
     let k = subst (λ x. u * u < ((b * x) * (b * x)) * N) (sym (bound_of-last c.r n p)) l in
     let g = below_slabs z c b u N W (bound_of-first c.r n p) inside.corner n (λ i q. bound_of-within c.r n i p q) k in
     (g.0, Contains-append_left (slabs_below (outer_slab c) z n) (last ∷ []) g.0 g.1, g.2))
-    (λ g. (last, Contains-push (slabs_below (outer_slab c) z n) last,
-    covers_up b c.r c.h c.d u N W record { above = g; below = height; near = subst (λ k. 4 * W ≤ (k * k) * N) full side }))
+    (λ g. (
+      last,
+      Contains-push (slabs_below (outer_slab c) z n) last,
+      covers_up b c.r c.h c.d u N W record { above = g; below = height; near = subst (λ k. 4 * W ≤ (k * k) * N) full side },
+    ))
     (cases_lt (u * u) (((b * c.r) * (b * c.r)) * N))

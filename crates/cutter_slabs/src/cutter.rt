@@ -20,9 +20,7 @@ impl Model for Cutter {
 
     ghost view = { λ c. record { d = unsigned_abs c.d; r = unsigned_abs c.r; h = unsigned_abs c.h } };
 
-    ghost invariant = {
-        λ c. (pos 0 ≤ℤ c.d) × (pos 0 ≤ℤ c.r) × (pos 0 ≤ℤ c.h) × IsCutter record { d = unsigned_abs c.d; r = unsigned_abs c.r; h = unsigned_abs c.h }
-    };
+    ghost invariant = { λ c. (pos 0 ≤ℤ c.d) × (pos 0 ≤ℤ c.r) × (pos 0 ≤ℤ c.h) × IsCutter record { d = unsigned_abs c.d; r = unsigned_abs c.r; h = unsigned_abs c.h } };
 
     ghost inverse = { λ c. record { d = pos c.d; r = pos c.r; h = pos c.h } };
 

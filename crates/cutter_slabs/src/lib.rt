@@ -7,3 +7,6 @@ mod stacks;
 
 pub use cutter::Cutter;
 pub use stacks::Stacks;
+
+#[cfg(test)]
+mod tests;

@@ -4,12 +4,11 @@ ghost use Rattle.bern_form.specs.Marks.{HeldAtSample, InReach, IsNotPossible, Is
 ghost use Rattle.cutter_slabs.specs.Cutter.{InsideAt, Meets};
 ghost use Rattle.cutter_slabs.specs.Stacks.{inner_stack, outer_stack, reach_of, slab_of};
 
-use std::alloc::Global;
-use std::marker::Model;
-
 use crate::cutter::Cutter;
 use crate::profile::{bound, inner_diameter, outer_diameter, slab_between};
 use bern_form::Slab;
+use std::alloc::Global;
+use std::marker::Model;
 use vf_io::NoMemory;
 
 /// The two stacks of slabs of a cutter. The corner, up to its upper end r, is cut into at most n slabs, and one slab with the
@@ -78,14 +77,10 @@ impl Stacks {
     /// sample is removed by the move, and possible too.
     pub fn inner(&self) -> &[Slab]
         ensures stack { result.now ≡ inner_stack self.now.cutter self.now.slabs }
-        ensures inside {
-            (m : Motion) (p : List ℤ) (a b : ℕ) → SomeHolds result.now m p a b → InsideAt self.now.cutter m p a b
-        }
+        ensures inside { (m : Motion) (p : List ℤ) (a b : ℕ) → SomeHolds result.now m p a b → InsideAt self.now.cutter m p a b }
         ensures met { (m : Motion) (p : List ℤ) (S : ℕ) → 0 < S → HeldAtSample result.now m p S → Meets self.now.cutter m p }
-        ensures possible {
-            (m : Motion) (p : List ℤ) (S : ℕ) → 0 < S → IsSweep m → HeldAtSample result.now m p S
-            → IsPossible (outer_stack self.now.cutter self.now.slabs) (pos (reach_of self.now.cutter)) m p S
-        }
+        ensures possible { (m : Motion) (p : List ℤ) (S : ℕ) → 0 < S → IsSweep m → HeldAtSample result.now m p S
+            → IsPossible (outer_stack self.now.cutter self.now.slabs) (pos (reach_of self.now.cutter)) m p S }
     {
         &self.inner
     }
@@ -95,13 +90,9 @@ impl Stacks {
     pub fn outer(&self) -> &[Slab]
         ensures stack { result.now ≡ outer_stack self.now.cutter self.now.slabs }
         ensures as_many { length result.now ≡ length (inner_stack self.now.cutter self.now.slabs) }
-        ensures encloses {
-            (m : Motion) (p : List ℤ) (a b : ℕ) → InsideAt self.now.cutter m p a b → SomeHolds result.now m p a b
-        }
-        ensures clear {
-            (m : Motion) (p : List ℤ) (S : ℕ) → 0 < S → IsSweep m → IsNotPossible result.now (pos (reach_of self.now.cutter)) m p S
-            → ¬ Meets self.now.cutter m p
-        }
+        ensures encloses { (m : Motion) (p : List ℤ) (a b : ℕ) → InsideAt self.now.cutter m p a b → SomeHolds result.now m p a b }
+        ensures clear { (m : Motion) (p : List ℤ) (S : ℕ) → 0 < S → IsSweep m → IsNotPossible result.now (pos (reach_of self.now.cutter)) m p S
+            → ¬ Meets self.now.cutter m p }
     {
         &self.outer
     }
@@ -110,9 +101,7 @@ impl Stacks {
     pub fn reach(&self) -> i32
         ensures value { result ≡ pos (reach_of self.now.cutter) }
         ensures few { reach_of self.now.cutter ≤ 500000 }
-        ensures encloses {
-            (m : Motion) (p : List ℤ) (a b : ℕ) → IsSweep m → IsTime a b → InsideAt self.now.cutter m p a b → InReach result m p
-        }
+        ensures encloses { (m : Motion) (p : List ℤ) (a b : ℕ) → IsSweep m → IsTime a b → InsideAt self.now.cutter m p a b → InReach result m p }
     {
         (self.cutter.height() + self.cutter.diameter()) as i32
     }

@@ -48,4 +48,3 @@ returns-clause-small c =
     let square : FitsSigned w128 ((c.args.scale *ℤ c.args.length) *ℤ (c.args.scale *ℤ c.args.length)) = fits128 ((c.args.scale *ℤ c.args.length) *ℤ (c.args.scale *ℤ c.args.length)) (length_limit * length_limit) small (omega arith) in
     let e = simp to_z-of_z at c.from.ensures in
     simp (to_z-of_z, e) small
-

@@ -4,7 +4,7 @@ use Rattle.std.specs.Prelude.{IsTrue}
 use mir.Syntax.{w32}
 use Rattle.bern_form.specs.Slab.{SlabSize}
 use Rattle.axis_cells.specs.Marked.{FitsInReach}
-use Rattle.axis_cells.proofs.Tests.{is_le}
+use Rattle.axis_cells.proofs.Comparisons.{is_le}
 use Rattle.axis_cells.proofs.plain.fits_in_reach.Goals as goal
 
 pub returns : goal.returns

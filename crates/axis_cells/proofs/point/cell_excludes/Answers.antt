@@ -2,7 +2,7 @@ use Rattle.std.proofs.Common.{ℕ, ◌^◌, ◌≡◌, subst, ℤ, List}
 use Rattle.std.specs.Prelude.{IsTrue, ◌↔◌}
 use Rattle.bern_form.specs.Cells.{Excluded}
 use Rattle.bern_form.proofs.Exclusion.{excluded_not_held}
-use Rattle.axis_cells.proofs.Tests.{excluded_by, excluded_of}
+use Rattle.axis_cells.proofs.Comparisons.{excluded_by, excluded_of}
 use Rattle.axis_cells.proofs.point.cell_excludes.Goals as goal
 
 pub returns-clause-rule : goal.returns-clause-rule

@@ -5,7 +5,7 @@ use mir.Syntax.{w32}
 use Rattle.bern_form.specs.Forms.{at}
 use Rattle.bern_form.specs.Motion.{Motion}
 use Rattle.bern_form.specs.Marks.{InReach}
-use Rattle.axis_cells.proofs.Tests.{near_as, never_true, not_true}
+use Rattle.axis_cells.proofs.Comparisons.{near_as, never_true, not_true}
 use Rattle.axis_cells.proofs.reach.in_reach.Goals as goal
 
 pub returns-then-not-is_near : goal.returns-then-not-is_near

@@ -78,4 +78,3 @@ returns c =
     let e4 = simp to_z-of_z at c.from-5.ensures in
     let e5 = simp to_z-of_z at c.from-6.ensures in
     simp (to_z-of_z, e0, e1, e2, e3, e4, e5) refl
-

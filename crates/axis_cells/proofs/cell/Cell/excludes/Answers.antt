@@ -4,7 +4,7 @@ use mir.Syntax.{w32}
 use Rattle.bern_form.specs.Slab.{SlabSize}
 use Rattle.axis_cells.specs.Exclusion.{IsExcludedBy, squared}
 use Rattle.bern_form.specs.Forms.{AllNegative, AllPositive, difference4}
-use Rattle.axis_cells.proofs.Tests.{not_true}
+use Rattle.axis_cells.proofs.Comparisons.{not_true}
 use Rattle.axis_cells.proofs.cell.Cell.excludes.Goals as goal
 
 pub returns-then-is_below : goal.returns-then-is_below
@@ -33,5 +33,5 @@ returns c =
     subst (λ (s : SlabSize). IsTrue c.is_beside.result ↔ IsExcludedBy cell.scale cell.is_behind cell.n.c cell.height.c cell.width.c s) c.slab.view_is (
       λ yes. inr (inr (inr (beside.0 yes))),
       λ out. ⊎_elim (λ h. absurd (not_true _ c.if-self.false h))
-      (λ out. ⊎_elim (λ h. absurd (not_true _ c.if-is_below.false (below.1 h))) (λ out. ⊎_elim (λ h. absurd (not_true _ c.if-is_above.false (above.1 h))) (λ h. beside.1 h) out) out) out,
+          (λ out. ⊎_elim (λ h. absurd (not_true _ c.if-is_below.false (below.1 h))) (λ out. ⊎_elim (λ h. absurd (not_true _ c.if-is_above.false (above.1 h))) (λ h. beside.1 h) out) out) out,
     )

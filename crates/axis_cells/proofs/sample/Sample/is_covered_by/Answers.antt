@@ -4,7 +4,7 @@ use mir.Syntax.{w32, w64, w128}
 use Rattle.bern_form.specs.Sizes.{axis_limit, length_limit, offset_limit}
 use Rattle.std.specs.Prelude.{IsTrue, ◌↔◌}
 use Rattle.bern_form.specs.Slab.{Covers, SlabSize}
-use Rattle.axis_cells.proofs.Tests.{covers_by}
+use Rattle.axis_cells.proofs.Comparisons.{covers_by}
 use Rattle.axis_cells.proofs.Fits.{height_fits, square_by_axis_fits, width_fits}
 use Rattle.axis_cells.proofs.sample.Sample.is_covered_by.Goals as goal
 

@@ -1,6 +1,6 @@
 use Rattle.bern_form.specs.Slab.{Covers, SlabSize}
 use Rattle.axis_cells.proofs.Marks.{push_each}
-use Rattle.axis_cells.proofs.Tests.{not_true}
+use Rattle.axis_cells.proofs.Comparisons.{not_true}
 use Rattle.axis_cells.proofs.sample.Sample.is_covered_by_some.Goals as goal
 
 pub loop-slab-preserved : goal.loop-slab-preserved

@@ -27,8 +27,10 @@ covers_by s scale u n w height' lowest height highest width widest answer e0 e1 
   λ c. tests.1 (
     subst (λ z. pos 0 ≤ℤ z) (sym e0) c.forward,
     subst (λ z. width ≤ℤ z) (sym e5) (subst (λ z. z ≤ℤ (((scale *ℤ s.dia) *ℤ (scale *ℤ s.dia)) *ℤ n)) (sym e4) c.near),
-    (subst (λ z. z ≤ℤ height) (sym e1) (subst (λ z. (((scale *ℤ s.lo) *ℤ (scale *ℤ s.lo)) *ℤ n) ≤ℤ z) (sym e2) c.above),
-    subst (λ z. height ≤ℤ z) (sym e3) (subst (λ z. z ≤ℤ (((scale *ℤ s.hi) *ℤ (scale *ℤ s.hi)) *ℤ n)) (sym e2) c.below)),
+    (
+      subst (λ z. z ≤ℤ height) (sym e1) (subst (λ z. (((scale *ℤ s.lo) *ℤ (scale *ℤ s.lo)) *ℤ n) ≤ℤ z) (sym e2) c.above),
+      subst (λ z. height ≤ℤ z) (sym e3) (subst (λ z. z ≤ℤ (((scale *ℤ s.hi) *ℤ (scale *ℤ s.hi)) *ℤ n)) (sym e2) c.below),
+    ),
   ),
 )
 
@@ -89,8 +91,8 @@ cell_of_poses scale behind n height width m p k S P Q A C eP eQ eA eC es eb en e
       n_is = en ∙ n';
       height_is = eh ∙ ap (λ u. product22 u u) u';
       width_is = ew ∙ ap (λ d. scaled4 (pos 4) (difference4 (product22 d (cross A C A C)) (product22 (cross P Q A C) (cross P Q A C)))) d'
-      ∙ ap (λ n. scaled4 (pos 4) (difference4 (product22 (d_list m p k S) n) (product22 (cross P Q A C) (cross P Q A C)))) n'
-      ∙ ap (λ u. scaled4 (pos 4) (difference4 (product22 (d_list m p k S) (n_list m k S)) (product22 u u))) u';
+          ∙ ap (λ n. scaled4 (pos 4) (difference4 (product22 (d_list m p k S) n) (product22 (cross P Q A C) (cross P Q A C)))) n'
+          ∙ ap (λ u. scaled4 (pos 4) (difference4 (product22 (d_list m p k S) (n_list m k S)) (product22 u u))) u';
     }
 
 pub never_true : IsTrue false → ⊥
