@@ -1,5 +1,5 @@
 -- The coefficients of a cell's tests stay below 4 * 10^37.
-use Rattle.std.proofs.Common.{◌≡◌, ℕ, ◌+◌, ◌*◌, ◌^◌, ◌≤◌, ◌<◌, [], ◌∷◌, List, ℤ, pos, ◌+ℤ◌, ◌*ℤ◌, unsigned_abs, arith, subst, sym}
+use Rattle.std.proofs.Common.{◌≡◌, ℕ, ◌+◌, ◌*◌, ◌^◌, ◌≤◌, ◌<◌, [], ◌∷◌, List, ℤ, pos, ◌*ℤ◌, unsigned_abs, arith, subst}
 use Rattle.std.specs.List.{All}
 use Rattle.bern_form.specs.Forms.{IsSmall, at, difference4, lifted, product11, product22, scaled2, scaled4, sum2}
 use Rattle.bern_form.specs.Motion.{IsWithin}

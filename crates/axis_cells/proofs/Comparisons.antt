@@ -3,7 +3,7 @@ use Rattle.std.specs.Int.Signed.{le_z}
 use Rattle.std.proofs.lemmas.Int.{ints}
 use Rattle.std.proofs.Common.{arith}
 use Rattle.std.proofs.Common.{◌≡◌, Bool, false, IsTrue, ◌↔◌, ℤ, pos, ◌*ℤ◌, ◌≤ℤ◌, subst, sym}
-use Rattle.std.proofs.Common.{ℕ, List, ◌⊎◌, inl, inr, ⊎_elim, ◌∙◌, ap}
+use Rattle.std.proofs.Common.{ℕ, List, inl, inr, ⊎_elim, ◌∙◌, ap}
 use Rattle.bern_form.specs.Forms.{AllNegative, AllPositive, difference4, product22, scaled4}
 use Rattle.bern_form.specs.Motion.{Motion}
 use Rattle.bern_form.specs.Slab.{Covers, SlabSize}

@@ -1,16 +1,16 @@
 -- From the answers over lists of slabs to the marks of a point.
-use Rattle.std.proofs.Common.{◌≡◌, Bool, ℕ, ◌+◌, ◌<◌, ◌≤◌, List, length, slice_index_or, ℤ, pos, ◌+ℤ◌, ◌≤ℤ◌, arith, subst, sym, ⊎_elim, ◌∙◌}
+use Rattle.std.proofs.Common.{◌≡◌, Bool, ℕ, ◌+◌, ◌<◌, ◌≤◌, List, length, slice_index_or, ℤ, pos, arith, subst, sym, ⊎_elim, ◌∙◌}
 use Rattle.std.specs.List.{Contains}
 use Rattle.std.proofs.lemmas.Bool.{cases_lt}
 use Rattle.std.proofs.lemmas.List.{get_or_default}
 use Rattle.std.proofs.lemmas.Int.{ints}
 use Rattle.bern_form.specs.Motion.{IsSweep, IsTime, Motion, axis_at, dot, offset_at, spread}
-use Rattle.bern_form.specs.Slab.{Covers, HoldsAt, IsSlab, SlabSize}
+use Rattle.bern_form.specs.Slab.{Covers, HoldsAt, SlabSize}
 use Rattle.bern_form.specs.Cells.{Excluded}
-use Rattle.bern_form.specs.Marks.{HeldAtSample, InReach, LeftOnCell, SomeHolds}
+use Rattle.bern_form.specs.Marks.{InReach, LeftOnCell, SomeHolds}
 use Rattle.bern_form.proofs.Naturals.{natural}
 use Rattle.bern_form.proofs.Reach.{held_within, reach_more}
-use Rattle.axis_cells.specs.Exclusion.{CoveredBySome, ExcludesAll, IsCellOf, IsExcludedBy, LeavesSome}
+use Rattle.axis_cells.specs.Exclusion.{CoveredBySome, ExcludesAll, IsCellOf, LeavesSome}
 use Rattle.axis_cells.specs.Marked.{FitsInReach}
 use Rattle.axis_cells.proofs.Comparisons.{excluded_by, excluded_of}
 

@@ -13,17 +13,20 @@ use cutter_slabs::Stacks;
 pub fn mark_of(sweep: &Sweep, stacks: &Stacks, point: [i32; 3], depth: u32) -> Mark
     requires point { IsPoint point }
     requires depth { depth ≤ 10 }
-    ensures mark {
-        let cutter = stacks.now.cutter in let n = stacks.now.slabs in
-        IsMarked result (inner_stack cutter n) (outer_stack cutter n) (pos (reach_of cutter)) sweep.now point (2 ^ depth)
-    }
+    ensures mark { let cutter = stacks.now.cutter in let n = stacks.now.slabs in
+        IsMarked result (inner_stack cutter n) (outer_stack cutter n) (pos (reach_of cutter)) sweep.now point (2 ^ depth) }
     ensures removed { result ≡ Mark.Removed → Meets stacks.now.cutter sweep.now point }
     ensures clear { result ≡ Mark.Clear → ¬ Meets stacks.now.cutter sweep.now point }
-    ensures possible {
-        result ≡ Mark.Removed
-        → IsPossible (outer_stack stacks.now.cutter stacks.now.slabs) (pos (reach_of stacks.now.cutter)) sweep.now point (2 ^ depth)
-    }
+    ensures possible { result ≡ Mark.Removed
+        → IsPossible (outer_stack stacks.now.cutter stacks.now.slabs) (pos (reach_of stacks.now.cutter)) sweep.now point (2 ^ depth) }
 {
     let _valid = &sweep.from;
-    plain_mark(sweep, stacks.inner(), stacks.outer(), stacks.reach(), point, depth)
+    plain_mark(
+        sweep,
+        stacks.inner(),
+        stacks.outer(),
+        stacks.reach(),
+        point,
+        depth,
+    )
 }

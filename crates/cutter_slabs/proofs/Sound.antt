@@ -1,6 +1,5 @@
 -- What the stacks say of the exact cutter at the rational times of a move.
-use Rattle.std.proofs.Common.{◌≡◌, ℕ, ◌+◌, ◌*◌, ◌≤◌, ◌<◌, List, ℤ, pos, ◌*ℤ◌, ◌≤ℤ◌, arith, refl, subst, sym, ⊎_elim, zero, suc, Bool, true, false, [], ◌∷◌, ◌++◌, length, ltb, length-append}
-use Rattle.std.specs.List.{Contains}
+use Rattle.std.proofs.Common.{◌≡◌, ℕ, ◌*◌, ◌<◌, List, ℤ, pos, ◌*ℤ◌, ◌≤ℤ◌, arith, refl, subst, sym, ⊎_elim, zero, suc, Bool, true, false, [], ◌∷◌, ◌++◌, length, ltb, length-append}
 use Rattle.std.proofs.lemmas.Bool.{cond_both}
 use Rattle.std.proofs.lemmas.Int.{ints}
 use Rattle.bern_form.specs.Motion.{IsSweep, IsTime, Motion, axis_at, dot, offset_at, spread}

@@ -1,5 +1,5 @@
 -- The exact cutter: a flat bottom, a rounded corner and a cylinder above it, over plain numbers.
-use Rattle.std.specs.Prelude.{◌≡◌, ℕ, ◌+◌, ◌*◌, ◌-◌, ◌≤◌, ◌⊎◌, ℤ, pos, ◌*ℤ◌, ◌-ℤ◌, ◌≤ℤ◌, List}
+use Rattle.std.specs.Prelude.{◌≡◌, ℕ, ◌*◌, ◌-◌, ◌≤◌, ◌⊎◌, ℤ, pos, ◌*ℤ◌, ◌-ℤ◌, ◌≤ℤ◌, List}
 use Rattle.bern_form.specs.Motion.{IsTime, Motion, axis_at, dot, offset_at, spread}
 
 -- diameter, corner radius and height in micrometres

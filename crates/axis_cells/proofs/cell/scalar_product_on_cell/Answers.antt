@@ -1,9 +1,9 @@
-use Rattle.std.proofs.Common.{FitsSigned, rules, arith, refl, sym, subst, ap, ℤ, List, pos, [], ◌∷◌, ◌≡◌, ◌+◌, ◌*◌, ◌≤◌, ◌<◌, ◌^◌, ◌*ℤ◌, unsigned_abs, ◌∙◌}
+use Rattle.std.proofs.Common.{FitsSigned, rules, sym, subst, ap, ℤ, List, ◌≡◌, ◌∙◌}
 use Rattle.std.proofs.lemmas.Int.{to_z-of_z}
-use mir.Syntax.{w32, w64, w128}
+use mir.Syntax.{w64, w128}
 use Rattle.std.specs.List.{All}
 use Rattle.bern_form.specs.Forms.{IsSmall, at, product11, sum2}
-use Rattle.bern_form.specs.Cells.{cross, ends}
+use Rattle.bern_form.specs.Cells.{ends}
 use Rattle.axis_cells.proofs.Bounds.{cross_fits}
 use Rattle.axis_cells.proofs.cell.scalar_product_on_cell.Goals as goal
 

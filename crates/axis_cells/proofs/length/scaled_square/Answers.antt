@@ -1,6 +1,6 @@
-use Rattle.std.proofs.Common.{FitsSigned, rules, arith, refl, sym, subst, ap, ℤ, pos, ◌≡◌, ◌+◌, ◌*◌, ◌≤◌, ◌<◌, ◌^◌, ◌+ℤ◌, ◌-ℤ◌, ◌*ℤ◌, unsigned_abs}
+use Rattle.std.proofs.Common.{FitsSigned, rules, arith, refl, ◌*◌, ◌*ℤ◌}
 use Rattle.std.proofs.lemmas.Int.{to_z-of_z}
-use mir.Syntax.{w32, w64, w128}
+use mir.Syntax.{w32, w128}
 use Rattle.bern_form.specs.Sizes.{length_limit}
 use Rattle.axis_cells.proofs.Fits.{fits128, scaled_small, scaled_square_small}
 use Rattle.axis_cells.proofs.length.scaled_square.Goals as goal

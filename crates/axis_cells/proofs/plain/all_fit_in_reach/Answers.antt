@@ -2,7 +2,6 @@ use Rattle.std.proofs.Common.{FitsSigned, rules, subst, ℤ}
 use Rattle.std.proofs.lemmas.Int.{to_z-of_z}
 use mir.Syntax.{w32}
 use mir.Val.{of_z, to_z}
-use Rattle.bern_form.specs.Slab.{SlabSize}
 use Rattle.axis_cells.specs.Marked.{FitsInReach}
 use Rattle.axis_cells.proofs.Marks.{each_contained, push_each}
 use Rattle.axis_cells.proofs.plain.all_fit_in_reach.Goals as goal

@@ -1,8 +1,6 @@
-use Rattle.std.proofs.Common.{FitsSigned, rules, arith, subst, ℤ, ◌+ℤ◌}
-use Rattle.std.proofs.lemmas.Int.{to_z-of_z, ints}
-use Rattle.std.specs.Prelude.{IsTrue}
+use Rattle.std.proofs.Common.{FitsSigned, rules, subst, ◌+ℤ◌}
+use Rattle.std.proofs.lemmas.Int.{to_z-of_z}
 use mir.Syntax.{w32}
-use Rattle.bern_form.specs.Slab.{SlabSize}
 use Rattle.axis_cells.specs.Marked.{FitsInReach}
 use Rattle.axis_cells.proofs.Comparisons.{is_le}
 use Rattle.axis_cells.proofs.plain.fits_in_reach.Goals as goal

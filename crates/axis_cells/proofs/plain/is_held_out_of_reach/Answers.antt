@@ -1,4 +1,4 @@
-use Rattle.std.proofs.Common.{FitsSigned, rules, refl, subst, ℤ, ◌≤◌, ◌<◌}
+use Rattle.std.proofs.Common.{FitsSigned, rules, subst, ℤ}
 use Rattle.std.proofs.lemmas.Int.{to_z-of_z}
 use mir.Syntax.{w32}
 use Rattle.bern_form.specs.Motion.{IsSweep}

@@ -1,4 +1,4 @@
-use Rattle.std.proofs.Common.{FitsSigned, rules, subst, inl, inr, ℕ, ℤ, ◌^◌, ◌≡◌}
+use Rattle.std.proofs.Common.{FitsSigned, rules, subst, inl, inr, ℕ, ℤ}
 use Rattle.std.specs.Prelude.{IsTrue, ◌↔◌}
 use Rattle.std.proofs.lemmas.Int.{to_z-of_z}
 use mir.Syntax.{w32}

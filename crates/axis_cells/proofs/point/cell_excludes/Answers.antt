@@ -1,4 +1,4 @@
-use Rattle.std.proofs.Common.{ℕ, ◌^◌, ◌≡◌, subst, ℤ, List}
+use Rattle.std.proofs.Common.{ℕ, ◌^◌, subst}
 use Rattle.std.specs.Prelude.{IsTrue, ◌↔◌}
 use Rattle.bern_form.specs.Cells.{Excluded}
 use Rattle.bern_form.proofs.Exclusion.{excluded_not_held}

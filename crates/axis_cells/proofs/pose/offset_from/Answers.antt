@@ -1,7 +1,6 @@
-use Rattle.std.proofs.Common.{FitsSigned, rules, pos, ◌*ℤ◌, ◌-ℤ◌, refl}
+use Rattle.std.proofs.Common.{FitsSigned, rules, pos, refl}
 use Rattle.std.proofs.lemmas.Int.{to_z-of_z}
 use mir.Syntax.{w32, w64}
-use Rattle.bern_form.specs.Motion.{between}
 use Rattle.axis_cells.proofs.Fits.{place_fits, offset_fits}
 use Rattle.axis_cells.proofs.pose.offset_from.Goals as goal
 

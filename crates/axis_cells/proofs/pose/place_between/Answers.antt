@@ -1,7 +1,6 @@
-use Rattle.std.proofs.Common.{FitsSigned, rules, pos, ◌+ℤ◌, ◌-ℤ◌, ◌*ℤ◌, ◌*◌, ◌≤◌, ℤ, unsigned_abs, subst, sym, refl}
+use Rattle.std.proofs.Common.{FitsSigned, rules, pos, ◌*◌, ◌≤◌, ℤ, unsigned_abs, subst, sym, refl}
 use Rattle.std.proofs.lemmas.Int.{to_z-of_z}
 use mir.Syntax.{w32, w64}
-use Rattle.bern_form.specs.Motion.{between}
 use Rattle.bern_form.proofs.Sizes.{between_small}
 use Rattle.axis_cells.proofs.Fits.{place_fits}
 use Rattle.axis_cells.proofs.pose.place_between.Goals as goal

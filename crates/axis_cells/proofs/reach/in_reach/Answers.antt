@@ -1,4 +1,4 @@
-use Rattle.std.proofs.Common.{FitsSigned, rules, refl, subst, sym, ℤ, List, ◌≡◌, false}
+use Rattle.std.proofs.Common.{FitsSigned, rules, subst, false}
 use Rattle.std.proofs.lemmas.Int.{to_z-of_z}
 use Rattle.std.specs.Prelude.{IsTrue, ◌↔◌}
 use mir.Syntax.{w32}

@@ -1,4 +1,4 @@
-use Rattle.std.proofs.Common.{FitsSigned, rules, arith, inl, inr, ⊎_elim, ◌+ℤ◌}
+use Rattle.std.proofs.Common.{FitsSigned, rules, arith, inr, ⊎_elim, ◌+ℤ◌}
 use Rattle.std.proofs.lemmas.Int.{to_z-of_z, ints}
 use mir.Syntax.{w32}
 use Rattle.axis_cells.proofs.Comparisons.{is_le, le_is}

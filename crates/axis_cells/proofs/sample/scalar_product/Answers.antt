@@ -1,8 +1,7 @@
-use Rattle.std.proofs.Common.{FitsSigned, rules, arith, refl, sym, subst, ap, ℤ, pos, ◌≡◌, ◌+◌, ◌*◌, ◌≤◌, ◌<◌, ◌^◌, ◌+ℤ◌, ◌-ℤ◌, ◌*ℤ◌, unsigned_abs}
+use Rattle.std.proofs.Common.{FitsSigned, rules, refl}
 use Rattle.std.proofs.lemmas.Int.{to_z-of_z}
-use mir.Syntax.{w32, w64, w128}
+use mir.Syntax.{w64, w128}
 use Rattle.bern_form.specs.Forms.{at}
-use Rattle.bern_form.specs.Motion.{dot}
 use Rattle.axis_cells.proofs.Fits.{dot_fits}
 use Rattle.axis_cells.proofs.sample.scalar_product.Goals as goal
 

@@ -1,4 +1,4 @@
-use Rattle.std.proofs.Common.{FitsSigned, rules, arith, subst, sym, ℕ, ℤ, List, pos, ◌≡◌, ◌≤◌, ◌<◌, ◌^◌, ◌∙◌}
+use Rattle.std.proofs.Common.{FitsSigned, rules, arith, subst, sym, ℕ, ℤ, List, pos, ◌≤◌, ◌<◌, ◌^◌, ◌∙◌}
 use Rattle.std.proofs.lemmas.Int.{to_z-of_z}
 use Rattle.std.proofs.Math.Pow.{pow_mono}
 use mir.Syntax.{w32}
@@ -6,9 +6,7 @@ use Rattle.bern_form.specs.Motion.{IsSweep}
 use Rattle.bern_form.specs.Slab.{SlabSize}
 use Rattle.bern_form.specs.Marks.{HeldAtSample, IsNotPossible}
 use Rattle.axis_cells.specs.declared.mark.Mark.{Mark}
-use Rattle.axis_cells.specs.declared.mark.Mark.TheVariants.{Clear, Removed}
 use Rattle.axis_cells.specs.Marked.{IsMarked}
-use Rattle.cutter_slabs.specs.Cutter.{Meets}
 use Rattle.cutter_slabs.specs.Stacks.{inner_stack, outer_stack, reach_of}
 use Rattle.cutter_marks.proofs.cutter_mark.mark_of.Goals as goal
 

@@ -1,4 +1,4 @@
-use Rattle.std.proofs.Common.{◌-◌, ◌*◌, ◌+◌, ◌≡◌, ◌≤◌, ℕ, subst, arith}
+use Rattle.std.proofs.Common.{◌-◌, ◌*◌, ◌≤◌, ℕ, subst, arith}
 use Rattle.cutter_slabs.proofs.Inner.{square_within}
 use Rattle.std.proofs.Math.Nat.{mul-le-mul_right}
 use Rattle.cutter_slabs.proofs.profile.corner_square.Goals as goal

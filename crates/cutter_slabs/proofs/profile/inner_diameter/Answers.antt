@@ -1,4 +1,4 @@
-use Rattle.std.proofs.Common.{◌*◌, ◌≤◌, arith}
+use Rattle.std.proofs.Common.{arith}
 use Rattle.bern_form.proofs.Roots.{root_le}
 use Rattle.cutter_slabs.proofs.profile.inner_diameter.Goals as goal
 

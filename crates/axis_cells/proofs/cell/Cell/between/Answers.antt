@@ -1,6 +1,6 @@
-use Rattle.std.proofs.Common.{FitsSigned, rules, arith, refl, sym, subst, ap, ℤ, List, pos, [], ◌∷◌, ◌≡◌, ◌+◌, ◌*◌, ◌≤◌, ◌<◌, ◌^◌, ◌*ℤ◌, unsigned_abs, ◌∙◌}
+use Rattle.std.proofs.Common.{FitsSigned, rules, sym, subst, ap, ℤ, List, pos, ◌≡◌, ◌*◌, ◌∙◌}
 use Rattle.std.proofs.lemmas.Int.{to_z-of_z}
-use mir.Syntax.{w32, w64, w128}
+use mir.Syntax.{w128}
 use Rattle.std.specs.Prelude.{IsTrue, ◌↔◌}
 use Rattle.std.specs.List.{All}
 use Rattle.bern_form.specs.Forms.{IsSmall, AllNegative, difference4, product22, scaled4}

@@ -1,4 +1,4 @@
-use Rattle.std.proofs.Common.{FitsSigned, rules, refl, subst, inl, inr, ⊎_elim, ◌≡◌, ◌↔◌, IsTrue, ℤ}
+use Rattle.std.proofs.Common.{FitsSigned, rules, refl, subst, inl, inr, ⊎_elim, ◌↔◌, IsTrue, ℤ}
 use Rattle.std.proofs.lemmas.Int.{to_z-of_z}
 use mir.Syntax.{w32}
 use Rattle.bern_form.specs.Slab.{SlabSize}

@@ -1,10 +1,9 @@
-use Rattle.std.proofs.Common.{FitsSigned, rules, arith, refl, sym, subst, ap, ℤ, List, pos, [], ◌∷◌, ◌≡◌, ◌+◌, ◌*◌, ◌≤◌, ◌<◌, ◌^◌, ◌*ℤ◌, unsigned_abs, ◌∙◌}
+use Rattle.std.proofs.Common.{FitsSigned, rules, subst, ap, ℤ, List, ◌≡◌, ◌*ℤ◌, ◌∙◌}
 use Rattle.std.proofs.lemmas.Int.{to_z-of_z}
-use mir.Syntax.{w32, w64, w128}
+use mir.Syntax.{w32}
 use Rattle.std.specs.Prelude.{IsTrue, ◌↔◌}
 use Rattle.bern_form.specs.Forms.{AllPositive, difference4, lifted, scaled2}
-use Rattle.bern_form.specs.Sizes.{axis_limit, offset_limit}
-use Rattle.axis_cells.proofs.Bounds.{difference_fits, more4}
+use Rattle.axis_cells.proofs.Bounds.{difference_fits}
 use Rattle.axis_cells.proofs.cell.Cell.is_beside.Goals as goal
 
 pub minus4-requires : goal.minus4-requires

@@ -1,5 +1,3 @@
-use Rattle.std.proofs.Common.{ℕ, ◌<◌, slice_index_or, subst}
-use Rattle.std.proofs.Common.{below_more}
 use Rattle.bern_form.specs.Slab.{SlabSize}
 use Rattle.axis_cells.specs.Exclusion.{IsExcludedBy}
 use Rattle.axis_cells.proofs.Marks.{each_contained, push_each}

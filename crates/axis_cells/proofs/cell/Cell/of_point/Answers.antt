@@ -1,8 +1,3 @@
-use Rattle.std.proofs.Common.{pos, refl, sym, subst, ap, ◌∙◌, ◌≡◌, ◌+ℤ◌, List, ℤ}
-use Rattle.std.specs.Prelude.{IsTrue, ◌↔◌}
-use Rattle.bern_form.specs.Forms.{AllNegative, difference4, product22, scaled4}
-use Rattle.bern_form.specs.Motion.{axis_at, offset_at}
-use Rattle.bern_form.specs.Cells.{cross, first_axis, first_offset, last_axis, last_offset}
 use Rattle.axis_cells.proofs.Comparisons.{cell_of_poses}
 use Rattle.axis_cells.proofs.cell.Cell.of_point.Goals as goal
 

@@ -1,6 +1,6 @@
-use Rattle.std.proofs.Common.{FitsSigned, rules, arith, refl, sym, subst, ap, ℤ, List, pos, [], ◌∷◌, ◌≡◌, ◌+◌, ◌*◌, ◌≤◌, ◌<◌, ◌^◌, ◌*ℤ◌, unsigned_abs, ◌∙◌}
+use Rattle.std.proofs.Common.{FitsSigned, rules, sym, subst, ap, ℤ, List, ◌≡◌, ◌*◌, ◌*ℤ◌, ◌∙◌}
 use Rattle.std.proofs.lemmas.Int.{to_z-of_z}
-use mir.Syntax.{w32, w64, w128}
+use mir.Syntax.{w32, w128}
 use Rattle.std.specs.List.{All}
 use Rattle.bern_form.specs.Forms.{IsSmall, lifted, scaled2}
 use Rattle.bern_form.specs.Sizes.{IsBounded4, axis_limit, length_limit}

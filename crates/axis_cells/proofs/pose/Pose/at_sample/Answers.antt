@@ -1,4 +1,4 @@
-use Rattle.std.proofs.Common.{FitsSigned, rules, pos, refl, subst, sym, ℤ, ◌≡◌, List, [], ◌∷◌}
+use Rattle.std.proofs.Common.{FitsSigned, rules, pos, refl, subst, sym, ◌≡◌, [], ◌∷◌}
 use Rattle.std.proofs.lemmas.Int.{to_z-of_z}
 use mir.Syntax.{w32, w64}
 use Rattle.bern_form.specs.Forms.{at}

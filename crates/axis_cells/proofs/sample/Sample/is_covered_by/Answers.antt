@@ -1,7 +1,6 @@
-use Rattle.std.proofs.Common.{FitsSigned, rules, arith, refl, sym, subst, ap, ℤ, pos, ◌≡◌, ◌+◌, ◌*◌, ◌≤◌, ◌<◌, ◌^◌, ◌+ℤ◌, ◌-ℤ◌, ◌*ℤ◌, unsigned_abs}
+use Rattle.std.proofs.Common.{FitsSigned, rules, refl, subst, ap, ◌*ℤ◌}
 use Rattle.std.proofs.lemmas.Int.{to_z-of_z}
-use mir.Syntax.{w32, w64, w128}
-use Rattle.bern_form.specs.Sizes.{axis_limit, length_limit, offset_limit}
+use mir.Syntax.{w32, w128}
 use Rattle.std.specs.Prelude.{IsTrue, ◌↔◌}
 use Rattle.bern_form.specs.Slab.{Covers, SlabSize}
 use Rattle.axis_cells.proofs.Comparisons.{covers_by}

@@ -1,7 +1,7 @@
-use Rattle.std.proofs.Common.{FitsSigned, rules, arith, refl, sym, subst, ap, ℤ, pos, ◌≡◌, ◌+◌, ◌*◌, ◌≤◌, ◌<◌, ◌^◌, ◌+ℤ◌, ◌-ℤ◌, ◌*ℤ◌, unsigned_abs}
+use Rattle.std.proofs.Common.{FitsSigned, rules, arith, refl, pos, ◌*◌}
 use Rattle.std.proofs.lemmas.Int.{to_z-of_z}
-use mir.Syntax.{w32, w64, w128}
-use Rattle.bern_form.specs.Motion.{dot, spread}
+use mir.Syntax.{w128}
+use Rattle.bern_form.specs.Motion.{dot}
 use Rattle.bern_form.specs.Sizes.{axis_limit, offset_limit}
 use Rattle.bern_form.proofs.Sizes.{dot_small}
 use Rattle.axis_cells.proofs.Fits.{fits128, spread_fits}

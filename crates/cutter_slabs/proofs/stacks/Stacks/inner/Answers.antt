@@ -1,8 +1,8 @@
-use Rattle.std.proofs.Common.{◌≡◌, ◌<◌, ◌+◌, ℕ, ℤ, List, length, pos, sym, subst, ap, ◌∙◌, rules}
+use Rattle.std.proofs.Common.{◌≡◌, ◌<◌, List, subst, ◌∙◌}
 use Rattle.bern_form.specs.Slab.{SlabSize}
-use Rattle.bern_form.specs.Marks.{HeldAtSample, InReach, IsNotPossible, IsPossible, SomeHolds}
-use Rattle.cutter_slabs.specs.Cutter.{InsideAt, IsCutter, Meets}
-use Rattle.cutter_slabs.specs.Stacks.{StacksOf, inner_stack, outer_stack, reach_of}
+use Rattle.bern_form.specs.Marks.{HeldAtSample, SomeHolds}
+use Rattle.cutter_slabs.specs.Cutter.{IsCutter}
+use Rattle.cutter_slabs.specs.Stacks.{StacksOf, inner_stack}
 use Rattle.cutter_slabs.proofs.Sound.{held_inside, sample_met, sample_possible}
 use Rattle.cutter_slabs.proofs.stacks.Stacks.inner.Goals as goal
 

@@ -1,8 +1,8 @@
-use Rattle.std.proofs.Common.{◌≡◌, ◌<◌, ◌+◌, ℕ, ℤ, List, length, pos, sym, subst, ap, ◌∙◌, rules}
+use Rattle.std.proofs.Common.{◌≡◌, ◌<◌, List, length, pos, sym, subst, ap, ◌∙◌}
 use Rattle.bern_form.specs.Slab.{SlabSize}
-use Rattle.bern_form.specs.Marks.{HeldAtSample, InReach, IsNotPossible, IsPossible, SomeHolds}
-use Rattle.cutter_slabs.specs.Cutter.{InsideAt, IsCutter, Meets}
-use Rattle.cutter_slabs.specs.Stacks.{StacksOf, inner_stack, outer_stack, reach_of}
+use Rattle.bern_form.specs.Marks.{IsNotPossible, SomeHolds}
+use Rattle.cutter_slabs.specs.Cutter.{IsCutter}
+use Rattle.cutter_slabs.specs.Stacks.{StacksOf, outer_stack, reach_of}
 use Rattle.cutter_slabs.proofs.Sound.{as_many, inside_held, not_possible_not_met}
 use Rattle.cutter_slabs.proofs.stacks.Stacks.outer.Goals as goal
 

@@ -1,8 +1,6 @@
-use Rattle.std.proofs.Common.{◌≡◌, ◌<◌, ◌+◌, ℕ, ℤ, List, length, pos, sym, subst, ap, ◌∙◌, rules}
-use Rattle.bern_form.specs.Slab.{SlabSize}
-use Rattle.bern_form.specs.Marks.{HeldAtSample, InReach, IsNotPossible, IsPossible, SomeHolds}
-use Rattle.cutter_slabs.specs.Cutter.{InsideAt, IsCutter, Meets}
-use Rattle.cutter_slabs.specs.Stacks.{StacksOf, inner_stack, outer_stack, reach_of}
+use Rattle.std.proofs.Common.{◌≡◌, ◌+◌, ℤ, pos, sym, subst, rules}
+use Rattle.bern_form.specs.Marks.{InReach}
+use Rattle.cutter_slabs.specs.Stacks.{reach_of}
 use mir.Syntax.{w32}
 use mir.Val.{to_z}
 use Rattle.cutter_slabs.proofs.Sound.{inside_in_reach}
