@@ -21,12 +21,8 @@ pub fn mark_of(sweep: &Sweep, stacks: &Stacks, point: [i32; 3], depth: u32) -> M
         → IsPossible (outer_stack stacks.now.cutter stacks.now.slabs) (pos (reach_of stacks.now.cutter)) sweep.now point (2 ^ depth) }
 {
     let _valid = &sweep.from;
-    plain_mark(
-        sweep,
-        stacks.inner(),
-        stacks.outer(),
-        stacks.reach(),
-        point,
-        depth,
-    )
+    let inner = stacks.inner();
+    let outer = stacks.outer();
+    let reach = stacks.reach();
+    plain_mark(sweep, inner, outer, reach, point, depth)
 }
