@@ -37,7 +37,7 @@ pub record CrossFits (p q a c : List ℤ) : Type 0 where
 small2 : (a b c : ℤ) (m : ℕ) → m ≤ 3 * (offset_limit * offset_limit) → IsBounded2 m (a ∷ b ∷ c ∷ []) → All IsSmall (a ∷ b ∷ c ∷ [])
 small2 a b c m l h = bounded2_small a b c m (omega arith) h
 
-list2 : (l : List ℤ) (m : ℕ) → m ≤ 3 * (offset_limit * offset_limit) → IsBounded2 m l → All IsSmall (at l 0 ∷ at l 1 ∷ at l 2 ∷ [])
+pub list2 : (l : List ℤ) (m : ℕ) → m ≤ 3 * (offset_limit * offset_limit) → IsBounded2 m l → All IsSmall (at l 0 ∷ at l 1 ∷ at l 2 ∷ [])
 list2 l m h b = small2 (at l 0) (at l 1) (at l 2) m h record { first = b.first; middle = b.middle; last = b.last }
 
 pub cross_fits : (p q a c : List ℤ) → IsWithin offset_limit p → IsWithin offset_limit q → IsWithin offset_limit a → IsWithin offset_limit c → CrossFits p q a c

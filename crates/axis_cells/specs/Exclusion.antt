@@ -1,9 +1,9 @@
 -- The cell rule in terms of what a cell keeps.
-use Rattle.std.specs.Prelude.{◌≡◌, ◌↔◌, Bool, IsTrue, List, ℕ, ℤ, pos, ◌*ℤ◌, ◌⊎◌, Contains}
-use Rattle.bern_form.specs.Forms.{AllNegative, AllPositive, difference4, lifted, product22, scaled2}
+use Rattle.std.specs.Prelude.{◌≡◌, ◌↔◌, Bool, IsTrue, List, ℕ, ℤ, pos, ◌*ℤ◌, ◌⊎◌, Contains, All}
+use Rattle.bern_form.specs.Forms.{IsSmall, AllNegative, AllPositive, difference4, lifted, product22, scaled2}
 use Rattle.bern_form.specs.Motion.{Motion}
 use Rattle.bern_form.specs.Slab.{Covers, SlabSize}
-use Rattle.bern_form.specs.Cells.{n_list, u_list, w_list}
+use Rattle.bern_form.specs.Cells.{across_list, along_list, n_list, u_list, w_list}
 
 -- n times the square of a scaled length, raised to degree 4
 abbrev pub squared : ℤ → ℤ → List ℤ → List ℤ
@@ -40,3 +40,10 @@ pub record CoveredBySome (scale u n w : ℤ) (slabs : List SlabSize) : Type 0 wh
   pub slab : SlabSize
   pub among : Contains slabs slab
   pub covers : Covers slab scale u n w
+
+-- every coefficient of the four lists of a slab on cell k of S is below 4 * 10^37 in absolute value
+pub record CoefficientsAreSmall (s : SlabSize) (m : Motion) (p : List ℤ) (k S : ℕ) : Type 0 where
+  pub ahead : All IsSmall (u_list m p k S)
+  pub low : All IsSmall (along_list m p k S s.lo)
+  pub high : All IsSmall (along_list m p k S s.hi)
+  pub side : All IsSmall (across_list m p k S s.dia)
