@@ -1,0 +1,5 @@
+pub mod Fits
+pub mod Comparisons
+pub mod Bounds
+pub mod Marks
+pub mod Coefficients

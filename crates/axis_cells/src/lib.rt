@@ -1,0 +1,21 @@
+//! Sample and cell tests of one point against one move, and the point's mark.
+#![tactic(auto)]
+
+mod cell;
+mod length;
+mod mark;
+mod plain;
+mod point;
+mod pose;
+mod reach;
+mod sample;
+mod sweep;
+
+pub use mark::Mark;
+pub use plain::plain_mark;
+pub use point::{at_sample, cell_excludes};
+pub use reach::in_reach;
+pub use sweep::Sweep;
+
+#[cfg(test)]
+mod tests;

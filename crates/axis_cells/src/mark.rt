@@ -1,0 +1,10 @@
+ghost use Rattle.std.specs.Prelude.{◌≡◌, ◌^◌, ◌≤◌, ◌<◌, ◌↔◌, pos, ◌≤ℤ◌, IsTrue, ℕ};
+ghost use Rattle.bern_form.specs.Motion.{IsPoint};
+
+/// What is known of a point and a move: not met, perhaps met, or removed.
+#[derive(Clone, Copy, Debug, PartialEq, Eq)]
+pub enum Mark {
+    Clear,
+    Possible,
+    Removed,
+}

@@ -1,0 +1,66 @@
+-- Time cells: cell k of S is the part of a move from the time k / S to the time (k + 1) / S, where the point's offset and
+-- the axis are linear between their values at its ends. So u = p.a, N = |a|^2 and D = |p|^2 are forms of degree 2 there.
+use Rattle.std.specs.Prelude.{ℕ, ◌+◌, ◌*◌, ◌≤◌, ◌<◌, List, [], ◌∷◌, ℤ, pos, ◌+ℤ◌, ◌*ℤ◌, ◌⊎◌}
+use Rattle.bern_form.specs.Forms.{AllNegative, AllPositive, at, product11, product22, lifted, sum2, scaled2, scaled4, difference4}
+use Rattle.bern_form.specs.Motion.{Motion, offset_at, axis_at}
+use Rattle.bern_form.specs.Slab.{SlabSize}
+
+-- the time a / b lies in cell k of S, ends included
+pub record IsInCell (k S a b : ℕ) : Type 0 where
+  pub denominator : 0 < b
+  pub after : k * b ≤ a * S
+  pub before : a * S ≤ (k + 1) * b
+
+-- one component of a vector as a form of degree 1, from the vector's values at both ends of the cell
+abbrev pub ends : List ℤ → List ℤ → ℕ → List ℤ
+ends first last i = at first i ∷ at last i ∷ []
+
+-- the scalar product of two vectors that are linear on the cell, from their values p, a at its first end and q, c at its last
+abbrev pub cross : List ℤ → List ℤ → List ℤ → List ℤ → List ℤ
+cross p q a c = sum2 (sum2 (product11 (ends p q 0) (ends a c 0)) (product11 (ends p q 1) (ends a c 1))) (product11 (ends p q 2) (ends a c 2))
+
+-- the point's offset and the axis, times S, at both ends of cell k
+abbrev pub first_offset : Motion → List ℤ → ℕ → ℕ → List ℤ
+first_offset m p k S = offset_at m p (pos k) (pos S)
+
+abbrev pub last_offset : Motion → List ℤ → ℕ → ℕ → List ℤ
+last_offset m p k S = offset_at m p (pos k +ℤ pos 1) (pos S)
+
+abbrev pub first_axis : Motion → ℕ → ℕ → List ℤ
+first_axis m k S = axis_at m (pos k) (pos S)
+
+abbrev pub last_axis : Motion → ℕ → ℕ → List ℤ
+last_axis m k S = axis_at m (pos k +ℤ pos 1) (pos S)
+
+-- the coefficients of u, of N and of D on cell k
+abbrev pub u_list : Motion → List ℤ → ℕ → ℕ → List ℤ
+u_list m p k S = cross (first_offset m p k S) (last_offset m p k S) (first_axis m k S) (last_axis m k S)
+
+abbrev pub n_list : Motion → ℕ → ℕ → List ℤ
+n_list m k S = cross (first_axis m k S) (last_axis m k S) (first_axis m k S) (last_axis m k S)
+
+abbrev pub d_list : Motion → List ℤ → ℕ → ℕ → List ℤ
+d_list m p k S = cross (first_offset m p k S) (last_offset m p k S) (first_offset m p k S) (last_offset m p k S)
+
+-- the square of a length times S
+abbrev pub scaled_square : ℕ → ℤ → ℤ
+scaled_square S z = (pos S *ℤ z) *ℤ (pos S *ℤ z)
+
+-- the coefficients of u^2 - z^2 N on cell k, the length z taken times S
+abbrev pub along_list : Motion → List ℤ → ℕ → ℕ → ℤ → List ℤ
+along_list m p k S z = difference4 (product22 (u_list m p k S) (u_list m p k S)) (lifted (scaled2 (scaled_square S z) (n_list m k S)))
+
+-- the coefficients of 4 W on cell k
+abbrev pub w_list : Motion → List ℤ → ℕ → ℕ → List ℤ
+w_list m p k S = scaled4 (pos 4) (difference4 (product22 (d_list m p k S) (n_list m k S)) (product22 (u_list m p k S) (u_list m p k S)))
+
+-- the coefficients of 4 W - dia^2 N on cell k, the length dia taken times S
+abbrev pub across_list : Motion → List ℤ → ℕ → ℕ → ℤ → List ℤ
+across_list m p k S dia = difference4 (w_list m p k S) (lifted (scaled2 (scaled_square S dia) (n_list m k S)))
+
+-- The cell rule: the slab is excluded on cell k of S. There the point is behind the tip throughout, or below lo throughout,
+-- or above hi throughout, or beside the slab throughout, each by a strict common sign of the coefficients.
+abbrev pub Excluded : SlabSize → Motion → List ℤ → ℕ → ℕ → Type 0
+Excluded s m p k S =
+    AllNegative (u_list m p k S)
+    ⊎ (AllNegative (along_list m p k S s.lo) ⊎ (AllPositive (along_list m p k S s.hi) ⊎ AllPositive (across_list m p k S s.dia)))

@@ -1,0 +1,7 @@
+pub mod Forms
+pub mod Roots
+pub mod Motion
+pub mod Slab
+pub mod Cells
+pub mod Marks
+pub mod Sizes

@@ -1,0 +1,9 @@
+//! One point's mark against one move of a cutter, and what the mark says of the exact cutter.
+#![tactic(auto)]
+
+mod cutter_mark;
+
+pub use cutter_mark::mark_of;
+
+#[cfg(test)]
+mod tests;

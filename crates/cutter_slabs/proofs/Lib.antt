@@ -1,0 +1,5 @@
+pub mod Corner
+pub mod Outer
+pub mod Inner
+pub mod Whole
+pub mod Sound

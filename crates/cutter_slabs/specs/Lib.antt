@@ -1,0 +1,3 @@
+pub mod Cutter
+pub mod Stacks
+pub mod Fields
