@@ -2,5 +2,23 @@
 #![tactic(auto)]
 
 mod answers;
+mod folder_shelf;
+mod memory_shelf;
+mod memory_sink;
+mod pieces;
+mod shelf;
+mod sink;
+mod standard_sink;
+mod whole_file;
+mod whole_text;
 
 pub use answers::{Failed, NoMemory};
+pub use folder_shelf::FolderShelf;
+pub use memory_shelf::MemShelf;
+pub use memory_sink::MemSink;
+pub use pieces::split_line;
+pub use shelf::Shelf;
+pub use sink::Sink;
+pub use standard_sink::StdSink;
+pub use whole_file::{ReadEnd, read_all};
+pub use whole_text::put_lines;

@@ -1,0 +1,6 @@
+pub mod Blanks
+pub mod Lines
+pub mod Next
+pub mod Numbers
+pub mod Rounding
+pub mod Texts

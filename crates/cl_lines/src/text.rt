@@ -1,0 +1,111 @@
+ghost use Rattle.std.specs.Prelude.{◌≡◌, ◌+◌, ◌≤◌, ◌∷◌, length, MatchResult, option_map, Ok};
+ghost use Rattle.cl_lines.specs.Lines.{lines_of};
+ghost use Rattle.cl_lines.specs.Next.{next_of, Ends};
+ghost use Rattle.cl_lines.specs.Texts.{texts_of};
+
+use crate::fault::{ClEnd, ClFault, ClWhy};
+use crate::line::{has_only_blanks, is_line_built, trim_line_end};
+use std::alloc::Global;
+use std::marker::Model;
+use vf_io::split_line;
+
+/// The most bytes of a record text.
+pub const MAX_TEXT: usize = 4096;
+
+/// The most bytes of a cutter location text.
+pub const MAX_BYTES: usize = 67_108_864;
+
+/// A record text with the number of the line where it begins.
+#[derive(Drop)]
+pub struct Text {
+    pub line: u32,
+    pub bytes: Vec<u8>,
+}
+
+/// A reader of record texts, in the order of their lines. It is seen as the list of those that are left.
+#[derive(Drop)]
+pub struct Lines<'a> {
+    rest: &'a [u8],
+    line: u32,
+    alloc: Global,
+}
+
+impl<'a> Model for Lines<'a> {
+    ghost use Rattle.std.specs.Prelude.{◌+◌, ◌≤◌, List, length};
+    ghost use Rattle.cl_lines.specs.Lines.{lines_of};
+    ghost use Rattle.cl_lines.specs.Texts.{Numbered, texts_from};
+    ghost use Rattle.std.specs.Prelude.{ℕ};
+
+    ghost Value = { List (Numbered (List ℕ)) };
+
+    ghost view = { λ r. texts_from r.line (lines_of r.rest.now) };
+
+    ghost invariant = { λ r. r.line + length r.rest.now ≤ 67108865 };
+}
+
+impl<'a> Lines<'a> {
+    /// A reader at the front of the bytes.
+    pub fn new(alloc: Global, bytes: &'a [u8]) -> Lines<'a>
+        requires { length bytes.now ≤ MAX_BYTES }
+        ensures { result ≡ texts_of bytes.now }
+    {
+        Lines {
+            rest: bytes,
+            line: 1,
+            alloc,
+        }
+    }
+
+    /// Another reader at the same place.
+    pub fn again(&self) -> Lines<'a>
+        ensures { result ≡ self.now }
+    {
+        Lines {
+            rest: self.rest,
+            line: self.line,
+            alloc: self.alloc,
+        }
+    }
+
+    /// The next record text that has more than blanks. It changes nothing where it gives none.
+    pub fn next_text(&mut self) -> Result<Option<Text>, ClEnd>
+        ensures { MatchResult result (λ t. next_of self.old ≡ Ok (option_map (λ x. (x.line, x.bytes.items)) t, self.new)) (Ends self.old self.new) }
+    {
+        let mut bytes = Vec::new(self.alloc);
+        match self.next_into(&mut bytes)? {
+            Some(line) => Ok(Some(Text { line, bytes })),
+            None => Ok(None),
+        }
+    }
+
+    /// The next record text that has more than blanks goes in place of what `room` holds; the answer
+    /// is its line. The reader is unchanged where it gives none.
+    pub fn next_into(&mut self, room: &mut Vec<u8>) -> Result<Option<u32>, ClEnd>
+        ensures { MatchResult result (λ n. next_of self.old ≡ Ok (option_map (λ line. (line, room.new.items)) n, self.new)) (Ends self.old self.new) }
+    {
+        while !self.rest.is_empty() {
+            let (piece, behind) = split_line(self.rest);
+            let line = trim_line_end(piece);
+            if !is_line_built(line) {
+                return Err(ClEnd::Refused(ClFault {
+                    line: self.line,
+                    why: ClWhy::NotBuilt,
+                }));
+            }
+            let number = self.line;
+            if has_only_blanks(line) {
+                self.rest = behind;
+                self.line += 1;
+                continue;
+            }
+            room.clear();
+            if room.extend_from_slice(line).is_err() {
+                return Err(ClEnd::NoMemory);
+            }
+            self.rest = behind;
+            self.line += 1;
+            return Ok(Some(number));
+        }
+        Ok(None)
+    }
+}

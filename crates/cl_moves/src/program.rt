@@ -1,0 +1,29 @@
+ghost use Rattle.std.specs.Prelude.{◌≡◌, ◌≤◌, length, Ok, MatchResult};
+ghost use Rattle.cl_moves.specs.Program.{program_of, EndsRead};
+
+use crate::fold::Fold;
+use crate::moves::Moves;
+use cl_lines::{ClEnd, MAX_BYTES};
+use cl_records::Records;
+use std::alloc::Global;
+
+/// The moves of a text in order, and how many of its records were passed over.
+#[derive(Drop)]
+pub struct Program {
+    pub moves: Moves,
+    pub passed: u32,
+}
+
+/// Reads the program that the bytes stand for, to FINI or to the end of the bytes. A refusal is the
+/// first fault by line, then by the order in which the faults of one record are judged.
+pub fn read_program(alloc: Global, bytes: &[u8]) -> Result<Program, ClEnd>
+    requires { length bytes.now ≤ MAX_BYTES }
+    ensures { MatchResult result (λ p. program_of bytes.now ≡ Ok p) (EndsRead (program_of bytes.now)) }
+{
+    let mut records = Records::new(alloc, bytes);
+    let mut fold = Fold::new(alloc);
+    while let Some((line, statement)) = records.next_record()? {
+        fold.apply(line, statement)?;
+    }
+    Ok(fold.finish())
+}

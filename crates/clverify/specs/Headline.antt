@@ -1,0 +1,30 @@
+-- The headline: what a call of the program answers and writes, for every file and all words.
+use Rattle.std.specs.Prelude.{◌≡◌, ℕ, List, Option, IfSome, ◌⊎◌}
+use Rattle.std.specs.Io.KnownBytes.{Appends, Keeps}
+use Rattle.vf_io.specs.Bytes.{AppendsFront}
+use Rattle.clverify.specs.Due.{Due}
+use Rattle.clverify.specs.declared.status.Status.{Status}
+use Rattle.clverify.specs.declared.status.Status.TheVariants.{Clean, Usage, Refused, ReadFault, WriteFault, NoMemory}
+
+-- the whole text that is due was written, with its status
+abbrev pub IsDue : Status → Option Due → Option (List ℕ) → Option (List ℕ) → Type 0
+IsDue status due old new = IfSome due (λ d. (status ≡ d.status) × Appends old new d.text)
+
+-- After a fault of reading, or for want of memory, nothing was written; after a fault of writing a front of
+-- the text that is due. Every other answer is the one that is due.
+abbrev pub Answers : Status → Option Due → Option (List ℕ) → Option (List ℕ) → Type 0
+Answers ReadFault due old new = Keeps old new
+Answers NoMemory due old new = Keeps old new
+Answers WriteFault due old new = IfSome due (λ d. AppendsFront old new d.text)
+Answers status due old new = IsDue status due old new
+
+-- the answer that is due, or none for want of memory
+abbrev pub IsComplete : Status → Option Due → Option (List ℕ) → Option (List ℕ) → Type 0
+IsComplete status due old new = (status ≡ NoMemory) ⊎ IsDue status due old new
+
+-- an answer that comes with its whole text
+abbrev pub IsWhole : Status → Type 0
+IsWhole Clean = Unit {0}
+IsWhole Usage = Unit {0}
+IsWhole (Refused fault) = Unit {0}
+IsWhole _ = ⊥

@@ -1,0 +1,76 @@
+ghost use Rattle.std.specs.Prelude.{◌≡◌, ◌++◌, IfOk, OnOk};
+ghost use Rattle.clverify.specs.Texts.{refusal_of, fault_text, input_name, why_name};
+
+use crate::page::Page;
+use cl_lines::{ClFault, ClWhy};
+use std::alloc::Global;
+use vf_io::NoMemory;
+
+/// The files that are read.
+#[derive(Clone, Copy, Debug, PartialEq, Eq)]
+pub enum Input {
+    /// The cutter location text.
+    Cl,
+    /// The setup.
+    Setup,
+    /// The script.
+    Script,
+}
+
+/// Why an input is refused.
+#[derive(Clone, Copy, Debug, PartialEq, Eq)]
+pub enum Fault {
+    /// The file has more bytes than its limit.
+    TooLong(Input),
+    /// The cutter location text has a fault.
+    Cl(ClFault),
+}
+
+/// The one line of a refusal.
+pub fn refusal_text(alloc: Global, fault: &Fault) -> Result<Vec<u8>, NoMemory>
+    ensures { IfOk result (λ v. v.items ≡ refusal_of fault.now) }
+{
+    let mut page = Page::new(alloc);
+    page.text(b"refused: ")?;
+    write_fault(&mut page, fault)?;
+    page.end_line()?;
+    Ok(page.into_vec())
+}
+
+fn write_fault(page: &mut Page, fault: &Fault) -> Result<(), NoMemory>
+    ensures { OnOk result (page.new ≡ page.old ++ fault_text fault.now) }
+{
+    match fault {
+        Fault::TooLong(input) => {
+            page.text(name_of_input(*input))?;
+            page.text(b": TooLong")
+        }
+        Fault::Cl(fault) => {
+            page.text(b"cl line ")?;
+            page.count(fault.line as usize)?;
+            page.text(b": ")?;
+            page.text(name_of_why(fault.why))
+        }
+    }
+}
+
+fn name_of_input(input: Input) -> &'static [u8]
+    ensures { result.now ≡ input_name input }
+{
+    match input {
+        Input::Cl => b"cl",
+        Input::Setup => b"setup",
+        Input::Script => b"script",
+    }
+}
+
+fn name_of_why(why: ClWhy) -> &'static [u8]
+    ensures { result.now ≡ why_name why }
+{
+    match why {
+        ClWhy::NumberSyntax => b"NumberSyntax",
+        ClWhy::NumberRange => b"NumberRange",
+        ClWhy::TooManyMoves => b"TooManyMoves",
+        ClWhy::NotBuilt => b"NotBuilt",
+    }
+}

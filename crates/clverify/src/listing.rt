@@ -1,0 +1,80 @@
+ghost use Rattle.std.specs.Prelude.{◌≡◌, ◌++◌, IfOk, OnOk};
+ghost use Rattle.clverify.specs.Texts.{list_of, move_lines, move_line, move_head, cutter_text, height};
+
+use crate::page::Page;
+use cl_moves::{CutterText, Move, Program};
+use std::alloc::Global;
+use vf_io::NoMemory;
+
+/// The listing of a program: a line for each move, and one with the counts.
+pub fn list_text(alloc: Global, program: &Program) -> Result<Vec<u8>, NoMemory>
+    ensures { IfOk result (λ v. v.items ≡ list_of program.now) }
+{
+    let mut page = Page::new(alloc);
+    page.text(b"clverify list 1\n")?;
+    write_moves(&mut page, program.moves.as_slice())?;
+    page.text(b"moves ")?;
+    page.count(program.moves.len())?;
+    page.text(b" passed ")?;
+    page.count(program.passed as usize)?;
+    page.end_line()?;
+    Ok(page.into_vec())
+}
+
+fn write_moves(page: &mut Page, moves: &[Move]) -> Result<(), NoMemory>
+    ensures { OnOk result (page.new ≡ page.old ++ move_lines 1 moves.now) }
+{
+    for (before, next) in moves.iter().enumerate() {
+        write_move(page, before + 1, next)?;
+    }
+    Ok(())
+}
+
+fn write_move(page: &mut Page, number: usize, next: &Move) -> Result<(), NoMemory>
+    ensures { OnOk result (page.new ≡ page.old ++ move_line number next.now) }
+{
+    write_head(page, number, next)?;
+    page.text(b" from")?;
+    page.point(&next.from)?;
+    page.text(b" to")?;
+    page.point(&next.to)?;
+    page.text(b" axis")?;
+    page.point(&next.axis_from)?;
+    page.text(b" to")?;
+    page.point(&next.axis_to)?;
+    page.text(b" cutter ")?;
+    write_cutter(page, &next.cutter)?;
+    page.end_line()
+}
+
+fn write_head(page: &mut Page, number: usize, next: &Move) -> Result<(), NoMemory>
+    ensures { OnOk result (page.new ≡ page.old ++ move_head number next.now) }
+{
+    page.text(b"move ")?;
+    page.count(number)?;
+    page.text(b" line ")?;
+    page.count(next.line as usize)?;
+    page.text(if next.rapid { b" rapid" } else { b" cut" })
+}
+
+fn write_cutter(page: &mut Page, cutter: &Option<CutterText>) -> Result<(), NoMemory>
+    ensures { OnOk result (page.new ≡ page.old ++ cutter_text cutter.now) }
+{
+    let Some(cutter) = cutter else {
+        return page.text(b"none");
+    };
+    page.number(cutter.d)?;
+    page.text(b" ")?;
+    page.number(cutter.r)?;
+    page.text(b" ")?;
+    write_height(page, cutter.h)
+}
+
+fn write_height(page: &mut Page, h: Option<i32>) -> Result<(), NoMemory>
+    ensures { OnOk result (page.new ≡ page.old ++ height h) }
+{
+    match h {
+        Some(h) => page.number(h),
+        None => page.text(b"-"),
+    }
+}

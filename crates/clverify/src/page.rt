@@ -1,0 +1,85 @@
+ghost use Rattle.std.specs.Prelude.{◌≡◌, [], ◌++◌, ◌∷◌, decimal, OnOk};
+ghost use Rattle.std.specs.Fmt.{signed_decimal};
+ghost use Rattle.vf_io.specs.Pieces.{line_feed};
+ghost use Rattle.clverify.specs.Texts.{numbers};
+
+use itoa::Buffer;
+use std::alloc::Global;
+use std::marker::Model;
+use vf_io::NoMemory;
+
+/// A text that grows. It is seen as its bytes.
+#[derive(Drop)]
+pub(crate) struct Page {
+    bytes: Vec<u8>,
+}
+
+impl Model for Page {
+    ghost use Rattle.std.specs.Prelude.{ℕ, List};
+
+    ghost Value = { List ℕ };
+
+    ghost view = { λ p. p.bytes.items };
+}
+
+impl Page {
+    /// An empty text.
+    pub(crate) fn new(alloc: Global) -> Page
+        ensures { result ≡ [] }
+    {
+        Page {
+            bytes: Vec::new(alloc),
+        }
+    }
+
+    /// The bytes of the text.
+    pub(crate) fn into_vec(self) -> Vec<u8>
+        ensures { result.items ≡ self }
+    {
+        self.bytes
+    }
+
+    /// Adds bytes.
+    pub(crate) fn text(&mut self, bytes: &[u8]) -> Result<(), NoMemory>
+        ensures { OnOk result (self.new ≡ self.old ++ bytes.now) }
+    {
+        match self.bytes.extend_from_slice(bytes) {
+            Ok(()) => Ok(()),
+            Err(_) => Err(NoMemory),
+        }
+    }
+
+    /// Adds a line end.
+    pub(crate) fn end_line(&mut self) -> Result<(), NoMemory>
+        ensures { OnOk result (self.new ≡ self.old ++ line_feed ∷ []) }
+    {
+        self.text(b"\n")
+    }
+
+    /// Adds a count.
+    pub(crate) fn count(&mut self, n: usize) -> Result<(), NoMemory>
+        ensures { OnOk result (self.new ≡ self.old ++ decimal n) }
+    {
+        self.text(Buffer::new().format(n).as_bytes())
+    }
+
+    /// Adds a number.
+    pub(crate) fn number(&mut self, z: i32) -> Result<(), NoMemory>
+        ensures { OnOk result (self.new ≡ self.old ++ signed_decimal z) }
+    {
+        self.text(Buffer::new().format(z).as_bytes())
+    }
+
+    /// Adds three numbers, each with a space ahead.
+    pub(crate) fn point(&mut self, point: &[i32; 3]) -> Result<(), NoMemory>
+        ensures { OnOk result (self.new ≡ self.old ++ numbers point.now) }
+    {
+        let [x, y, z] = *point;
+        self.text(b" ")?;
+        self.number(x)?;
+        self.text(b" ")?;
+        self.number(y)?;
+        self.text(b" ")?;
+        self.number(z)
+    }
+}

@@ -1,0 +1,44 @@
+ghost use Rattle.std.specs.Prelude.{◌≡◌};
+ghost use Rattle.clverify.specs.Codes.{code_of};
+
+use crate::fault::Fault;
+use std::process::ExitCode;
+
+/// How a call of the program ended.
+#[derive(Clone, Copy, Debug, PartialEq, Eq)]
+pub enum Status {
+    /// All was done, and nothing was found.
+    Clean,
+    /// The words are no command.
+    Usage,
+    /// An input is refused.
+    Refused(Fault),
+    /// A file could not be read.
+    ReadFault,
+    /// Standard output took no more.
+    WriteFault,
+    /// No memory was found.
+    NoMemory,
+}
+
+impl Status {
+    /// The exit code. Code 1 is kept for findings.
+    pub fn code(self) -> u8
+        ensures { result ≡ code_of self }
+    {
+        match self {
+            Status::Clean => 0,
+            Status::Usage => 2,
+            Status::Refused(_) => 3,
+            Status::ReadFault => 4,
+            Status::WriteFault => 5,
+            Status::NoMemory => 6,
+        }
+    }
+}
+
+impl From<Status> for ExitCode {
+    fn from(status: Status) -> ExitCode {
+        ExitCode::from(status.code())
+    }
+}

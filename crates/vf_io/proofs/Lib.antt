@@ -1,0 +1,4 @@
+pub mod PieceLemmas
+pub mod WholeLemmas
+pub mod FindLemmas
+pub mod ShelvedLemmas

@@ -1,0 +1,15 @@
+-- When a call may answer a fault: the count of faults of the object that it was handed rose.
+use Rattle.std.specs.Prelude.{ℕ, ◌+◌, ◌-◌, ◌^◌, ◌≤◌, min, Result, OnErr}
+
+-- the greatest count, at which a count stands still
+abbrev pub most_faults : ℕ
+most_faults = 2 ^ 64 - 1
+
+-- the count is greater now than it was before, or it stands at the greatest
+abbrev pub Rose : ℕ → ℕ → Type 0
+Rose before now = min (before + 1) most_faults ≤ now
+
+-- the count of faults never falls, and a failed call raised it
+pub record HasCause {T E : Type 0} (before now : ℕ) (result : Result T E) : Type 0 where
+  pub later : before ≤ now
+  pub failed : OnErr result (Rose before now)
