@@ -1,16 +1,16 @@
 -- Each point of a ray of the grid stands in the list of the lattice.
-use Rattle.std.proofs.Common.{◌≡◌, ℕ, suc, zero, ◌+◌, ◌<◌, ◌≤◌, ℤ, List, [], ◌∷◌, ◌++◌, length, map, get_or, Contains, Some, arith, refl, sym, ap, ◌∙◌, subst}
+use Rattle.std.proofs.Common.{◌≡◌, ℕ, suc, zero, ◌<◌, List, [], ◌∷◌, length, map, get_or, Contains, arith, sym, ◌∙◌, subst}
 use Rattle.std.specs.List.{flat_map, range_with_len}
 use Rattle.std.proofs.lemmas.List.Elements.{Contains-append_left, Contains-append_right}
 use Rattle.std.proofs.lemmas.List.FromFn.{length-map-range_with_len, get_or-map-range_with_len}
 use Rattle.std.proofs.lemmas.List.{get_or_default}
 use Rattle.ray_grid.specs.declared.grid.Grid.{Grid}
 use Rattle.ray_grid.specs.declared.ray.Ray.{Ray}
-use Rattle.ray_grid.specs.Families.{first_axis, second_axis}
+use Rattle.ray_grid.specs.Families.{second_axis}
 use Rattle.ray_grid.specs.Lattice.{IsRay, nodes_of, points_of, point_of}
-use Rattle.ray_grid.specs.Strips.{strip_of, strips_of, strip_at, strip_number}
-use Rattle.ray_grid.specs.Points.{LatticePoint, points_on, rays_of, lattice_of}
-use Rattle.ray_grid.proofs.Rows.{number_in, strip_there, length-strip}
+use Rattle.ray_grid.specs.Strips.{strip_of, strips_of, strip_number}
+use Rattle.ray_grid.specs.Points.{points_on, rays_of, lattice_of}
+use Rattle.ray_grid.proofs.Rows.{number_in, strip_there}
 
 contains_flat : {X Y : Type 0} → (f : X → List Y) (xs : List X) (k : ℕ) (x : X) (y : Y) → k < length xs → get_or xs k x ≡ x → Contains (f x) y → Contains (flat_map f xs) y
 contains_flat f [] k x y lt is h = absurd (omega arith)

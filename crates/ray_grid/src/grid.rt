@@ -4,8 +4,9 @@ use crate::ray::{Family, Ray};
 
 /// A grid of nodes, and on each ray through its nodes points at a finer step.
 ///
-/// Lengths are micrometres. Node n of axis a lies at `origin[a] + n * pitch`, for n below `counts[a]`.
-/// Point l of a ray along axis a lies at `origin[a] + l * step`, for l below `counts[a] * (pitch / step)`.
+/// Lengths are micrometres. Node n of axis a lies at `origin[a] + n * pitch`, for n below
+/// `counts[a]`. Point l of a ray along axis a lies at `origin[a] + l * step`, for l below
+/// `counts[a] * (pitch / step)`.
 #[derive(Clone, Copy, Debug, PartialEq, Eq)]
 pub struct Grid {
     pub origin: [i32; 3],
@@ -32,7 +33,8 @@ impl Grid {
         requires ray { IsRay self.now ray.now }
         requires point { l < points_of self.now ray.now.family }
         ensures position { result ≡ point_of self.now ray.now l }
-        ensures listed { Contains (lattice_of self.now) record { ray = ray.now; l = l; position = point_of self.now ray.now l } }
+        ensures listed { let position = point_of self.now ray.now l in
+            Contains (lattice_of self.now) record { ray = ray.now; l = l; position = position } }
     {
         match ray.family {
             Family::X => [

@@ -40,7 +40,8 @@ impl Grid {
         requires { IsRay self.now ray.now }
         ensures strip { result.0 < length (strips_of self.now) }
         ensures there { slice_get (strip_at self.now result.0) result.1 ≡ Some ray.now }
-        ensures only { (strip n : ℕ) → slice_get (strip_at self.now strip) n ≡ Some ray.now → (strip ≡ result.0) × (n ≡ result.1) }
+        ensures only { (strip n : ℕ) → slice_get (strip_at self.now strip) n ≡ Some ray.now
+            → (strip ≡ result.0) × (n ≡ result.1) }
     {
         (self.strip_number(ray.family, ray.i), ray.j)
     }

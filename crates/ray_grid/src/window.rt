@@ -8,18 +8,19 @@ impl Grid {
     ghost use Rattle.ray_grid.specs.Families.{first_axis, second_axis};
     ghost use Rattle.ray_grid.specs.Lattice.{IsRay, points_of, node_at, point_of};
     ghost use Rattle.ray_grid.specs.Strips.{strips_of, strip_at};
+    ghost use Rattle.ray_grid.specs.Selects.{Selects};
     ghost use Rattle.ray_grid.specs.Reach.{IsNear, InReach, Enters};
 
     /// The indices of a ray's points within reach of the segment from `from` to `to`, the first
     /// included, the second excluded; the two are equal where there are none.
     ///
-    /// A ray's points differ on one axis alone: the ray's two nodes are near or not, and along it the
-    /// points within reach follow each other.
+    /// A ray's points differ on one axis alone: the ray's two nodes are near or not, and along it
+    /// the points within reach follow each other.
     pub fn window(&self, ray: &Ray, from: [i32; 3], to: [i32; 3], reach: i32) -> (u32, u32)
         requires { IsRay self.now ray.now }
         ensures order { result.0 ≤ result.1 }
         ensures within { result.1 ≤ points_of self.now ray.now.family }
-        ensures exact { (l : ℕ) → ((result.0 ≤ l) × (l < result.1)) ↔ ((l < points_of self.now ray.now.family) × InReach from to reach (point_of self.now ray.now l)) }
+        ensures exact { Selects result.0 result.1 (λ l. (l < points_of self.now ray.now.family) × InReach from to reach (point_of self.now ray.now l)) }
     {
         let near = Reach { from, to, reach };
         let family = ray.family;
@@ -44,7 +45,7 @@ impl Grid {
         requires { strip < length (strips_of self.now) }
         ensures order { result.0 ≤ result.1 }
         ensures within { result.1 ≤ length (strip_at self.now strip) }
-        ensures exact { (n : ℕ) → ((result.0 ≤ n) × (n < result.1)) ↔ IsSomeAnd (slice_get (strip_at self.now strip) n) (Enters self.now from to reach) }
+        ensures exact { Selects result.0 result.1 (λ n. IsSomeAnd (slice_get (strip_at self.now strip) n) (Enters self.now from to reach)) }
     {
         let near = Reach { from, to, reach };
         let (family, i) = self.row(strip);

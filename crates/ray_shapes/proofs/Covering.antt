@@ -1,8 +1,8 @@
 -- What a list of intervals covers, one interval after the other.
-use Rattle.std.proofs.Common.{◌≡◌, ◌↔◌, ℕ, suc, zero, ◌+◌, ◌<◌, ◌≤◌, max, List, [], ◌∷◌, ◌++◌, length, take, drop, get_or, Bool, true, false, not, ◌&&◌, ◌||◌, leb, ltb, IsTrue, arith, refl, sym, ap, ap₂, ◌∙◌, subst}
-use Rattle.std.specs.List.{list_all, list_any}
+use Rattle.std.proofs.Common.{◌≡◌, ℕ, ◌+◌, ◌<◌, ◌≤◌, max, List, length, take, drop, get_or, Bool, true, false, ◌&&◌, ◌||◌, leb, ltb, IsTrue, arith, refl, sym, ap, ap₂, ◌∙◌}
+use Rattle.std.specs.List.{list_all}
 use Rattle.std.proofs.lemmas.Bool.Decides.{nat_tests}
-use Rattle.std.proofs.lemmas.List.Folds.{list_all_more, list_any_more, list_all-append}
+use Rattle.std.proofs.lemmas.List.Folds.{list_any_more, list_all-append}
 use Rattle.std.proofs.lemmas.List.{take-append-drop, get_or_default}
 use native.Mathlib.Decide.{dec_le}
 use mathlib.Core.Logic.{dite}

@@ -1,5 +1,5 @@
 -- What the parts of a ray cover are the points of the bodies on it.
-use Rattle.std.proofs.Common.{◌≡◌, ℕ, ◌<◌, ℤ, List, length, Bool, true, ◌&&◌, ltb, Result, Ok, Err, IfOk, arith, sym, ap, ap₂, ◌∙◌, subst}
+use Rattle.std.proofs.Common.{◌≡◌, ℕ, ◌<◌, ℤ, List, length, Bool, true, ◌&&◌, ltb, Result, Ok, Err, IfOk, arith, sym, ap, ◌∙◌, subst}
 use Rattle.std.proofs.lemmas.Bool.Decides.{nat_tests}
 use Rattle.vf_io.specs.declared.answers.NoMemory.{NoMemory}
 use Rattle.vf_spans.specs.Members.{has}

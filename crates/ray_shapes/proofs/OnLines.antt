@@ -1,15 +1,14 @@
 -- A plane on a line: its value, its rise, and how large they are.
-use Rattle.std.proofs.Common.{◌≡◌, ◌↔◌, ℕ, suc, zero, ◌+◌, ◌-◌, ◌*◌, ◌/◌, ◌%◌, ◌<◌, ◌≤◌, ℤ, pos, negsuc, neg_ℤ, ◌+ℤ◌, ◌*ℤ◌, ◌≤ℤ◌, unsigned_abs, FitsSigned, w32, List, [], ◌∷◌, IsTrue, int_le, arith, refl, sym, ap, ap₂, ◌∙◌, subst}
+use Rattle.std.proofs.Common.{◌≡◌, ◌↔◌, ℕ, ◌*◌, ◌<◌, ◌≤◌, ℤ, pos, negsuc, ◌+ℤ◌, ◌*ℤ◌, ◌≤ℤ◌, unsigned_abs, FitsSigned, w32, List, [], ◌∷◌, IsTrue, int_le, arith, sym, ap, subst}
 use Rattle.std.proofs.lemmas.Int.{ints}
 use Rattle.std.proofs.Math.IntN.{zero-*ℤ}
-use Rattle.std.proofs.Math.Nat.{mul-le-mul, mul-le-mul_right}
+use Rattle.std.proofs.Math.Nat.{mul-le-mul}
 use Rattle.ray_grid.specs.declared.grid.Grid.{Grid}
-use Rattle.ray_grid.specs.declared.ray.Ray.{Ray}
 use Rattle.ray_grid.specs.declared.ray.Family.{Family}
 use Rattle.ray_grid.specs.declared.ray.Family.TheVariants.{X, Y, Z}
 use Rattle.ray_grid.specs.Ranges.{along, IsWithin, IsCoordinate, IsGrid}
 use Rattle.ray_grid.specs.Families.{ray_axis, first_axis, second_axis}
-use Rattle.ray_grid.specs.Lattice.{IsRay, nodes_of, per_node, points_of, node_at, place_at, point_at, point_of}
+use Rattle.ray_grid.specs.Lattice.{nodes_of, per_node, points_of, node_at, place_at, point_at}
 use Rattle.ray_grid.proofs.Sizes.{abs_is, times_is, axis_of, some_per_node, node_within, place_within}
 use Rattle.ray_shapes.specs.declared.plane.Plane.{Plane}
 use Rattle.ray_shapes.specs.Sizes.{IsSmall, IsLine}

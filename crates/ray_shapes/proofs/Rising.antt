@@ -1,5 +1,5 @@
 -- A value that rises or falls by the slope with each index, and where it is at most a limit.
-use Rattle.std.proofs.Common.{◌≡◌, ◌↔◌, ℕ, suc, zero, ◌+◌, ◌-◌, ◌*◌, ◌/◌, ◌<◌, ◌≤◌, ℤ, pos, negsuc, neg_ℤ, ◌+ℤ◌, ◌-ℤ◌, ◌*ℤ◌, ◌≤ℤ◌, unsigned_abs, Bool, true, false, FitsSigned, w64, arith, refl, sym, ap, ap₂, ◌∙◌, subst}
+use Rattle.std.proofs.Common.{◌≡◌, ◌↔◌, ℕ, suc, zero, ◌+◌, ◌-◌, ◌*◌, ◌/◌, ◌<◌, ◌≤◌, ℤ, pos, negsuc, ◌+ℤ◌, ◌-ℤ◌, ◌*ℤ◌, ◌≤ℤ◌, unsigned_abs, true, false, FitsSigned, w64, arith, refl, sym, ap, ◌∙◌, subst}
 use Rattle.std.proofs.lemmas.Int.{ints, by_lt_z}
 use lib.Signed.{le_z}
 use Rattle.ray_grid.specs.Ranges.{IsWithin}

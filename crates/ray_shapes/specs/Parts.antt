@@ -1,5 +1,5 @@
 -- Intervals of indices, and what a list of them covers.
-use Rattle.std.specs.Prelude.{ℕ, ◌<◌, ◌≤◌, nat_le, nat_lt, ◌&&◌, Bool, List, length}
+use Rattle.std.specs.Prelude.{ℕ, nat_le, nat_lt, ◌&&◌, Bool, List}
 use Rattle.std.specs.List.{list_any}
 use Rattle.std.specs.List.Sorted.{IsNonDecreasingBy}
 use Rattle.ray_shapes.specs.declared.half_line.Interval.{Interval}

@@ -1,7 +1,8 @@
 ghost use Rattle.std.specs.Prelude.{◌≡◌, ℕ, ◌<◌, ◌≤◌, ◌↔◌, ◌&&◌, nat_lt, IsTrue, IfOk, All, length};
 ghost use Rattle.vf_spans.specs.Members.{has};
 ghost use Rattle.ray_grid.specs.Lattice.{IsRay, points_of, point_of};
-ghost use Rattle.ray_shapes.specs.Lines.{position};
+ghost use Rattle.ray_grid.specs.Selects.{Selects};
+ghost use Rattle.ray_shapes.specs.OnLine.{point_on};
 ghost use Rattle.ray_shapes.specs.Planes.{in_body, in_bodies};
 ghost use Rattle.ray_shapes.specs.Parts.{covers, InOrder};
 ghost use Rattle.ray_shapes.specs.Sets.{HoldsPointsOf};
@@ -32,7 +33,7 @@ pub fn body_spans(alloc: Global, bodies: &[Body], grid: &Grid, ray: &Ray) -> Res
 fn part_in(planes: &[Plane], line: &Line) -> Interval
     ensures order { result.lo ≤ result.hi }
     ensures within { result.hi ≤ line.now.points }
-    ensures exact { (l : ℕ) → ((result.lo ≤ l) × (l < result.hi)) ↔ ((l < line.now.points) × IsTrue (in_body planes.now (position line.now.family line.now.first line.now.step l))) }
+    ensures exact { Selects result.lo result.hi (λ l. (l < line.now.points) × IsTrue (in_body planes.now (point_on line.now l))) }
 {
     let mut part = Interval {
         lo: 0,
@@ -50,7 +51,7 @@ fn part_in(planes: &[Plane], line: &Line) -> Interval
 /// The parts of a line that lie in the bodies, those that are not empty.
 fn parts_in(alloc: Global, bodies: &[Body], line: &Line) -> Result<Vec<Interval>, NoMemory>
     ensures within { IfOk result (λ v. All (λ part. part.hi ≤ line.now.points) v.items) }
-    ensures exact { IfOk result (λ v. (l : ℕ) → covers v.items l ≡ (nat_lt l line.now.points && in_bodies bodies.now (position line.now.family line.now.first line.now.step l))) }
+    ensures exact { IfOk result (λ v. (l : ℕ) → covers v.items l ≡ (nat_lt l line.now.points && in_bodies bodies.now (point_on line.now l))) }
 {
     let mut parts = Vec::new(alloc);
     for body in bodies {

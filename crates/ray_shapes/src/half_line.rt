@@ -1,5 +1,6 @@
 ghost use Rattle.std.specs.Prelude.{◌≡◌, ℕ, ◌*◌, ◌<◌, ◌≤◌, ◌↔◌, pos, ◌≤ℤ◌, ◌+ℤ◌, ◌-ℤ◌, ◌*ℤ◌, unsigned_abs, FitsSigned};
 ghost use Rattle.std.specs.Int.{w64};
+ghost use Rattle.ray_grid.specs.Selects.{Selects};
 ghost use Rattle.ray_shapes.specs.Sizes.{IsSmall};
 
 /// Indices from `lo` up to `hi`, `hi` excluded.
@@ -21,7 +22,7 @@ pub fn half_line(start: i64, slope: i64, limit: i64, part: Interval) -> Interval
     requires small_rise { (l : ℕ) → l < part.hi → IsSmall (slope *ℤ pos l) }
     ensures order { result.lo ≤ result.hi }
     ensures within { result.hi ≤ part.hi }
-    ensures exact { (l : ℕ) → ((result.lo ≤ l) × (l < result.hi)) ↔ ((part.lo ≤ l) × (l < part.hi) × ((start +ℤ (slope *ℤ pos l)) ≤ℤ limit)) }
+    ensures exact { Selects result.lo result.hi (λ l. (part.lo ≤ l) × (l < part.hi) × ((start +ℤ (slope *ℤ pos l)) ≤ℤ limit)) }
 {
     let first = value_at(start, slope, part.lo);
     let last = value_at(start, slope, part.hi - 1);

@@ -15,13 +15,13 @@ pub struct Line {
 impl Line {
     ghost use Rattle.std.specs.Prelude.{◌≡◌, ℕ};
     ghost use Rattle.ray_grid.specs.Lattice.{IsRay, points_of, point_of};
-    ghost use Rattle.ray_shapes.specs.Lines.{position};
+    ghost use Rattle.ray_shapes.specs.OnLine.{point_on};
 
     /// The line of a ray of the grid.
     pub fn of(grid: &Grid, ray: &Ray) -> Line
         requires { IsRay grid.now ray.now }
         ensures points { result.points ≡ points_of grid.now ray.now.family }
-        ensures position { (l : ℕ) → position result.family result.first result.step l ≡ point_of grid.now ray.now l }
+        ensures position { (l : ℕ) → point_on result l ≡ point_of grid.now ray.now l }
     {
         Line {
             first: grid.point(ray, 0),

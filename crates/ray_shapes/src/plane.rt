@@ -1,4 +1,5 @@
 ghost use Rattle.std.specs.Prelude.{◌≡◌, ℕ, ◌<◌, ◌≤◌, ◌↔◌, IsTrue, pos, ◌≤ℤ◌, ◌+ℤ◌, ◌*ℤ◌};
+ghost use Rattle.ray_grid.specs.Selects.{Selects};
 ghost use Rattle.ray_shapes.specs.Sizes.{IsSmall};
 
 use crate::half_line::{Interval, half_line};
@@ -14,8 +15,8 @@ pub struct Plane {
     pub d: i64,
 }
 
-/// The left side of a plane along a line: its value at the first point, and its rise from each point
-/// to the next.
+/// The left side of a plane along a line: its value at the first point, and its rise from each
+/// point to the next.
 #[derive(Clone, Copy)]
 pub struct Rise {
     pub start: i64,
@@ -24,15 +25,15 @@ pub struct Rise {
 
 impl Plane {
     ghost use Rattle.ray_shapes.specs.Planes.{value_at, coefficient_of, holds};
-    ghost use Rattle.ray_shapes.specs.Lines.{position};
+    ghost use Rattle.ray_shapes.specs.OnLine.{point_on};
 
     /// The part of an interval of a line's points that the plane holds.
-    pub fn cut(&self, line: &Line, part: Interval) -> Interval
+    pub(crate) fn cut(&self, line: &Line, part: Interval) -> Interval
         requires some { part.lo < part.hi }
         requires within { part.hi ≤ line.now.points }
         ensures order { result.lo ≤ result.hi }
         ensures within { result.hi ≤ part.hi }
-        ensures exact { (l : ℕ) → ((result.lo ≤ l) × (l < result.hi)) ↔ ((part.lo ≤ l) × (l < part.hi) × IsTrue (holds self.now (position line.now.family line.now.first line.now.step l))) }
+        ensures exact { Selects result.lo result.hi (λ l. (part.lo ≤ l) × (l < part.hi) × IsTrue (holds self.now (point_on line.now l))) }
     {
         let rise = self.rise(line);
         half_line(rise.start, rise.slope, self.d, part)
@@ -43,7 +44,7 @@ impl Plane {
     fn rise(&self, line: &Line) -> Rise
         ensures start { IsSmall result.start }
         ensures rise { (l : ℕ) → l < line.now.points → IsSmall (result.slope *ℤ pos l) }
-        ensures value { (l : ℕ) → value_at self.now (position line.now.family line.now.first line.now.step l) ≡ result.start +ℤ (result.slope *ℤ pos l) }
+        ensures value { (l : ℕ) → value_at self.now (point_on line.now l) ≡ result.start +ℤ (result.slope *ℤ pos l) }
     {
         let [x, y, z] = line.first;
         let start = product(self.a, x) + product(self.b, y) + product(self.c, z);

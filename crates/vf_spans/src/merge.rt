@@ -29,7 +29,8 @@ fn next_edge(a: &[u32], i: usize, b: &[u32], j: usize) -> u32
     requires { (i < length a.now) ⊎ (j < length b.now) }
     ensures first { i < length a.now → result ≤ slice_index a.now i }
     ensures second { j < length b.now → result ≤ slice_index b.now j }
-    ensures one_of_them { ((i < length a.now) × (result ≡ slice_index a.now i)) ⊎ ((j < length b.now) × (result ≡ slice_index b.now j)) }
+    ensures one_of_them { ((i < length a.now) × (result ≡ slice_index a.now i))
+        ⊎ ((j < length b.now) × (result ≡ slice_index b.now j)) }
 {
     if i >= a.len() {
         return b[j];

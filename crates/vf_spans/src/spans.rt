@@ -11,8 +11,8 @@ use vf_io::NoMemory;
 /// A set of indices below a bound.
 ///
 /// Its ranges are sorted, disjoint, not adjacent and not empty. They are kept as one ascending list
-/// of edges, the first index of each range and the first one past it, so that two sets with one bound
-/// and the same indices have the same list.
+/// of edges, the first index of each range and the first one past it, so that two sets with one
+/// bound and the same indices have the same list.
 #[derive(Debug, Drop)]
 pub struct Spans {
     bound: u32,
@@ -175,7 +175,8 @@ impl Spans {
 
 /// Whether the last of the edges is at the index.
 fn ends_at(edges: &[u32], index: u32) -> bool
-    ensures { IsTrue result ↔ ((0 < length edges.now) × (slice_index edges.now (length edges.now - 1) ≡ index)) }
+    ensures { let last = length edges.now - 1 in
+        IsTrue result ↔ ((0 < length edges.now) × (slice_index edges.now last ≡ index)) }
 {
     !edges.is_empty() && edges[edges.len() - 1] == index
 }

@@ -1,5 +1,4 @@
-use Rattle.std.proofs.Common.{◌≡◌, ◌∙◌, ap, sym, subst, ℕ, List, IfOk}
-use Rattle.vf_spans.specs.Members.{has}
+use Rattle.std.proofs.Common.{◌∙◌, ap, List}
 use Rattle.ray_shapes.specs.declared.half_line.Interval.{Interval}
 use Rattle.ray_shapes.specs.Lines.{position}
 use Rattle.ray_shapes.specs.Parts.{covers}

@@ -1,7 +1,6 @@
-use Rattle.std.proofs.Common.{◌≡◌, ◌+◌, ◌<◌, ◌≤◌, ◌||◌, ◌&&◌, ◌∙◌, max, leb, ltb, ℕ, get_or, take, length, arith, ap, subst, sym, IsTrue}
+use Rattle.std.proofs.Common.{◌≡◌, ◌<◌, ◌≤◌, ◌||◌, ◌&&◌, ◌∙◌, max, leb, ltb, ℕ, get_or, length, arith, subst}
 use Rattle.vf_spans.specs.Members.{has}
 use Rattle.ray_shapes.specs.declared.half_line.Interval.{Interval}
-use Rattle.ray_shapes.specs.Parts.{covers}
 use Rattle.ray_shapes.proofs.Covering.{held_push, below_push, full_push, read_itself, later}
 use Rattle.ray_shapes.proofs.fill.join.Goals as goal
 

@@ -1,4 +1,4 @@
-use Rattle.std.proofs.Common.{arith, IsTrue}
+use Rattle.std.proofs.Common.{arith}
 use Rattle.ray_shapes.specs.Lines.{position}
 use Rattle.ray_shapes.specs.Planes.{holds}
 use Rattle.ray_shapes.proofs.Covering.{all_first}

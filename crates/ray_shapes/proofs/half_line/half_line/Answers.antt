@@ -1,5 +1,5 @@
 use Rattle.std.proofs.Common.{◌≡◌, ◌↔◌, ◌+◌, ◌-◌, ◌*◌, ◌<◌, ◌≤◌, ℕ, ℤ, pos, ◌+ℤ◌, ◌-ℤ◌, ◌*ℤ◌, ◌≤ℤ◌, unsigned_abs, arith, rules, subst, sym, w64, FitsSigned}
-use Rattle.std.proofs.lemmas.Int.{to_z-of_z, ints}
+use Rattle.std.proofs.lemmas.Int.{to_z-of_z}
 use Rattle.ray_shapes.proofs.Rising.{both_within, both_beyond, rises, falls, told_within, told_beyond, small_sum, small_way}
 use Rattle.ray_shapes.proofs.half_line.half_line.Goals as goal
 

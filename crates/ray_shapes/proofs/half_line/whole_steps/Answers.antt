@@ -1,4 +1,4 @@
-use Rattle.std.proofs.Common.{◌≡◌, ◌-ℤ◌, ◌/◌, ap, ◌∙◌, subst, sym, unsigned_abs, ℕ, ◌≤◌, ◌<◌, ◌↔◌, ◌+ℤ◌, ◌≤ℤ◌, ◌*◌, pos}
+use Rattle.std.proofs.Common.{◌≡◌, ◌-ℤ◌, ◌/◌, subst, sym, unsigned_abs, ℕ, ◌≤◌, ◌↔◌, ◌+ℤ◌, ◌≤ℤ◌, ◌*◌, pos}
 use Rattle.std.proofs.lemmas.Int.{to_z-of_z}
 use Rattle.ray_shapes.proofs.Rising.{steps_fit}
 use Rattle.ray_shapes.proofs.half_line.whole_steps.Goals as goal

@@ -1,4 +1,4 @@
-use Rattle.std.proofs.Common.{◌≡◌, ◌∙◌, ap, subst, sym, ℕ, ℤ, List, rules, w32, FitsSigned}
+use Rattle.std.proofs.Common.{◌∙◌, ap, subst, sym, ℕ, ℤ, List, rules, w32, FitsSigned}
 use Rattle.std.proofs.lemmas.Int.{to_z-of_z}
 use Rattle.ray_grid.specs.Lattice.{points_of, point_of}
 use Rattle.ray_shapes.specs.Lines.{position}

@@ -1,4 +1,4 @@
-use Rattle.std.proofs.Common.{◌≡◌, ◌∙◌, ◌<◌, ap, ap₂, subst, sym, ℕ, ℤ, pos, negsuc, ◌+ℤ◌, ◌*ℤ◌, arith, rules, w32, w64, FitsSigned}
+use Rattle.std.proofs.Common.{◌≡◌, ◌∙◌, ap, ap₂, subst, sym, ℤ, pos, negsuc, ◌+ℤ◌, ◌*ℤ◌, arith, rules, w32, w64, FitsSigned}
 use Rattle.std.proofs.lemmas.Int.{to_z-of_z, ints}
 use Rattle.ray_grid.specs.Ranges.{along, IsWithin}
 use Rattle.ray_shapes.specs.Sizes.{IsSmall}
