@@ -1,4 +1,5 @@
 ghost use Rattle.std.specs.Prelude.{◌≡◌};
+ghost use Rattle.std.specs.Process.{exit_status};
 ghost use Rattle.clverify.specs.Codes.{code_of};
 
 use crate::fault::Fault;
@@ -38,6 +39,8 @@ impl Status {
 }
 
 impl From<Status> for ExitCode {
+    ghost from_gives = { λ status e. exit_status e ≡ code_of status };
+
     fn from(status: Status) -> ExitCode {
         ExitCode::from(status.code())
     }
