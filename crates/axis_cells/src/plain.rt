@@ -78,6 +78,7 @@ fn is_held_out_of_reach(
     requires scale { scale ≤ scale_limit }
     ensures { MatchBool result (HeldAtSample slabs.now sweep.now point.now scale) (¬ HeldAtSample slabs.now sweep.now point.now scale) }
 {
+    // A sweep is valid by its type, which is known where a field of it is seen.
     let _valid = &sweep.from;
     if all_fit_in_reach(slabs, reach) {
         return false;

@@ -20,6 +20,7 @@ pub fn mark_of(sweep: &Sweep, stacks: &Stacks, point: [i32; 3], depth: u32) -> M
     ensures possible { result ≡ Mark.Removed
         → IsPossible (outer_stack stacks.now.cutter stacks.now.slabs) (pos (reach_of stacks.now.cutter)) sweep.now point (2 ^ depth) }
 {
+    // A sweep is valid by its type, which is known where a field of it is seen.
     let _valid = &sweep.from;
     let inner = stacks.inner();
     let outer = stacks.outer();
