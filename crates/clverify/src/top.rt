@@ -30,6 +30,7 @@ pub fn run<S: Shelf, K: Sink>(
     ensures answer { Answers result (due (S.files shelf.old) (command_of (map string_bytes words.now))) (K.written sink.old) (K.written sink.new) }
     // Words that are no command are answered without memory and without a read.
     ensures usage { command_of (map string_bytes words.now) ≡ None → (result ≡ Status.Usage) ⊎ (result ≡ Status.WriteFault) }
+    ensures no_read { command_of (map string_bytes words.now) ≡ None → shelf.new ≡ shelf.old }
     ensures read_fault { result ≡ Status.ReadFault → Rose (S.faults shelf.old) (S.faults shelf.new) }
     ensures write_fault { result ≡ Status.WriteFault → Rose (K.faults sink.old) (K.faults sink.new) }
     // Where no call outside fails, the whole answer comes, but for want of memory.
