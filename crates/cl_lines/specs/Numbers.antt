@@ -1,5 +1,5 @@
 -- What a text stands for as a decimal number, and as a length in micrometres.
-use Rattle.std.specs.Prelude.{ℕ, ℤ, pos, neg_ℤ, int_lt, ◌+◌, ◌-◌, ◌*◌, ◌==◌, ◌||◌, ◌&&◌, nat_le, Bool, true, false, List, [], ◌∷◌, ◌++◌, take, drop, length, Option, Some, None, Result, Ok, Err, if◌then◌else◌}
+use Rattle.std.specs.Prelude.{ℕ, ℤ, pos, neg_ℤ, int_lt, ◌≤ℤ◌, ◌+◌, ◌-◌, ◌*◌, ◌==◌, ◌||◌, ◌&&◌, nat_le, Bool, true, false, List, [], ◌∷◌, ◌++◌, take, drop, length, Option, Some, None, Result, Ok, Err, if◌then◌else◌}
 use Rattle.std.specs.Char.{is_ascii_digit}
 use Rattle.std.specs.List.{prefix_len}
 use Rattle.std.specs.Option.{option_map}
@@ -75,6 +75,14 @@ abbrev pub bounded : ℤ → ℤ → Option ℤ → Result ℤ NumberFault
 bounded least most None = Err Syntax
 bounded least most (Some value) = if int_lt value least || int_lt most value then Err Range else Ok value
 
+-- at least the one bound and at most the other
+abbrev pub IsBetween : ℤ → ℤ → ℤ → Type 0
+IsBetween least most value = (least ≤ℤ value) × (value ≤ℤ most)
+
 -- the length in whole micrometres that a text stands for
 abbrev pub length_of : Unit → ℤ → ℤ → List ℕ → Result ℤ NumberFault
 length_of unit least most text = bounded least most (option_map (whole_of (micrometres unit)) (number_of text))
+
+-- the number in 1/100,000 that a text stands for
+abbrev pub scaled_of : ℤ → ℤ → List ℕ → Result ℤ NumberFault
+scaled_of least most text = bounded least most (option_map (whole_of 100000) (number_of text))

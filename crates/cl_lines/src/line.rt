@@ -1,10 +1,6 @@
 ghost use Rattle.std.specs.Prelude.{◌≡◌, ◌≤◌, length};
-ghost use Rattle.std.specs.List.{list_all};
-ghost use Rattle.cl_lines.specs.Blanks.{is_blank_text};
+ghost use Rattle.cl_lines.specs.Blanks.{is_blank, is_blank_text, without_last_blanks};
 ghost use Rattle.cl_lines.specs.Lines.{line_of, without_last};
-ghost use Rattle.cl_lines.specs.Texts.{is_built, is_built_byte};
-
-use crate::text::MAX_TEXT;
 
 /// A line without its line end: LF, and CR ahead of it or at the end of the bytes.
 pub(crate) fn trim_line_end(piece: &[u8]) -> &[u8]
@@ -25,23 +21,31 @@ fn strip_last(end: u8, bytes: &[u8]) -> &[u8]
     }
 }
 
-/// Whether a line is read so far: short enough, with plain bytes alone and no dollar sign.
-pub(crate) fn is_line_built(line: &[u8]) -> bool
-    ensures { result ≡ is_built line.now }
+/// A text without the blanks at its end.
+pub fn trim_end(text: &[u8]) -> &[u8]
+    ensures text { result.now ≡ without_last_blanks text.now }
+    ensures length { length result.now ≤ length text.now }
 {
-    line.len() <= MAX_TEXT && has_only_built_bytes(line)
-}
-
-/// Whether each byte is a tab, or one from the space to the tilde and no dollar sign.
-fn has_only_built_bytes(line: &[u8]) -> bool
-    ensures { result ≡ list_all is_built_byte line.now }
-{
-    line.iter().all(|b| *b == b'\t' || (b' ' <= *b && *b <= b'~' && *b != b'$'))
+    let mut rest = text;
+    while let Some((last, front)) = rest.split_last() {
+        if !is_blank_byte(*last) {
+            return rest;
+        }
+        rest = front;
+    }
+    rest
 }
 
 /// Whether a text has nothing but blanks.
-pub(crate) fn has_only_blanks(text: &[u8]) -> bool
+pub fn has_only_blanks(text: &[u8]) -> bool
     ensures { result ≡ is_blank_text text.now }
 {
-    text.iter().all(|b| *b == b' ' || *b == b'\t')
+    text.iter().all(|b| is_blank_byte(*b))
+}
+
+/// Whether a byte is a space or a tab.
+pub fn is_blank_byte(b: u8) -> bool
+    ensures { result ≡ is_blank b }
+{
+    b == b' ' || b == b'\t'
 }

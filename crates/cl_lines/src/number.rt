@@ -1,7 +1,7 @@
-ghost use Rattle.std.specs.Prelude.{◌≡◌, ◌+◌, ◌*◌, ◌^◌, ◌<◌, ◌≤◌, length, true, Some, IfSome, option_map};
+ghost use Rattle.std.specs.Prelude.{◌≡◌, ◌+◌, ◌*◌, ◌^◌, ◌<◌, ◌≤◌, length, true, Some, IfOk, IfSome, option_map};
 ghost use Rattle.std.specs.Char.{is_ascii_digit};
 ghost use Rattle.std.specs.List.{list_all, prefix_len};
-ghost use Rattle.cl_lines.specs.Numbers.{signed, digits_of, fraction_of, spelt, small_number_of, power_of, exponent_of, number_of, with_sign, whole_of, bounded, length_of};
+ghost use Rattle.cl_lines.specs.Numbers.{signed, digits_of, fraction_of, spelt, small_number_of, power_of, exponent_of, number_of, with_sign, whole_of, bounded, length_of, scaled_of, IsBetween};
 
 use crate::rounding::rounded;
 
@@ -35,13 +35,22 @@ const MAX_DIGITS: usize = 20;
 
 /// Reads a length and rounds it to whole micrometres, halves away from zero.
 pub fn read_length(text: &[u8], unit: Unit, least: i32, most: i32) -> Result<i32, NumberFault>
-    ensures { result ≡ length_of unit least most text.now }
+    ensures length { result ≡ length_of unit least most text.now }
+    ensures range { IfOk result (IsBetween least most) }
 {
     let factor = match unit {
         Unit::Mm => 1_000,
         Unit::Inch => 25_400,
     };
     bounded_number(number(text), factor, least, most)
+}
+
+/// Reads a number and rounds it to 1/100,000, halves away from zero.
+pub fn read_scaled(text: &[u8], least: i32, most: i32) -> Result<i32, NumberFault>
+    ensures number { result ≡ scaled_of least most text.now }
+    ensures range { IfOk result (IsBetween least most) }
+{
+    bounded_number(number(text), 100_000, least, most)
 }
 
 /// The number times a factor, rounded, where it lies between the bounds.
@@ -53,7 +62,8 @@ fn bounded_number(
 ) -> Result<i32, NumberFault>
     requires digits { IfSome number (λ n. n.digits < 10 ^ 20) }
     requires factor { factor ≤ 100000 }
-    ensures { result ≡ bounded least most (option_map (whole_of factor) number) }
+    ensures value { result ≡ bounded least most (option_map (whole_of factor) number) }
+    ensures range { IfOk result (IsBetween least most) }
 {
     let Some(number) = number else {
         return Err(NumberFault::Syntax);
@@ -78,7 +88,8 @@ fn signed_size(negative: bool, size: u128) -> i64
 
 /// A value, where it lies between the bounds.
 fn within(value: i64, least: i32, most: i32) -> Result<i32, NumberFault>
-    ensures { result ≡ bounded least most (Some value) }
+    ensures value { result ≡ bounded least most (Some value) }
+    ensures range { IfOk result (IsBetween least most) }
 {
     if value < i64::from(least) || value > i64::from(most) {
         Err(NumberFault::Range)

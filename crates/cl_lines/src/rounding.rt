@@ -46,6 +46,24 @@ fn lowered(n: u128, down: u32) -> u128
     if down > LARGEST_DIVISOR {
         return 0;
     }
+    if n <= SHORT_NUMBER && down <= SHORT_POWER {
+        return lowered_short(n as u64, down) as u128;
+    }
     let power = 10u128.pow(down);
     (2 * n + power) / (2 * power)
+}
+
+/// Up to here a number and a power of ten are divided in 64 bits, which is faster.
+const SHORT_NUMBER: u128 = 4_000_000_000_000_000_000;
+
+const SHORT_POWER: u32 = 18;
+
+/// The same in 64 bits.
+fn lowered_short(n: u64, down: u32) -> u64
+    requires n { n ≤ 4000000000000000000 }
+    requires down { down ≤ SHORT_POWER }
+    ensures { result ≡ nearest n (10 ^ down) }
+{
+    let divisor = 10u64.pow(down);
+    (2 * n + divisor) / (2 * divisor)
 }

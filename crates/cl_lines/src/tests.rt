@@ -1,4 +1,6 @@
 use super::*;
+use std::alloc::Global;
+use std::process::Abort;
 use std::test::*;
 
 /// A row of the table of lengths: the text, its unit, and the length or the fault that is due.
@@ -76,49 +78,135 @@ fn lengths(rt: HostRuntime) {
     );
 }
 
+/// Numbers from -1 to 1 in 1/100,000, as exact fractions give them.
+const SCALED: [(&str, Result<i32, NumberFault>); 10] = [
+    ("0.9848078", Ok(98_481)),
+    ("0.1736482", Ok(17_365)),
+    ("-0.000005", Ok(-1)),
+    ("0.000005", Ok(1)),
+    ("0.0000049999999999999", Ok(0)),
+    ("1E-5", Ok(1)),
+    ("1.0000049", Ok(100_000)),
+    ("1.000005", Err(NumberFault::Range)),
+    ("-1.000005", Err(NumberFault::Range)),
+    ("1,0", Err(NumberFault::Syntax)),
+];
+
 #[test]
-fn texts(rt: HostRuntime) -> Result<(), Fail> {
-    let bytes = b"GOTO/1,2,3\n\n \t\r\n fini \r\nA\r\n$\nB\r";
-    let mut lines = Lines::new(rt.alloc(), bytes);
-    for (line, due) in [(1, "GOTO/1,2,3"), (4, " fini "), (5, "A")] {
+fn scaled_numbers(rt: HostRuntime) {
+    for (text, due) in SCALED {
+        let read = read_scaled(text.as_bytes(), -100_000, 100_000);
+        assert_eq!(rt; read, due, "the number {text}");
+    }
+}
+
+/// Bytes, the texts that they stand for with their lines, and the fault that stands behind those.
+type Texts = (
+    &'static [u8],
+    &'static [(u32, &'static [u8])],
+    Option<(u32, ClWhy)>,
+);
+
+/// The texts of bytes, up to their end or to the fault behind them. A refusal stands again at the next call, since nothing
+/// has changed.
+fn read(
+    rt: &impl Abort,
+    alloc: Global,
+    bytes: &[u8],
+    texts: &[(u32, &[u8])],
+    fault: Option<(u32, ClWhy)>,
+) -> Result<(), Fail> {
+    assert!(rt; bytes.len() <= MAX_BYTES);
+    let mut lines = Lines::new(alloc, bytes);
+    for (line, due) in texts {
         let text = lines.next_text()?.ok_or("a text is left")?;
-        assert_eq!(rt; text.line, line, "the line of {due}");
-        assert_eq!(rt;
-            text.bytes.as_slice(),
-            due.as_bytes(),
-            "the text on line {line}"
-        );
+        assert_eq!(rt; text.line, *line, "the line of {due:?}");
+        assert_eq!(rt; text.bytes.as_slice(), *due, "the text {due:?}");
     }
     for _ in 0..2 {
-        assert_eq!(rt;
-            lines.next_text().err(),
-            Some(refused(6)),
-            "the dollar sign"
-        );
+        match fault {
+            None => assert!(rt; lines.next_text()?.is_none(), "behind {bytes:?}"),
+            Some((line, why)) => assert_eq!(rt;
+                lines.next_text().err(),
+                Some(ClEnd::refused(line, why)),
+                "behind {bytes:?}"
+            ),
+        }
     }
     Ok(())
 }
 
-/// The refusal of a line that is not read yet.
-fn refused(line: u32) -> ClEnd {
-    ClEnd::Refused(ClFault {
-        line,
-        why: ClWhy::NotBuilt,
-    })
+#[test]
+fn texts(rt: HostRuntime) -> Result<(), Fail> {
+    let dangling = |line| Some((line, ClWhy::DanglingDollar));
+    let rows: [Texts; 23] = [
+        (b"", &[], None),
+        (b"\n\r\n \t\n\r", &[], None),
+        (b"A", &[(1, b"A")], None),
+        (b"\nA\r", &[(2, b"A")], None),
+        (b"A\rB\r\r\nC\n", &[(1, b"A\rB\r"), (2, b"C")], None),
+        (b"\xff\0\n fini ", &[(1, b"\xff\0"), (2, b" fini ")], None),
+        (b"GOTO/1,2,3 $$ near\n", &[(1, b"GOTO/1,2,3 ")], None),
+        (b"$$ all\nA", &[(2, b"A")], None),
+        (
+            b"GO$\nTO/1,2$ $$ far\n,3\nB",
+            &[(1, b"GOTO/1,2,3"), (4, b"B")],
+            None,
+        ),
+        (b"A $ \t\n  B", &[(1, b"A   B")], None),
+        (b"A$B\n", &[(1, b"A$B")], None),
+        (b"A$$$\nB", &[(1, b"A"), (2, b"B")], None),
+        (b"A$ $\nB", &[(1, b"A$ B")], None),
+        (b"A$\r\nB", &[(1, b"AB")], None),
+        (b"A$\n$$ c\nB", &[(1, b"A"), (3, b"B")], None),
+        (b"$\n $\n\nB", &[(4, b"B")], None),
+        (b"A$\n\r", &[(1, b"A")], None),
+        (b"A$\n\n", &[(1, b"A")], None),
+        (b"A$", &[], dangling(1)),
+        (b"A$\n", &[], dangling(1)),
+        (b"B\nA$\r\n$\r", &[(1, b"B")], dangling(2)),
+        (b" $ $$ c", &[], dangling(1)),
+        (b"A$$\n$", &[(1, b"A")], dangling(2)),
+    ];
+    for (bytes, texts, fault) in rows {
+        read(&rt, rt.alloc(), bytes, texts, fault)?;
+    }
+    Ok(())
 }
 
+/// Texts of 4,096 and of 4,097 bytes: blanks count, a comment and the dollar sign that continues the record don't.
 #[test]
-fn ends_of_texts(rt: HostRuntime) -> Result<(), Fail> {
-    for (bytes, due) in [
-        ("", None),
-        ("\n\r\n \t\n\r", None),
-        ("A", Some(1)),
-        ("\nA\r", Some(2)),
-    ] {
+fn longest_texts(rt: HostRuntime) -> Result<(), Fail> {
+    let rows: [(usize, &[u8], Option<ClWhy>); 8] = [
+        (4_096, b"", None),
+        (4_096, b"\r\n", None),
+        (4_096, b"$$ a comment", None),
+        (4_095, b"$\n \n", None),
+        (4_097, b"", Some(ClWhy::LineLong)),
+        (4_096, b"$\n ", Some(ClWhy::LineLong)),
+        (4_096, b"$", Some(ClWhy::DanglingDollar)),
+        (4_097, b"$", Some(ClWhy::LineLong)),
+    ];
+    for (count, end, why) in rows {
+        let mut bytes = Vec::new(rt.alloc());
+        bytes.extend_from_slice(b"A\n")?;
+        for _ in 0..count {
+            bytes.push(b'B')?;
+        }
+        bytes.extend_from_slice(end)?;
         assert!(rt; bytes.len() <= MAX_BYTES);
-        let mut lines = Lines::new(rt.alloc(), bytes.as_bytes());
-        let text = lines.next_text()?;
-        assert_eq!(rt; text.map(|t| t.line), due, "the first text of {bytes:?}");
+        let mut lines = Lines::new(rt.alloc(), &bytes);
+        lines.next_text()?;
+        let read = lines.next_text();
+        assert_eq!(rt;
+            read.as_ref().err().copied(),
+            why.map(|why| ClEnd::refused(2, why)),
+            "{count} bytes and {end:?}"
+        );
+        if why.is_none() {
+            let text = read?.ok_or("a text is left")?;
+            assert_eq!(rt; text.bytes.len(), 4_096, "{count} bytes and {end:?}");
+        }
     }
     Ok(())
 }

@@ -3,11 +3,11 @@ ghost use Rattle.cl_lines.specs.Lines.{lines_of};
 ghost use Rattle.cl_lines.specs.Next.{next_of, Ends};
 ghost use Rattle.cl_lines.specs.Texts.{texts_of};
 
-use crate::fault::{ClEnd, ClFault, ClWhy};
-use crate::line::{has_only_blanks, is_line_built, trim_line_end};
+use crate::fault::{ClEnd, ClWhy};
+use crate::join::{JoinEnd, join_lines};
+use crate::line::has_only_blanks;
 use std::alloc::Global;
 use std::marker::Model;
-use vf_io::split_line;
 
 /// The most bytes of a record text.
 pub const MAX_TEXT: usize = 4096;
@@ -47,7 +47,8 @@ impl<'a> Lines<'a> {
     /// A reader at the front of the bytes.
     pub fn new(alloc: Global, bytes: &'a [u8]) -> Lines<'a>
         requires { length bytes.now ≤ MAX_BYTES }
-        ensures { result ≡ texts_of bytes.now }
+        ensures texts { result ≡ texts_of bytes.now }
+        ensures few { length result ≤ length bytes.now }
     {
         Lines {
             rest: bytes,
@@ -84,27 +85,20 @@ impl<'a> Lines<'a> {
         ensures { MatchResult result (λ n. next_of self.old ≡ Ok (option_map (λ line. (line, room.new.items)) n, self.new)) (Ends self.old self.new) }
     {
         while !self.rest.is_empty() {
-            let (piece, behind) = split_line(self.rest);
-            let line = trim_line_end(piece);
-            if !is_line_built(line) {
-                return Err(ClEnd::Refused(ClFault {
-                    line: self.line,
-                    why: ClWhy::NotBuilt,
-                }));
-            }
             let number = self.line;
-            if has_only_blanks(line) {
-                self.rest = behind;
-                self.line += 1;
-                continue;
+            let joined = match join_lines(self.rest, number, room) {
+                Ok(joined) => joined,
+                Err(JoinEnd::TooLong) => return Err(ClEnd::refused(number, ClWhy::LineLong)),
+                Err(JoinEnd::NoMemory) => return Err(ClEnd::NoMemory),
+            };
+            if joined.dangling {
+                return Err(ClEnd::refused(number, ClWhy::DanglingDollar));
             }
-            room.clear();
-            if room.extend_from_slice(line).is_err() {
-                return Err(ClEnd::NoMemory);
+            self.rest = joined.behind;
+            self.line = joined.line;
+            if !has_only_blanks(room) {
+                return Ok(Some(number));
             }
-            self.rest = behind;
-            self.line += 1;
-            return Ok(Some(number));
         }
         Ok(None)
     }

@@ -1,1 +1,4 @@
+pub mod Axes
+pub mod Fold
+pub mod Moves
 pub mod Program

@@ -1,53 +1,86 @@
 -- The program that a cutter location text stands for: its records folded into moves, or its first fault.
-use Rattle.std.specs.Prelude.{◌≡◌, ℕ, ℤ, pos, nat_lt, false, List, [], ◌∷◌, ◌++◌, length, unwrap_or, Option, Some, None, Result, Ok, Err, if◌then◌else◌}
+use Rattle.std.specs.Prelude.{◌≡◌, ℕ, ◌+◌, ℤ, pos, neg_ℤ, ◌+ℤ◌, int_lt, nat_lt, ◌&&◌, not, Bool, true, false, List, [], ◌∷◌, ◌++◌, length, unwrap_or, Option, Some, None, Result, Ok, Err, if◌then◌else◌}
+use Rattle.std.specs.List.{list_all}
+use Rattle.bern_form.specs.Forms.{at}
 use Rattle.cl_lines.specs.Texts.{Numbered, texts_of}
 use Rattle.cl_lines.specs.declared.fault.ClFault.{ClFault}
 use Rattle.cl_lines.specs.declared.fault.ClEnd.{ClEnd}
 use Rattle.cl_lines.specs.declared.fault.ClEnd.TheVariants.{Refused, NoMemory}
 use Rattle.cl_lines.specs.declared.fault.ClWhy.{ClWhy}
-use Rattle.cl_lines.specs.declared.fault.ClWhy.TheVariants.{TooManyMoves}
+use Rattle.cl_lines.specs.declared.fault.ClWhy.TheVariants.{NumberRange, NoPosition, AxisFlip, TooManyMoves}
+use Rattle.cl_lines.specs.declared.number.Unit.TheVariants.{Mm}
 use Rattle.cl_records.specs.Records.{records_of}
 use Rattle.cl_records.specs.declared.statement.Record.{Record}
-use Rattle.cl_records.specs.declared.statement.Record.TheVariants.{Goto, From, Fini}
+use Rattle.cl_records.specs.declared.statement.Record.TheVariants.{Goto, From, Delta, Cutter, Multax, Units, Rapid, Fini, Passed}
+use Rattle.cl_moves.specs.Axes.{upright, are_opposite}
 use Rattle.cl_moves.specs.declared.moves.Move.{Move}
 use Rattle.cl_moves.specs.declared.program.Program.{Program}
 use Rattle.cl_moves.specs.declared.fold.Fold.{Fold}
 use Rattle.cl_moves.specs.declared.moves.TheConstants.{MAX_MOVES}
 
--- the tool axis at the start: along z
-abbrev pub upright : List ℤ
-upright = pos 0 ∷ pos 0 ∷ pos 100000 ∷ []
-
--- at the start no position is known, and there are no moves
+-- at the start no position is known, the axis is along z, there is no cutter, no RAPID waits, and nothing was made or passed over
 abbrev pub start : Fold
-start = record { position = None; axis = upright; moves = [] }
+start = record { position = None; axis = upright; cutter = None; rapid = false; passed = 0; moves = [] }
 
--- the position and the axis that a record sets: without an axis of its own it keeps the one before
-abbrev pub placed : List ℤ → Option (List ℤ) → Fold → Fold
-placed tip axis fold = record fold { position = Some tip; axis = unwrap_or axis fold.axis }
+-- the tool stands at a position with an axis
+abbrev pub placed : List ℤ → List ℤ → Fold → Fold
+placed tip axis fold = record fold { position = Some tip; axis = axis }
 
--- a cutting move from one position and axis to another, on the line of its record
-abbrev pub cut : ℕ → List ℤ → List ℤ → List ℤ → List ℤ → Move
-cut line from to axis_from axis_to =
-    record { line = line; rapid = false; from = from; to = to; axis_from = axis_from; axis_to = axis_to; cutter = None }
+-- it has come there: a RAPID that waited is used up
+abbrev pub arrived : List ℤ → List ℤ → Fold → Fold
+arrived tip axis fold = record fold { position = Some tip; axis = axis; rapid = false }
 
--- a move to a position, where one is known: with none known it is set and no move is made
-abbrev pub moved : ℕ → List ℤ → Option (List ℤ) → Option (List ℤ) → Fold → Result Fold ClWhy
-moved line tip axis None fold = Ok (placed tip axis fold)
-moved line tip axis (Some from) fold =
-    if nat_lt (length fold.moves) MAX_MOVES
-    then Ok (record (placed tip axis fold) { moves = fold.moves ++ cut line from tip fold.axis (unwrap_or axis fold.axis) ∷ [] })
-    else Err TooManyMoves
+-- the move from where the tool stands to a position and an axis, on the line of its record
+abbrev pub move_to : ℕ → List ℤ → List ℤ → List ℤ → Fold → Move
+move_to line from tip axis fold =
+    record { line = line; rapid = fold.rapid; from = from; to = tip; axis_from = fold.axis; axis_to = axis; cutter = fold.cutter }
+
+-- that move is made, unless its axes are opposite or there are as many moves as may be
+abbrev pub moved : ℕ → List ℤ → List ℤ → List ℤ → Fold → Result Fold ClWhy
+moved line from tip axis fold =
+    if are_opposite fold.axis axis then Err AxisFlip
+    else (if nat_lt (length fold.moves) MAX_MOVES
+    then Ok (record (arrived tip axis fold) { moves = fold.moves ++ move_to line from tip axis fold ∷ [] })
+    else Err TooManyMoves)
+
+-- GOTO makes a move where a position is known; with none known it sets it and makes none
+abbrev pub gone_to : ℕ → List ℤ → List ℤ → Option (List ℤ) → Fold → Result Fold ClWhy
+gone_to line tip axis None fold = Ok (arrived tip axis fold)
+gone_to line tip axis (Some from) fold = moved line from tip axis fold
+
+-- the position at a distance from another
+abbrev pub sum : List ℤ → List ℤ → List ℤ
+sum from by = (at from 0 +ℤ at by 0) ∷ (at from 1 +ℤ at by 1) ∷ (at from 2 +ℤ at by 2) ∷ []
+
+-- a coordinate within a metre of the origin
+abbrev pub is_coordinate : ℤ → Bool
+is_coordinate z = not (int_lt z (neg_ℤ (pos 1000000))) && not (int_lt (pos 1000000) z)
+
+-- GODLTA moves by a distance from a known position, with the axis kept
+abbrev pub gone_by : ℕ → List ℤ → Option (List ℤ) → Fold → Result Fold ClWhy
+gone_by line by None fold = Err NoPosition
+gone_by line by (Some from) fold =
+    if list_all is_coordinate (sum from by) then moved line from (sum from by) fold.axis fold else Err NumberRange
+
+-- MULTAX/OFF sets the axis upright and makes no move
+abbrev pub multaxed : Bool → Fold → Fold
+multaxed on fold = if on then fold else record fold { axis = upright }
 
 -- what one record does
 abbrev pub step : ℕ → Record → Fold → Result Fold ClWhy
-step line (Goto tip axis) fold = moved line tip axis fold.position fold
-step line (From tip axis) fold = Ok (placed tip axis fold)
+step line (Goto tip axis) fold = gone_to line tip (unwrap_or axis fold.axis) fold.position fold
+step line (From tip axis) fold = Ok (placed tip (unwrap_or axis fold.axis) fold)
+step line (Delta by) fold = gone_by line by fold.position fold
+step line (Cutter cutter) fold = Ok (record fold { cutter = Some cutter })
+step line (Multax on) fold = Ok (multaxed on fold)
+step line (Units unit) fold = Ok fold
+step line Rapid fold = Ok (record fold { rapid = true })
 step line Fini fold = Ok fold
+step line Passed fold = Ok (record fold { passed = fold.passed + 1 })
 
 -- the program of the moves that were made
 abbrev pub finished : Fold → Program
-finished fold = record { moves = fold.moves; passed = 0 }
+finished fold = record { moves = fold.moves; passed = fold.passed }
 
 -- the rest goes on from what one record did, and a fault has that record's line
 abbrev pub continued : ℕ → Result Fold ClWhy → (Fold → Result Program ClFault) → Result Program ClFault
@@ -62,7 +95,7 @@ folded ((line, Ok record_) ∷ records) fold = continued line (step line record_
 
 -- the program of a whole text, or its first fault
 abbrev pub program_of : List ℕ → Result Program ClFault
-program_of bytes = folded (records_of (texts_of bytes)) start
+program_of bytes = folded (records_of Mm (texts_of bytes)) start
 
 -- a refusal is the first fault; want of memory is free
 abbrev pub EndsRead : Result Program ClFault → ClEnd → Type 0

@@ -1,11 +1,14 @@
 //! The moves of a cutter location text.
 #![tactic(auto)]
 
+mod axes;
 mod fold;
 mod moves;
+mod positions;
 mod program;
 
-pub use moves::{CutterText, MAX_MOVES, Move, Moves};
+pub use cl_records::CutterText;
+pub use moves::{MAX_MOVES, Move, Moves};
 pub use program::{Program, read_program};
 
 #[cfg(test)]

@@ -1,20 +1,12 @@
-ghost use Rattle.std.specs.Prelude.{◌≡◌, [], ◌∷◌, ◌++◌, length, IsTrue, ◌↔◌, OnOk, OnErr};
+ghost use Rattle.std.specs.Prelude.{◌≡◌, [], ◌∷◌, ◌++◌, length, IsTrue, ◌↔◌, IfOk, OnOk, OnErr};
 
+use cl_records::CutterText;
 use std::alloc::Global;
 use std::marker::Model;
 use vf_io::NoMemory;
 
 /// The most moves of a program.
 pub const MAX_MOVES: usize = 50_000;
-
-/// A cutter as the text gives it, in micrometres: its diameter, its corner radius, and its height
-/// where one is given.
-#[derive(Clone, Copy, Debug, PartialEq, Eq)]
-pub struct CutterText {
-    pub d: i32,
-    pub r: i32,
-    pub h: Option<i32>,
-}
 
 /// A move of the tool, on the line of its record. Tips are in micrometres, axes in 1/100,000. Tip and
 /// axis are linear in time from one end to the other.
@@ -51,6 +43,16 @@ impl Moves {
     {
         Moves {
             items: Vec::new(alloc),
+        }
+    }
+
+    /// No moves, with room for so many.
+    pub(crate) fn with_room(alloc: Global, room: usize) -> Result<Moves, NoMemory>
+        ensures { IfOk result (λ moves. moves ≡ []) }
+    {
+        match Vec::with_capacity(alloc, room) {
+            Ok(items) => Ok(Moves { items }),
+            Err(_) => Err(NoMemory),
         }
     }
 

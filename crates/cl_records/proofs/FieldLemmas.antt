@@ -1,10 +1,9 @@
--- Where a field ends, and the blanks at its end.
-use Rattle.std.proofs.Common.{◌≡◌, ℕ, zero, suc, ◌+◌, ◌<◌, ◌++◌, List, [], ◌∷◌, length, take, drop, cond, eqb, true, false, arith, refl, ap, add-one}
+-- Where a field ends, and how many there are.
+use Rattle.std.proofs.Common.{◌≡◌, ℕ, zero, suc, ◌+◌, ◌<◌, ◌≤◌, List, [], ◌∷◌, length, take, drop, cond, eqb, get_or, true, false, arith, refl, sym, ap, ◌∙◌, ◌≢◌, add-one, drop-cons, eq-eqb, ne_eqb}
 use Rattle.std.proofs.lemmas.Bool.{false_from_ne_true}
 use Rattle.vf_io.specs.Pieces.{lead}
 use Rattle.memchr.specs.Find.{Nowhere, Passes, is_byte}
-use Rattle.cl_lines.specs.Blanks.{is_blank}
-use Rattle.cl_records.specs.Parameters.{fields_of, unless_last_blank, without_last_blanks}
+use Rattle.cl_records.specs.Parameters.{fields_of}
 
 -- a text whose first comma stands at the place n
 pub fields_of-at : (bytes : List ℕ) (n : ℕ) → Nowhere (Passes (is_byte 44) bytes) 0 n → n < length bytes → Passes (is_byte 44) bytes n → fields_of bytes ≡ take n bytes ∷ fields_of (drop (n + 1) bytes)
@@ -23,17 +22,6 @@ fields_of-none (b ∷ bytes) none =
     let other = false_from_ne_true (eqb b 44) (none 0 (omega arith) (omega arith)) in
     rw (other, later) refl
 
--- a blank at the end goes away
-pub without_last_blanks-blank : (front : List ℕ) (last : ℕ) → is_blank last ≡ true → without_last_blanks (front ++ last ∷ []) ≡ without_last_blanks front
-without_last_blanks-blank [] last blank = rw blank refl
-without_last_blanks-blank (b ∷ front) last blank = ap (unless_last_blank b) (without_last_blanks-blank front last blank)
-
--- a text that ends in no blank stays
-pub without_last_blanks-other : (front : List ℕ) (last : ℕ) → is_blank last ≡ false → without_last_blanks (front ++ last ∷ []) ≡ front ++ last ∷ []
-without_last_blanks-other [] last other = rw other refl
-without_last_blanks-other (b ∷ []) last other = ap (unless_last_blank b) (without_last_blanks-other [] last other)
-without_last_blanks-other (b ∷ c ∷ front) last other = ap (unless_last_blank b) (without_last_blanks-other (c ∷ front) last other)
-
 some-lead : (b : ℕ) (fields : List (List ℕ)) → 0 < length (lead b fields)
 some-lead b [] = omega arith
 some-lead b (field ∷ fields) = omega arith
@@ -46,3 +34,33 @@ fields_of-some (b ∷ bytes) =
       | true ↦ omega arith
       | false ↦ some-lead b (fields_of bytes)
     ]
+
+length-lead : (b : ℕ) (fields : List (List ℕ)) → 0 < length fields → length (lead b fields) ≡ length fields
+length-lead b [] some = absurd (omega arith)
+length-lead b (field ∷ fields) some = refl
+
+fields_of-comma : (b : ℕ) (bytes : List ℕ) → eqb b 44 ≡ true → length (fields_of (b ∷ bytes)) ≡ length (fields_of bytes) + 1
+fields_of-comma b bytes comma = rw comma (omega arith)
+
+fields_of-other : (b : ℕ) (bytes : List ℕ) → eqb b 44 ≡ false → length (fields_of (b ∷ bytes)) ≡ length (fields_of bytes)
+fields_of-other b bytes other = rw other (length-lead b (fields_of bytes) (fields_of-some bytes))
+
+-- the commas ahead of the place i and the fields from there on are all the fields
+pub record Commas (text : List ℕ) (i commas : ℕ) : Type 0 where
+  pub few : commas ≤ i
+  pub same : commas + length (fields_of (drop i text)) ≡ length (fields_of text)
+
+cut : (text : List ℕ) (i : ℕ) → i < length text → length (fields_of (drop i text)) ≡ length (fields_of (get_or text i 0 ∷ drop (i + 1) text))
+cut text i within = ap (λ l. length (fields_of l)) (drop-cons text i 0 within ∙ ap (λ k. get_or text i 0 ∷ drop k text) (sym (add-one i)))
+
+pub Commas-comma : (text : List ℕ) (i commas : ℕ) → i < length text → get_or text i 0 ≡ 44 → Commas text i commas → Commas text (i + 1) (commas + 1)
+Commas-comma text i commas within comma so_far = record {
+  few = omega (arith, so_far.few);
+  same = omega (arith, so_far.same, cut text i within, fields_of-comma (get_or text i 0) (drop (i + 1) text) (eq-eqb (get_or text i 0) 44 comma));
+}
+
+pub Commas-other : (text : List ℕ) (i commas : ℕ) → i < length text → (get_or text i 0 ≢ 44) → Commas text i commas → Commas text (i + 1) commas
+Commas-other text i commas within other so_far = record {
+  few = omega (arith, so_far.few);
+  same = omega (arith, so_far.same, cut text i within, fields_of-other (get_or text i 0) (drop (i + 1) text) (ne_eqb (get_or text i 0) 44 other));
+}

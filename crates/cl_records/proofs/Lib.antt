@@ -1,2 +1,7 @@
+pub mod FewLemmas
 pub mod FieldLemmas
-pub mod PointLemmas
+pub mod PlainLemmas
+pub mod PositionLemmas
+pub mod SizeLemmas
+pub mod ValueLemmas
+pub mod WordLemmas

@@ -1,3 +1,6 @@
+pub mod Cutters
 pub mod Parameters
+pub mod Ranges
 pub mod Records
+pub mod Values
 pub mod Words

@@ -1,71 +1,169 @@
 -- The record that a text stands for, or its first fault, and the records of a list of texts.
-use Rattle.std.specs.Prelude.{ℕ, ℤ, pos, neg_ℤ, ◌==◌, Bool, true, false, List, [], ◌∷◌, map, length, Option, Some, None, Result, Ok, Err, if◌then◌else◌}
-use Rattle.std.specs.List.{list_any}
-use Rattle.std.specs.Result.{result_unwrap_or}
-use Rattle.cl_lines.specs.Numbers.{length_of}
+use Rattle.std.specs.Prelude.{ℕ, ℤ, pos, ◌==◌, ◌||◌, ◌&&◌, nat_le, Bool, true, false, List, [], ◌∷◌, length, codes, Option, Some, None, Result, Ok, Err, if◌then◌else◌}
+use Rattle.std.specs.List.{list_all}
+use Rattle.std.specs.Ordering.{int_eq}
+use Rattle.std.specs.Str.{str_eq_ignore_ascii_case}
+use Rattle.bern_form.specs.Forms.{at}
 use Rattle.cl_lines.specs.Texts.{Numbered}
 use Rattle.cl_lines.specs.declared.fault.ClWhy.{ClWhy}
-use Rattle.cl_lines.specs.declared.fault.ClWhy.TheVariants.{NotBuilt, NumberSyntax, NumberRange}
-use Rattle.cl_lines.specs.declared.number.Unit.TheVariants.{Mm}
-use Rattle.cl_lines.specs.declared.number.NumberFault.{NumberFault}
-use Rattle.cl_lines.specs.declared.number.NumberFault.TheVariants.{Syntax, Range}
-use Rattle.cl_records.specs.Parameters.{parameters_of}
+use Rattle.cl_lines.specs.declared.fault.ClWhy.TheVariants.{BadByte, Unsupported, ParamCount, ParamWord, AxisZero}
+use Rattle.cl_lines.specs.declared.number.Unit.{Unit}
+use Rattle.cl_lines.specs.declared.number.Unit.TheVariants.{Mm, Inch}
+use Rattle.cl_lines.specs.declared.word.Word.{Word}
+use Rattle.cl_lines.specs.declared.word.Word.TheVariants as refused
+use Rattle.cl_records.specs.Cutters.{cutter_of}
+use Rattle.cl_records.specs.Parameters.{parameters_of, only_of}
+use Rattle.cl_records.specs.Values.{reads_of, values_of}
 use Rattle.cl_records.specs.Words.{word_of, behind_word, major_of}
+use Rattle.cl_records.specs.declared.kind.TheConstants.{POSITION_KINDS, DELTA_KINDS, CUTTER_KINDS}
+use Rattle.cl_records.specs.declared.statement.Position.{Position}
 use Rattle.cl_records.specs.declared.statement.Record.{Record}
 use Rattle.cl_records.specs.declared.statement.Record.TheVariants as records
+use Rattle.cl_records.specs.declared.word.Keyword.{Keyword}
+use Rattle.cl_records.specs.declared.word.Keyword.TheVariants as keywords
 use Rattle.cl_records.specs.declared.word.Major.{Major}
-use Rattle.cl_records.specs.declared.word.Major.TheVariants as majors
+use Rattle.cl_records.specs.declared.word.Major.TheVariants.{Read, Refused, Passed}
 
--- a coordinate lies within a metre of the origin
-abbrev pub coordinate_of : List ℕ → Result ℤ NumberFault
-coordinate_of text = length_of Mm (neg_ℤ (pos 1000000)) (pos 1000000) text
+-- a tab, or a byte from the space to the tilde
+abbrev pub is_plain : ℕ → Bool
+is_plain b = b == 9 || (nat_le 32 b && nat_le b 126)
 
--- the text was no number
-abbrev pub is_no_number : Result ℤ NumberFault → Bool
-is_no_number (Err Syntax) = true
-is_no_number _ = false
+-- the word parameter that a text is, whatever its case
+abbrev pub is_word : List ℕ → List ℕ → Bool
+is_word text word = str_eq_ignore_ascii_case text word
 
--- the number was out of its range
-abbrev pub is_out_of_range : Result ℤ NumberFault → Bool
-is_out_of_range (Err Range) = true
-is_out_of_range _ = false
+-- what follows where what stands ahead of it has no fault
+abbrev pub and_then : {A B : Type 0} → Result A ClWhy → (A → Result B ClWhy) → Result B ClWhy
+and_then (Ok x) next = next x
+and_then (Err why) next = Err why
 
--- the values of numbers that were read: a parameter that is no number comes ahead of one out of range
-abbrev pub values_of : List (Result ℤ NumberFault) → Result (List ℤ) ClWhy
-values_of reads =
-    if list_any is_no_number reads then Err NumberSyntax
-    else (if list_any is_out_of_range reads then Err NumberRange
-    else Ok (map (λ read. result_unwrap_or read (pos 0)) reads))
+-- all three components of an axis are 0
+abbrev pub is_zero : List ℤ → Bool
+is_zero axis = int_eq (at axis 0) (pos 0) && (int_eq (at axis 1) (pos 0) && int_eq (at axis 2) (pos 0))
 
--- three parameters are a point
-abbrev pub point_of : Option (List (List ℕ)) → Result (List ℤ) ClWhy
-point_of None = Err NotBuilt
-point_of (Some parameters) = if length parameters == 3 then values_of (map coordinate_of parameters) else Err NotBuilt
+-- a tip with an axis, which isn't zero
+abbrev pub with_axis : List ℤ → List ℤ → Result Position ClWhy
+with_axis tip axis = if is_zero axis then Err AxisZero else Ok (record { tip = tip; axis = Some axis })
 
--- the record of a point that was read
-abbrev pub at_point : (List ℤ → Record) → Result (List ℤ) ClWhy → Result Record ClWhy
-at_point make (Ok tip) = Ok (make tip)
-at_point make (Err why) = Err why
+-- three coordinates, with three components of an axis behind them or none
+abbrev pub position_of : List ℤ → Result Position ClWhy
+position_of (x ∷ y ∷ z ∷ []) = Ok (record { tip = x ∷ y ∷ z ∷ []; axis = None })
+position_of (x ∷ y ∷ z ∷ i ∷ j ∷ k ∷ []) = with_axis (x ∷ y ∷ z ∷ []) (i ∷ j ∷ k ∷ [])
+position_of _ = Err ParamCount
 
--- what a major word makes of what follows it
-abbrev pub read_as : Major → List ℕ → Result Record ClWhy
-read_as majors.Goto behind = at_point (λ tip. records.Goto tip None) (point_of (parameters_of behind))
-read_as majors.From behind = at_point (λ tip. records.From tip None) (point_of (parameters_of behind))
-read_as majors.Fini behind = Ok records.Fini
-read_as majors.Other behind = Err NotBuilt
+-- the position that three or six parameters give
+abbrev pub position_in : Unit → List (List ℕ) → Result Position ClWhy
+position_in unit parameters =
+    if length parameters == 3 || length parameters == 6
+    then and_then (values_of (reads_of unit POSITION_KINDS parameters)) position_of
+    else Err ParamCount
 
--- the record that a text stands for
-abbrev pub record_of : List ℕ → Result Record ClWhy
-record_of text = read_as (major_of (word_of text)) (behind_word text)
+-- the distance that three parameters give
+abbrev pub delta_of : List ℤ → Result Record ClWhy
+delta_of (x ∷ y ∷ z ∷ []) = Ok (records.Delta (x ∷ y ∷ z ∷ []))
+delta_of _ = Err ParamCount
 
--- nothing is read behind FINI, nor behind a fault
-abbrev pub behind_record : Result Record ClWhy → List (Numbered Record) → List (Numbered Record)
-behind_record (Err why) rest = []
-behind_record (Ok records.Fini) rest = []
-behind_record (Ok _) rest = rest
+abbrev pub delta_in : Unit → List (List ℕ) → Result Record ClWhy
+delta_in unit parameters =
+    if length parameters == 3 then and_then (values_of (reads_of unit DELTA_KINDS parameters)) delta_of else Err ParamCount
+
+-- the cutter that one to seven parameters give
+abbrev pub cutter_in : Unit → List (List ℕ) → Result Record ClWhy
+cutter_in unit parameters =
+    if nat_le 1 (length parameters) && nat_le (length parameters) 7
+    then and_then (values_of (reads_of unit CUTTER_KINDS parameters)) (λ sizes. and_then (cutter_of sizes) (λ cutter. Ok (records.Cutter cutter)))
+    else Err ParamCount
+
+abbrev pub multax_of : List ℕ → Result Record ClWhy
+multax_of word =
+    if is_word word (codes "ON") then Ok (records.Multax true)
+    else (if is_word word (codes "OFF") then Ok (records.Multax false) else Err ParamWord)
+
+-- MULTAX alone is MULTAX/ON
+abbrev pub multax_in : List (List ℕ) → Result Record ClWhy
+multax_in [] = Ok (records.Multax true)
+multax_in (word ∷ []) = multax_of word
+multax_in _ = Err ParamCount
+
+abbrev pub units_of : List ℕ → Result Record ClWhy
+units_of word =
+    if is_word word (codes "MM") then Ok (records.Units Mm)
+    else (if is_word word (codes "INCHES") || (is_word word (codes "INCH") || is_word word (codes "IN"))
+    then Ok (records.Units Inch) else Err ParamWord)
+
+abbrev pub units_in : Option (List ℕ) → Result Record ClWhy
+units_in None = Err ParamCount
+units_in (Some word) = units_of word
+
+-- the record of a word with its parameters, or its first fault
+abbrev pub with_parameters : Unit → Keyword → List (List ℕ) → Result Record ClWhy
+with_parameters unit keywords.Goto parameters = and_then (position_in unit parameters) (λ position. Ok (records.Goto position.tip position.axis))
+with_parameters unit keywords.From parameters = and_then (position_in unit parameters) (λ position. Ok (records.From position.tip position.axis))
+with_parameters unit keywords.Godlta parameters = delta_in unit parameters
+with_parameters unit keywords.Cutter parameters = cutter_in unit parameters
+with_parameters unit keywords.Multax parameters = multax_in parameters
+with_parameters unit keywords.Units parameters = units_in (only_of parameters)
+with_parameters unit keywords.Rapid parameters = Ok records.Rapid
+with_parameters unit keywords.Fini parameters = Ok records.Fini
+
+-- something else than a slash follows the word
+abbrev pub where_parameters : Unit → Keyword → Option (List (List ℕ)) → Result Record ClWhy
+where_parameters unit keyword None = Err ParamWord
+where_parameters unit keyword (Some parameters) = with_parameters unit keyword parameters
+
+-- what follows RAPID and FINI isn't read
+abbrev pub read_as : Unit → Keyword → List ℕ → Result Record ClWhy
+read_as unit keywords.Rapid behind = Ok records.Rapid
+read_as unit keywords.Fini behind = Ok records.Fini
+read_as unit keyword behind = where_parameters unit keyword (parameters_of behind)
+
+-- the one parameter OFF
+abbrev pub is_off : Option (List ℕ) → Bool
+is_off None = false
+is_off (Some word) = is_word word (codes "OFF")
+
+-- the parameters of a record, or none where something else than a slash follows its word
+abbrev pub known : Option (List (List ℕ)) → List (List ℕ)
+known None = []
+known (Some parameters) = parameters
+
+abbrev pub is_cycle : Word → Bool
+is_cycle refused.Cycle = true
+is_cycle _ = false
+
+-- CYCLE/OFF ends a cycle, which is none; every other record of a word that is refused is
+abbrev pub judged_refused : Word → List ℕ → List ℕ → Result Record ClWhy
+judged_refused word text behind =
+    if list_all is_plain text
+    then (if is_cycle word && is_off (only_of (known (parameters_of behind))) then Ok records.Passed else Err (Unsupported word))
+    else Err BadByte
+
+-- a record that is read or refused has plain bytes alone; one that is passed over may have any
+abbrev pub judged : Unit → Major → List ℕ → List ℕ → Result Record ClWhy
+judged unit Passed text behind = Ok records.Passed
+judged unit (Refused word) text behind = judged_refused word text behind
+judged unit (Read keyword) text behind = if list_all is_plain text then read_as unit keyword behind else Err BadByte
+
+-- the record that a text stands for in this unit, or its first fault
+abbrev pub record_of : Unit → List ℕ → Result Record ClWhy
+record_of unit text = judged unit (major_of (word_of text)) text (behind_word text)
+
+-- the unit behind a record
+abbrev pub unit_behind : Unit → Record → Unit
+unit_behind unit (records.Units next) = next
+unit_behind unit _ = unit
+
+abbrev pub is_fini : Record → Bool
+is_fini records.Fini = true
+is_fini _ = false
+
+-- nothing is read behind FINI, nor behind a fault; else the rest is read in the unit that now holds
+abbrev pub behind_record : Unit → Result Record ClWhy → (Unit → List (Numbered Record)) → List (Numbered Record)
+behind_record unit (Err why) rest = []
+behind_record unit (Ok record_) rest = if is_fini record_ then [] else rest (unit_behind unit record_)
 
 -- the records of texts, in order, up to FINI or to the first fault
-abbrev pub records_of : List (Numbered (List ℕ)) → List (Numbered Record)
-records_of [] = []
-records_of ((line, Err why) ∷ texts) = (line, Err why) ∷ []
-records_of ((line, Ok text) ∷ texts) = (line, record_of text) ∷ behind_record (record_of text) (records_of texts)
+abbrev pub records_of : Unit → List (Numbered (List ℕ)) → List (Numbered Record)
+records_of unit [] = []
+records_of unit ((line, Err why) ∷ texts) = (line, Err why) ∷ []
+records_of unit ((line, Ok text) ∷ texts) = (line, record_of unit text) ∷ behind_record unit (record_of unit text) (λ next. records_of next texts)

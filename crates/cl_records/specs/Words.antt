@@ -1,11 +1,16 @@
--- The major word of a record text.
-use Rattle.std.specs.Prelude.{ℕ, ◌==◌, ◌||◌, Bool, List, drop, take, codes, if◌then◌else◌}
-use Rattle.std.specs.List.{prefix_len}
+-- The major word of a record text, and what is done with its record.
+use Rattle.std.specs.Prelude.{ℕ, ◌==◌, ◌||◌, Bool, List, drop, take, codes, Option, Some, None}
+use Rattle.std.specs.List.{find, prefix_len}
 use Rattle.std.specs.Char.{is_ascii_alphanumeric}
 use Rattle.std.specs.Str.{str_eq_ignore_ascii_case}
 use Rattle.cl_lines.specs.Blanks.{behind_blanks}
+use Rattle.cl_lines.specs.Words.{word_name}
+use Rattle.cl_lines.specs.declared.word.Word.{Word}
+use Rattle.cl_records.specs.declared.word.Keyword.{Keyword}
+use Rattle.cl_records.specs.declared.word.Keyword.TheVariants.{Goto, From, Godlta, Cutter, Multax, Units, Rapid, Fini}
 use Rattle.cl_records.specs.declared.word.Major.{Major}
-use Rattle.cl_records.specs.declared.word.Major.TheVariants.{Fini, From, Goto, Other}
+use Rattle.cl_records.specs.declared.word.Major.TheVariants.{Read, Refused, Passed}
+use Rattle.cl_records.specs.declared.word.TheConstants.{KEYWORDS, REFUSED_WORDS}
 
 -- a letter, a digit, a dash or an underscore
 abbrev pub is_word_byte : ℕ → Bool
@@ -19,9 +24,28 @@ word_of text = take (prefix_len is_word_byte (behind_blanks text)) (behind_blank
 abbrev pub behind_word : List ℕ → List ℕ
 behind_word text = drop (prefix_len is_word_byte (behind_blanks text)) (behind_blanks text)
 
--- the word that the letters spell, whatever their case
+abbrev pub keyword_name : Keyword → List ℕ
+keyword_name Goto = codes "GOTO"
+keyword_name From = codes "FROM"
+keyword_name Godlta = codes "GODLTA"
+keyword_name Cutter = codes "CUTTER"
+keyword_name Multax = codes "MULTAX"
+keyword_name Units = codes "UNITS"
+keyword_name Rapid = codes "RAPID"
+keyword_name Fini = codes "FINI"
+
+-- the first of these that the letters spell, whatever their case
+abbrev pub named : {A : Type 0} → (A → List ℕ) → List A → List ℕ → Option A
+named name items letters = find (λ item. str_eq_ignore_ascii_case letters (name item)) items
+
+abbrev pub refused_or_passed : Option Word → Major
+refused_or_passed None = Passed
+refused_or_passed (Some word) = Refused word
+
+abbrev pub read_or_not : Option Keyword → Major → Major
+read_or_not None other = other
+read_or_not (Some keyword) other = Read keyword
+
+-- a record is read, refused or passed over by its word
 abbrev pub major_of : List ℕ → Major
-major_of word =
-    if str_eq_ignore_ascii_case word (codes "GOTO") then Goto
-    else (if str_eq_ignore_ascii_case word (codes "FROM") then From
-    else (if str_eq_ignore_ascii_case word (codes "FINI") then Fini else Other))
+major_of letters = read_or_not (named keyword_name KEYWORDS letters) (refused_or_passed (named word_name REFUSED_WORDS letters))

@@ -1,8 +1,10 @@
-ghost use Rattle.std.specs.Prelude.{◌≡◌, ◌∷◌, []};
+ghost use Rattle.std.specs.Prelude.{◌≡◌, ◌≤◌, ◌∷◌, [], length};
+ghost use Rattle.std.specs.List.{prefix_len};
 ghost use Rattle.std.specs.Option.{option_map_or};
+ghost use Rattle.cl_lines.specs.Blanks.{is_blank, behind_blanks};
 ghost use Rattle.cl_records.specs.Parameters.{fields_of, trimmed};
 
-use crate::word::{is_blank_byte, skip_blanks};
+use cl_lines::{is_blank_byte, trim_end};
 use memchr::memchr;
 
 /// The first field of a text, up to a comma, and the text behind the comma.
@@ -15,16 +17,42 @@ pub(crate) fn split_field(text: &[u8]) -> (&[u8], Option<&[u8]>)
     }
 }
 
+/// How many fields stand between the commas of a text.
+pub(crate) fn count_fields(text: &[u8]) -> usize
+    ensures { result ≡ length (fields_of text.now) }
+{
+    let mut commas = 0;
+    for b in text {
+        if *b == b',' {
+            commas += 1;
+        }
+    }
+    commas + 1
+}
+
 /// A field without the blanks at both its ends.
 pub(crate) fn trim(field: &[u8]) -> &[u8]
     ensures { result.now ≡ trimmed field.now }
 {
-    let mut rest = skip_blanks(field);
-    while let Some((last, front)) = rest.split_last() {
-        if !is_blank_byte(*last) {
-            return rest;
+    trim_end(skip_blanks(field))
+}
+
+/// The text without the blanks in front.
+pub(crate) fn skip_blanks(text: &[u8]) -> &[u8]
+    ensures { result.now ≡ behind_blanks text.now }
+{
+    &text[blank_len(text)..]
+}
+
+/// How many blanks stand in front.
+fn blank_len(text: &[u8]) -> usize
+    ensures count { result ≡ prefix_len is_blank text.now }
+    ensures within { result ≤ length text.now }
+{
+    for (i, b) in text.iter().enumerate() {
+        if !is_blank_byte(*b) {
+            return i;
         }
-        rest = front;
     }
-    rest
+    text.len()
 }

@@ -1,10 +1,12 @@
-ghost use Rattle.std.specs.Prelude.{◌≡◌, ◌≤◌, length, MatchResult, Ok};
+ghost use Rattle.std.specs.Prelude.{◌≡◌, ◌≤◌, length, IfOk, IfSome, MatchResult, Ok};
 ghost use Rattle.cl_lines.specs.Next.{next_of, Ends};
 ghost use Rattle.cl_lines.specs.Texts.{texts_of};
+ghost use Rattle.cl_lines.specs.declared.number.Unit.TheVariants.{Mm};
+ghost use Rattle.cl_records.specs.Ranges.{IsRecord};
 ghost use Rattle.cl_records.specs.Records.{records_of};
 
 use crate::statement::{Record, read_record};
-use cl_lines::{ClEnd, ClFault, Lines, MAX_BYTES};
+use cl_lines::{ClEnd, Lines, MAX_BYTES, Unit};
 use std::alloc::Global;
 use std::marker::Model;
 
@@ -13,6 +15,7 @@ use std::marker::Model;
 pub struct Records<'a> {
     lines: Lines<'a>,
     text: Vec<u8>,
+    unit: Unit,
     ended: bool,
 }
 
@@ -24,18 +27,20 @@ impl<'a> Model for Records<'a> {
 
     ghost Value = { List (Numbered Record) };
 
-    ghost view = { λ r. if r.ended then [] else records_of r.lines };
+    ghost view = { λ r. if r.ended then [] else records_of r.unit r.lines };
 }
 
 impl<'a> Records<'a> {
     /// A reader at the front of the bytes.
     pub fn new(alloc: Global, bytes: &'a [u8]) -> Records<'a>
         requires { length bytes.now ≤ MAX_BYTES }
-        ensures { result ≡ records_of (texts_of bytes.now) }
+        ensures records { result ≡ records_of Mm (texts_of bytes.now) }
+        ensures few { length result ≤ length bytes.now }
     {
         Records {
             lines: Lines::new(alloc, bytes),
             text: Vec::new(alloc),
+            unit: Unit::Mm,
             ended: false,
         }
     }
@@ -43,7 +48,8 @@ impl<'a> Records<'a> {
     /// The next record, with the number of its first line. It gives none behind FINI. It changes
     /// nothing where it gives none.
     pub fn next_record(&mut self) -> Result<Option<(u32, Record)>, ClEnd>
-        ensures { MatchResult result (λ r. next_of self.old ≡ Ok (r, self.new)) (Ends self.old self.new) }
+        ensures next { MatchResult result (λ r. next_of self.old ≡ Ok (r, self.new)) (Ends self.old self.new) }
+        ensures ranges { IfOk result (λ r. IfSome r (λ x. IsRecord x.1)) }
     {
         if self.ended {
             return Ok(None);
@@ -52,13 +58,14 @@ impl<'a> Records<'a> {
         let Some(line) = lines.next_into(&mut self.text)? else {
             return Ok(None);
         };
-        match read_record(self.text.as_slice()) {
+        match read_record(self.unit, self.text.as_slice()) {
             Ok(record) => {
                 self.lines = lines;
-                self.ended = record == Record::Fini;
+                self.unit = record.unit_behind(self.unit);
+                self.ended = record.is_fini();
                 Ok(Some((line, record)))
             }
-            Err(why) => Err(ClEnd::Refused(ClFault { line, why })),
+            Err(why) => Err(ClEnd::refused(line, why)),
         }
     }
 }

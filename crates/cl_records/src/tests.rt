@@ -1,96 +1,206 @@
 use super::*;
-use cl_lines::{ClEnd, ClFault, ClWhy, MAX_BYTES};
-use std::test::*;
+use cl_lines::{ClEnd, ClWhy, MAX_BYTES, Unit, Word};
+use std::alloc::Global;
+use std::process::Abort;
 
-/// A row of the table: a text of one line, and the position or the fault that is due.
-type Row = (&'static str, Result<[i32; 3], ClWhy>);
-
-const POSITIONS: [Row; 26] = [
-    ("GOTO/1,2,3", Ok([1000, 2000, 3000])),
-    (" goto\t/ 1 ,\t2.5,-3 ", Ok([1000, 2500, -3000])),
-    (
-        "Goto/1000,-1000,1000.0004",
-        Ok([1_000_000, -1_000_000, 1_000_000]),
-    ),
-    ("GOTO/1e-3,0.0005,-0.0005", Ok([1, 1, -1])),
-    ("GOTO/1,x,2", Err(ClWhy::NumberSyntax)),
-    ("GOTO/1000.0005,x,2", Err(ClWhy::NumberSyntax)),
-    ("GOTO/,,", Err(ClWhy::NumberSyntax)),
-    ("GOTO/1,2 2,3", Err(ClWhy::NumberSyntax)),
-    ("GOTO/1,2,3/", Err(ClWhy::NumberSyntax)),
-    ("GOTO/1000.001,0,0", Err(ClWhy::NumberRange)),
-    ("GOTO/0,0,-1000.0005", Err(ClWhy::NumberRange)),
-    ("FROM/1,2", Err(ClWhy::NotBuilt)),
-    ("FROM/1,2,3,", Err(ClWhy::NotBuilt)),
-    ("GOTO/1,2,3,0,0,1", Err(ClWhy::NotBuilt)),
-    ("GOTO/", Err(ClWhy::NotBuilt)),
-    ("GOTO/ \t", Err(ClWhy::NotBuilt)),
-    ("GOTO", Err(ClWhy::NotBuilt)),
-    ("GOTO 1,2,3", Err(ClWhy::NotBuilt)),
-    ("GOTO,1,2,3", Err(ClWhy::NotBuilt)),
-    ("GOTO-X/1,2,3", Err(ClWhy::NotBuilt)),
-    ("GOTO_/1,2,3", Err(ClWhy::NotBuilt)),
-    ("GOTO1/1,2,3", Err(ClWhy::NotBuilt)),
-    ("GO/1,2,3", Err(ClWhy::NotBuilt)),
-    ("/1,2,3", Err(ClWhy::NotBuilt)),
-    ("MULTAX/ON", Err(ClWhy::NotBuilt)),
-    ("GOTO/1,2,3 $$ near", Err(ClWhy::NotBuilt)),
-];
-
-/// A refusal stands again at the next call, since nothing has changed.
-#[test]
-fn positions(rt: HostRuntime) {
-    for (text, due) in POSITIONS {
-        assert!(rt; text.len() <= MAX_BYTES);
-        let mut records = Records::new(rt.alloc(), text.as_bytes());
-        let due = match due {
-            Ok(tip) => Ok(Some((1, Record::Goto { tip, axis: None }))),
-            Err(why) => Err(ClEnd::Refused(ClFault { line: 1, why })),
-        };
-        assert_eq!(rt; records.next_record(), due, "{text}");
-        let next = if due.is_ok() { Ok(None) } else { due };
-        assert_eq!(rt; records.next_record(), next, "behind {text}");
+/// The records of a text in a row, up to its end or to the fault behind them. A refusal stands again at the next call, since
+/// nothing has changed, and nothing is read behind FINI.
+fn read(
+    rt: &impl Abort,
+    alloc: Global,
+    text: &str,
+    dues: &[(u32, Record)],
+    fault: Option<(u32, ClWhy)>,
+) {
+    assert!(rt; text.len() <= MAX_BYTES);
+    let mut records = Records::new(alloc, text.as_bytes());
+    for due in dues {
+        assert_eq!(rt; records.next_record(), Ok(Some(*due)), "in {text:?}");
+    }
+    let end = match fault {
+        None => Ok(None),
+        Some((line, why)) => Err(ClEnd::refused(line, why)),
+    };
+    for _ in 0..2 {
+        assert_eq!(rt; records.next_record(), end, "behind {text:?}");
     }
 }
 
+/// A cutter's record.
+fn cutter(d: i32, r: i32, h: Option<i32>) -> Record {
+    Record::Cutter(CutterText { d, r, h })
+}
+
 #[test]
-fn ends(rt: HostRuntime) {
-    for (text, line) in [
-        ("fini", 1),
-        (" FINI done", 1),
-        ("\nFini/1", 2),
-        ("FINI\n$", 1),
-    ] {
-        assert!(rt; text.len() <= MAX_BYTES);
-        let mut records = Records::new(rt.alloc(), text.as_bytes());
-        assert_eq!(rt;
-            records.next_record(),
-            Ok(Some((line, Record::Fini))),
-            "{text:?}"
-        );
-        assert_eq!(rt; records.next_record(), Ok(None), "behind {text:?}");
+fn single_records(rt: HostRuntime) {
+    let tip = [1000, 2000, -3000];
+    let goto = Record::Goto { tip, axis: None };
+    let axis = Some([0, 17_365, 98_481]);
+    let rows: [(&str, Record); 44] = [
+        ("GOTO/1,2,-3", goto),
+        (" goto\t/ 1 ,\t2, -3\t", goto),
+        ("Goto/1e0,20E-1,-.3E+1", goto),
+        ("GOTO/1,2,-3$$ near", goto),
+        ("GO$\nTO/1,$ $$ c\n2,-$\n3", goto),
+        (
+            "GOTO/1,2,-3,0.0000000,0.1736482,$\n0.9848078",
+            Record::Goto { tip, axis },
+        ),
+        ("FROM/1,2,-3", Record::From { tip, axis: None }),
+        (
+            "from/1,2,-3,0,.1736482,.9848078",
+            Record::From { tip, axis },
+        ),
+        (
+            "GOTO/1,2,-3,0,0,0.000005",
+            Record::Goto {
+                tip,
+                axis: Some([0, 0, 1]),
+            },
+        ),
+        (
+            "GODLTA/2000,-2000,0.0005",
+            Record::Delta([2_000_000, -2_000_000, 1]),
+        ),
+        ("CUTTER/10", cutter(10_000, 0, None)),
+        (
+            "CUTTER/10.0,1.0,4.0,1.0,0.0,0.0,50.0",
+            cutter(10_000, 1_000, Some(50_000)),
+        ),
+        ("cutter / 10 , 5", cutter(10_000, 5_000, None)),
+        ("CUTTER/10,5.005", cutter(10_000, 5_000, None)),
+        ("CUTTER/9.999,5.0044", cutter(9_999, 4_999, None)),
+        ("CUTTER/10,1,4.005", cutter(10_000, 1_000, None)),
+        ("CUTTER/10,1,3.995,1.01", cutter(10_000, 1_000, None)),
+        (
+            "CUTTER/10,1,4,0.99,0.000004,-0.000004",
+            cutter(10_000, 1_000, None),
+        ),
+        ("CUTTER/10,5.005,0,5.01", cutter(10_000, 5_000, None)),
+        (
+            "CUTTER/200,100,0,100,0,0,300",
+            cutter(200_000, 100_000, Some(300_000)),
+        ),
+        ("CUTTER/0.001,0,0,0,0,0,0.001", cutter(1, 0, Some(1))),
+        ("MULTAX", Record::Multax(true)),
+        ("MULTAX/", Record::Multax(true)),
+        ("Multax / on ", Record::Multax(true)),
+        ("MULTAX/OFF", Record::Multax(false)),
+        ("UNITS/MM", Record::Units(Unit::Mm)),
+        ("units/inches", Record::Units(Unit::Inch)),
+        ("UNITS/INCH", Record::Units(Unit::Inch)),
+        ("UNITS/In", Record::Units(Unit::Inch)),
+        ("RAPID", Record::Rapid),
+        ("RAPID x", Record::Rapid),
+        ("rapid/1,,", Record::Rapid),
+        ("FINI", Record::Fini),
+        ("FINI done", Record::Fini),
+        (" fini/1$\n,2", Record::Fini),
+        ("CYCLE/OFF", Record::Passed),
+        ("cycle / off", Record::Passed),
+        ("PPRINT GOTO/1,2 \u{ff}\0", Record::Passed),
+        ("PARTNO$SAMPLE", Record::Passed),
+        ("END-OF-PATH", Record::Passed),
+        ("GOTO-/1", Record::Passed),
+        ("GOTO1/1", Record::Passed),
+        ("/1,2,3", Record::Passed),
+        ("\u{ff}GOTO/1,2,3", Record::Passed),
+    ];
+    for (text, due) in rows {
+        read(&rt, rt.alloc(), text, &[(1, due)], None);
     }
 }
 
+/// Each fault, and which of two stands ahead of the other in one record.
+#[test]
+fn faults(rt: HostRuntime) {
+    let rows: [(&str, ClWhy); 53] = [
+        ("GOTO/1,2,3\0", ClWhy::BadByte),
+        ("RAPID\u{7f}", ClWhy::BadByte),
+        ("FINI\r ", ClWhy::BadByte),
+        ("CIRCLE/\u{1}", ClWhy::BadByte),
+        ("CYCLE/OFF \u{1}", ClWhy::BadByte),
+        ("GOTO\u{1}1,x", ClWhy::BadByte),
+        ("GOTO/1,2,3$", ClWhy::DanglingDollar),
+        ("GOTO/1,\u{1}$", ClWhy::DanglingDollar),
+        ("CIRCLE/0,0,0,1", ClWhy::Unsupported(Word::Circle)),
+        ("tlaxis/0,0,1", ClWhy::Unsupported(Word::Tlaxis)),
+        ("CYCLE/OFF,1", ClWhy::Unsupported(Word::Cycle)),
+        ("CYCLE", ClWhy::Unsupported(Word::Cycle)),
+        ("CYCLE OFF", ClWhy::Unsupported(Word::Cycle)),
+        ("CIRCLE/OFF", ClWhy::Unsupported(Word::Circle)),
+        ("GOTO", ClWhy::ParamCount),
+        ("GOTO/", ClWhy::ParamCount),
+        ("GOTO/ \t", ClWhy::ParamCount),
+        ("GOTO/1,2", ClWhy::ParamCount),
+        ("FROM/1,2,3,4", ClWhy::ParamCount),
+        ("GOTO/1,2,3,0,0", ClWhy::ParamCount),
+        ("GOTO/1,2,3,0,0,1,", ClWhy::ParamCount),
+        ("GOTO/x,y", ClWhy::ParamCount),
+        ("GODLTA/1,2,3,0,0,1", ClWhy::ParamCount),
+        ("CUTTER", ClWhy::ParamCount),
+        ("CUTTER/1,0,0,0,0,0,1,1", ClWhy::ParamCount),
+        ("MULTAX/ON,OFF", ClWhy::ParamCount),
+        ("UNITS", ClWhy::ParamCount),
+        ("UNITS/MM,INCH", ClWhy::ParamCount),
+        ("GOTO 1,2,3", ClWhy::ParamWord),
+        ("GOTO,1,2", ClWhy::ParamWord),
+        ("MULTAX ON", ClWhy::ParamWord),
+        ("MULTAX/ONE", ClWhy::ParamWord),
+        ("UNITS/CM", ClWhy::ParamWord),
+        ("UNITS/,", ClWhy::ParamCount),
+        ("GOTO/1,x,2", ClWhy::NumberSyntax),
+        ("GOTO/1000.0005,x,2", ClWhy::NumberSyntax),
+        ("GOTO/1,2,", ClWhy::NumberSyntax),
+        ("GOTO/1,2 2,3", ClWhy::NumberSyntax),
+        ("CUTTER/0,x", ClWhy::NumberSyntax),
+        ("GOTO/1000.0005,0,0", ClWhy::NumberRange),
+        ("GOTO/0,0,0,0,0,1.000005", ClWhy::NumberRange),
+        ("GOTO/1000.0005,0,0,0,0,0", ClWhy::NumberRange),
+        ("GODLTA/0,0,-2000.0005", ClWhy::NumberRange),
+        ("CUTTER/0.0004", ClWhy::NumberRange),
+        ("CUTTER/200.001", ClWhy::NumberRange),
+        ("CUTTER/1,0,0,0,0,0,300.001", ClWhy::NumberRange),
+        ("CUTTER/10,5.006", ClWhy::CutterShape),
+        ("CUTTER/9.999,5.0045", ClWhy::CutterShape),
+        ("CUTTER/10,1,4.006", ClWhy::CutterShape),
+        ("CUTTER/10,1,4,1.011", ClWhy::CutterShape),
+        ("CUTTER/10,1,4,1,0.000005", ClWhy::CutterShape),
+        ("CUTTER/10,1,4,1,0,-0.000005", ClWhy::CutterShape),
+        ("FROM/0,0,1,0,0,0.000004", ClWhy::AxisZero),
+    ];
+    for (text, why) in rows {
+        read(&rt, rt.alloc(), text, &[], Some((1, why)));
+    }
+}
+
+/// Records in a row: the unit holds until another is set, and nothing is read behind FINI.
 #[test]
 fn records_in_order(rt: HostRuntime) {
-    let bytes = b"\nfrom/0,0,0\r\n\n  \nGOTO/1,2,3\nFINI\nGOTO/x\n\xff";
-    let mut records = Records::new(rt.alloc(), bytes);
-    let from = Record::From {
-        tip: [0, 0, 0],
+    let at = |x| Record::Goto {
+        tip: [x, 0, 0],
         axis: None,
     };
-    let goto = Record::Goto {
-        tip: [1000, 2000, 3000],
-        axis: None,
-    };
-    for due in [
-        Some((2, from)),
-        Some((5, goto)),
-        Some((6, Record::Fini)),
+    read(
+        &rt,
+        rt.alloc(),
+        "\nGOTO/1,0,0\r\n\n $$ c\nUNITS/INCHES\nPPRINT\nGOTO/1,$\n0,0\nUNITS/MM\nGOTO/2,0,0\nFINI $\n\nGOTO/x\n\0",
+        &[
+            (2, at(1_000)),
+            (5, Record::Units(Unit::Inch)),
+            (6, Record::Passed),
+            (7, at(25_400)),
+            (9, Record::Units(Unit::Mm)),
+            (10, at(2_000)),
+            (11, Record::Fini),
+        ],
         None,
-        None,
-    ] {
-        assert_eq!(rt; records.next_record(), Ok(due), "in order");
-    }
+    );
+    read(
+        &rt,
+        rt.alloc(),
+        "RAPID\n$$ c\nCIRCLE/0\nGOTO/1,x,2\n",
+        &[(1, Record::Rapid)],
+        Some((3, ClWhy::Unsupported(Word::Circle))),
+    );
 }

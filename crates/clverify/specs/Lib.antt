@@ -2,5 +2,9 @@ pub mod Codes
 pub mod Commands
 pub mod Due
 pub mod Headline
+pub mod Marks
+pub mod Questions
+pub mod Reading
+pub mod Soundness
 pub mod Texts
 pub mod Words

@@ -3,12 +3,15 @@ use Rattle.std.specs.Prelude.{ℕ, ℤ, ◌+◌, Bool, List, [], ◌∷◌, ◌+
 use Rattle.std.specs.Fmt.{signed_decimal}
 use Rattle.vf_io.specs.Pieces.{line_feed}
 use Rattle.cl_lines.specs.declared.fault.ClWhy.{ClWhy}
-use Rattle.cl_lines.specs.declared.fault.ClWhy.TheVariants.{NumberSyntax, NumberRange, TooManyMoves, NotBuilt}
-use Rattle.cl_moves.specs.declared.moves.CutterText.{CutterText}
+use Rattle.cl_lines.specs.declared.fault.ClWhy.TheVariants.{LineLong, DanglingDollar, BadByte, Unsupported, ParamCount, ParamWord, NumberSyntax, NumberRange, CutterShape, AxisZero, NoPosition, AxisFlip, TooManyMoves}
+use Rattle.cl_lines.specs.Words.{word_name}
+use Rattle.cl_records.specs.declared.cutter.CutterText.{CutterText}
 use Rattle.cl_moves.specs.declared.moves.Move.{Move}
 use Rattle.cl_moves.specs.declared.program.Program.{Program}
+use Rattle.axis_cells.specs.declared.mark.Mark.{Mark}
+use Rattle.axis_cells.specs.declared.mark.Mark.TheVariants.{Clear, Possible, Removed}
 use Rattle.clverify.specs.declared.fault.Fault.{Fault}
-use Rattle.clverify.specs.declared.fault.Fault.TheVariants.{TooLong, Cl}
+use Rattle.clverify.specs.declared.fault.Fault.TheVariants.{TooLong, Cl, CutterHeight}
 use Rattle.clverify.specs.declared.fault.Input.{Input}
 use Rattle.clverify.specs.declared.fault.Input.TheVariants as inputs
 
@@ -57,20 +60,56 @@ list_of program =
     line (codes "clverify list 1") ++ move_lines 1 program.moves
     ++ line (codes "moves " ++ decimal (length program.moves) ++ codes " passed " ++ decimal program.passed)
 
+-- a mark, or that a move has no cutter to be marked with
+abbrev pub mark_name : Option Mark → List ℕ
+mark_name None = codes "nocutter"
+mark_name (Some Removed) = codes "removed"
+mark_name (Some Possible) = codes "possible"
+mark_name (Some Clear) = codes "clear"
+
+-- a move's number and line, and its mark
+abbrev pub mark_line : ℕ → Move → Option Mark → List ℕ
+mark_line number move mark = line (codes "move " ++ decimal number ++ codes " line " ++ decimal move.line ++ codes " " ++ mark_name mark)
+
+-- moves numbered from here on, each with its mark
+abbrev pub mark_lines : ℕ → List Move → List (Option Mark) → List ℕ
+mark_lines number (move ∷ moves) (mark ∷ marks) = mark_line number move mark ++ mark_lines (number + 1) moves marks
+mark_lines number _ _ = []
+
+-- the marks of a program
+abbrev pub marking_of : Program → List (Option Mark) → List ℕ
+marking_of program marks =
+    line (codes "clverify point 1") ++ mark_lines 1 program.moves marks ++ line (codes "moves " ++ decimal (length program.moves))
+
 abbrev pub input_name : Input → List ℕ
 input_name inputs.Cl = codes "cl"
 input_name inputs.Setup = codes "setup"
 input_name inputs.Script = codes "script"
 
 abbrev pub why_name : ClWhy → List ℕ
+why_name LineLong = codes "LineLong"
+why_name DanglingDollar = codes "DanglingDollar"
+why_name BadByte = codes "BadByte"
+why_name (Unsupported _) = codes "Unsupported"
+why_name ParamCount = codes "ParamCount"
+why_name ParamWord = codes "ParamWord"
 why_name NumberSyntax = codes "NumberSyntax"
 why_name NumberRange = codes "NumberRange"
+why_name CutterShape = codes "CutterShape"
+why_name AxisZero = codes "AxisZero"
+why_name NoPosition = codes "NoPosition"
+why_name AxisFlip = codes "AxisFlip"
 why_name TooManyMoves = codes "TooManyMoves"
-why_name NotBuilt = codes "NotBuilt"
+
+-- the word that is refused, behind a space
+abbrev pub refused_word : ClWhy → List ℕ
+refused_word (Unsupported word) = codes " " ++ word_name word
+refused_word _ = []
 
 abbrev pub fault_text : Fault → List ℕ
 fault_text (TooLong input) = input_name input ++ codes ": TooLong"
-fault_text (Cl fault) = codes "cl line " ++ decimal fault.line ++ codes ": " ++ why_name fault.why
+fault_text (CutterHeight at) = codes "cl line " ++ decimal at ++ codes ": CutterHeight"
+fault_text (Cl fault) = codes "cl line " ++ decimal fault.line ++ codes ": " ++ why_name fault.why ++ refused_word fault.why
 
 -- the one line of a refusal
 abbrev pub refusal_of : Fault → List ℕ

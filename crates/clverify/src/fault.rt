@@ -1,5 +1,5 @@
 ghost use Rattle.std.specs.Prelude.{◌≡◌, ◌++◌, IfOk, OnOk};
-ghost use Rattle.clverify.specs.Texts.{refusal_of, fault_text, input_name, why_name};
+ghost use Rattle.clverify.specs.Texts.{refusal_of, fault_text, input_name, refused_word, why_name};
 
 use crate::page::Page;
 use cl_lines::{ClFault, ClWhy};
@@ -24,6 +24,8 @@ pub enum Fault {
     TooLong(Input),
     /// The cutter location text has a fault.
     Cl(ClFault),
+    /// The cutter of the move on this line is less high than its corner radius.
+    CutterHeight(u32),
 }
 
 /// The one line of a refusal.
@@ -45,11 +47,17 @@ fn write_fault(page: &mut Page, fault: &Fault) -> Result<(), NoMemory>
             page.text(name_of_input(*input))?;
             page.text(b": TooLong")
         }
+        Fault::CutterHeight(line) => {
+            page.text(b"cl line ")?;
+            page.count(*line as usize)?;
+            page.text(b": CutterHeight")
+        }
         Fault::Cl(fault) => {
             page.text(b"cl line ")?;
             page.count(fault.line as usize)?;
             page.text(b": ")?;
-            page.text(name_of_why(fault.why))
+            page.text(name_of_why(fault.why))?;
+            write_refused_word(page, fault.why)
         }
     }
 }
@@ -68,9 +76,29 @@ fn name_of_why(why: ClWhy) -> &'static [u8]
     ensures { result.now ≡ why_name why }
 {
     match why {
+        ClWhy::LineLong => b"LineLong",
+        ClWhy::DanglingDollar => b"DanglingDollar",
+        ClWhy::BadByte => b"BadByte",
+        ClWhy::Unsupported(_) => b"Unsupported",
+        ClWhy::ParamCount => b"ParamCount",
+        ClWhy::ParamWord => b"ParamWord",
         ClWhy::NumberSyntax => b"NumberSyntax",
         ClWhy::NumberRange => b"NumberRange",
+        ClWhy::CutterShape => b"CutterShape",
+        ClWhy::AxisZero => b"AxisZero",
+        ClWhy::NoPosition => b"NoPosition",
+        ClWhy::AxisFlip => b"AxisFlip",
         ClWhy::TooManyMoves => b"TooManyMoves",
-        ClWhy::NotBuilt => b"NotBuilt",
     }
+}
+
+/// Writes the word that is refused, where the fault is that it is.
+fn write_refused_word(page: &mut Page, why: ClWhy) -> Result<(), NoMemory>
+    ensures { OnOk result (page.new ≡ page.old ++ refused_word why) }
+{
+    let ClWhy::Unsupported(word) = why else {
+        return Ok(());
+    };
+    page.text(b" ")?;
+    page.text(word.name())
 }

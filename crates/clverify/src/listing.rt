@@ -6,11 +6,15 @@ use cl_moves::{CutterText, Move, Program};
 use std::alloc::Global;
 use vf_io::NoMemory;
 
+/// The most bytes of a move's line, or some more: room for all lines is taken once, and what isn't filled costs nothing.
+const LONGEST_LINE: usize = 192;
+
 /// The listing of a program: a line for each move, and one with the counts.
 pub fn list_text(alloc: Global, program: &Program) -> Result<Vec<u8>, NoMemory>
     ensures { IfOk result (λ v. v.items ≡ list_of program.now) }
 {
-    let mut page = Page::new(alloc);
+    let room = program.moves.len().saturating_mul(LONGEST_LINE);
+    let mut page = Page::with_room(alloc, room)?;
     page.text(b"clverify list 1\n")?;
     write_moves(&mut page, program.moves.as_slice())?;
     page.text(b"moves ")?;

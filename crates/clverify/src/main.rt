@@ -4,7 +4,13 @@
 mod command;
 mod fault;
 mod listing;
+mod marking;
 mod page;
+mod point;
+#[cfg(test)]
+mod point_tests;
+mod question;
+mod reading;
 mod status;
 #[cfg(test)]
 mod tests;

@@ -1,4 +1,4 @@
-ghost use Rattle.std.specs.Prelude.{◌≡◌, [], ◌++◌, ◌∷◌, decimal, OnOk};
+ghost use Rattle.std.specs.Prelude.{◌≡◌, [], ◌++◌, ◌∷◌, decimal, IfOk, OnOk};
 ghost use Rattle.std.specs.Fmt.{signed_decimal};
 ghost use Rattle.vf_io.specs.Pieces.{line_feed};
 ghost use Rattle.clverify.specs.Texts.{numbers};
@@ -29,6 +29,16 @@ impl Page {
     {
         Page {
             bytes: Vec::new(alloc),
+        }
+    }
+
+    /// An empty text with room for so many bytes.
+    pub(crate) fn with_room(alloc: Global, room: usize) -> Result<Page, NoMemory>
+        ensures { IfOk result (λ page. page ≡ []) }
+    {
+        match Vec::with_capacity(alloc, room) {
+            Ok(bytes) => Ok(Page { bytes }),
+            Err(_) => Err(NoMemory),
         }
     }
 

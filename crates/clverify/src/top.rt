@@ -1,18 +1,25 @@
-ghost use Rattle.std.specs.Prelude.{◌≡◌, ◌≢◌, ◌≤◌, ◌⊎◌, None, Some, vec_len, map, All, string_bytes};
+ghost use Rattle.std.specs.Prelude.{◌≡◌, ◌≢◌, ◌⊎◌, None, Some, map, All, IfOk, string_bytes};
 ghost use Rattle.vf_io.specs.Causes.{Rose};
-ghost use Rattle.cl_moves.specs.Program.{program_of};
-ghost use Rattle.clverify.specs.Due.{due, refused, listed};
+ghost use Rattle.cl_moves.specs.Moves.{IsMove};
+ghost use Rattle.clverify.specs.Due.{due, listed, marked, refused};
 ghost use Rattle.clverify.specs.Headline.{Answers, IsComplete, IsWhole};
-ghost use Rattle.clverify.specs.Words.{command_of, files_of, list_moves};
+ghost use Rattle.clverify.specs.Marks.{first_low, marks_for};
+ghost use Rattle.clverify.specs.Questions.{IsQuestion};
+ghost use Rattle.clverify.specs.Soundness.{IsTrulyMarked, MarksAreTrue};
+ghost use Rattle.clverify.specs.Texts.{marking_of};
+ghost use Rattle.clverify.specs.Words.{command_of, files_of, list_moves, mark_moves};
 
 use crate::command::{Command, read_command};
-use crate::fault::{Fault, Input, refusal_text};
+use crate::fault::{Fault, refusal_text};
 use crate::listing::list_text;
+use crate::marking::point_text;
+use crate::point::{low_cutter, marks_of};
+use crate::question::Question;
+use crate::reading::{Stopped, read_file};
 use crate::status::Status;
-use cl_lines::{ClEnd, MAX_BYTES};
-use cl_moves::read_program;
+use cl_moves::Program;
 use std::alloc::Global;
-use vf_io::{Failed, NoMemory, ReadEnd, Shelf, Sink, put_lines, read_all};
+use vf_io::{Failed, NoMemory, Shelf, Sink, put_lines};
 
 /// The one line for words that are no command.
 const USAGE: &[u8] =
@@ -31,6 +38,8 @@ pub fn run<S: Shelf, K: Sink>(
     // Words that are no command are answered without memory and without a read.
     ensures usage { command_of (map string_bytes words.now) ≡ None → (result ≡ Status.Usage) ⊎ (result ≡ Status.WriteFault) }
     ensures no_read { command_of (map string_bytes words.now) ≡ None → shelf.new ≡ shelf.old }
+    // What the marks of a file's moves say of the exact cutter is true.
+    ensures sound { result ≡ Status.Clean → MarksAreTrue (S.files shelf.old) (command_of (map string_bytes words.now)) }
     ensures read_fault { result ≡ Status.ReadFault → Rose (S.faults shelf.old) (S.faults shelf.new) }
     ensures write_fault { result ≡ Status.WriteFault → Rose (K.faults sink.old) (K.faults sink.new) }
     // Where no call outside fails, the whole answer comes, but for want of memory.
@@ -39,6 +48,7 @@ pub fn run<S: Shelf, K: Sink>(
 {
     match read_command(words) {
         Some(Command::List { file }) => list_file(alloc, file, shelf, sink),
+        Some(Command::Point { file, question }) => point_file(alloc, file, &question, shelf, sink),
         None => write_answer(sink, USAGE, Status::Usage),
     }
 }
@@ -51,31 +61,83 @@ fn list_file<S: Shelf, K: Sink>(alloc: Global, file: &str, shelf: &mut S, sink: 
     ensures write_fault { result ≡ Status.WriteFault → Rose (K.faults sink.old) (K.faults sink.new) }
     ensures files { S.files shelf.new ≡ S.files shelf.old }
 {
-    match read_all(alloc, shelf, file, MAX_BYTES as u32) {
-        Ok(bytes) => list_bytes(alloc, bytes, sink),
-        Err(ReadEnd::TooLong) => refuse(alloc, Fault::TooLong(Input::Cl), sink),
-        Err(ReadEnd::Failed) => Status::ReadFault,
-        Err(ReadEnd::NoMemory) => Status::NoMemory,
+    match read_file(alloc, file, shelf) {
+        Ok(program) => list_program(alloc, &program, sink),
+        Err(Stopped::Refused(fault)) => refuse(alloc, fault, sink),
+        Err(Stopped::ReadFault) => Status::ReadFault,
+        Err(Stopped::NoMemory) => Status::NoMemory,
     }
 }
 
-/// Lists the moves of a text, or refuses it. The text is let go before the listing is made.
-fn list_bytes<K: Sink>(alloc: Global, bytes: Vec<u8>, sink: &mut K) -> Status
-    requires { vec_len bytes ≤ MAX_BYTES }
-    ensures answer { Answers result (Some (listed (program_of bytes.items))) (K.written sink.old) (K.written sink.new) }
+/// Lists the moves of a program.
+fn list_program<K: Sink>(alloc: Global, program: &Program, sink: &mut K) -> Status
+    ensures answer { Answers result (Some (listed program.now)) (K.written sink.old) (K.written sink.new) }
     ensures no_read { result ≢ Status.ReadFault }
     ensures write_fault { result ≡ Status.WriteFault → Rose (K.faults sink.old) (K.faults sink.new) }
 {
-    let read = read_program(alloc, &bytes);
-    drop(bytes);
-    match read {
-        Ok(program) => match list_text(alloc, &program) {
-            Ok(text) => write_answer(sink, &text, Status::Clean),
-            Err(NoMemory) => Status::NoMemory,
-        },
-        Err(ClEnd::Refused(fault)) => refuse(alloc, Fault::Cl(fault), sink),
-        Err(ClEnd::NoMemory) => Status::NoMemory,
+    match list_text(alloc, program) {
+        Ok(text) => write_answer(sink, &text, Status::Clean),
+        Err(NoMemory) => Status::NoMemory,
     }
+}
+
+/// Marks the moves of a file, or refuses it.
+fn point_file<S: Shelf, K: Sink>(
+    alloc: Global,
+    file: &str,
+    question: &Question,
+    shelf: &mut S,
+    sink: &mut K,
+) -> Status
+    requires question { IsQuestion question.now }
+    requires allowed { S.allows shelf.old file.now }
+    ensures answer { Answers result (due (S.files shelf.old) (Some (mark_moves file.now question.now))) (K.written sink.old) (K.written sink.new) }
+    ensures sound { result ≡ Status.Clean → MarksAreTrue (S.files shelf.old) (Some (mark_moves file.now question.now)) }
+    ensures read_fault { result ≡ Status.ReadFault → Rose (S.faults shelf.old) (S.faults shelf.new) }
+    ensures write_fault { result ≡ Status.WriteFault → Rose (K.faults sink.old) (K.faults sink.new) }
+    ensures files { S.files shelf.new ≡ S.files shelf.old }
+{
+    match read_file(alloc, file, shelf) {
+        Ok(program) => point_program(alloc, &program, question, sink),
+        Err(Stopped::Refused(fault)) => refuse(alloc, fault, sink),
+        Err(Stopped::ReadFault) => Status::ReadFault,
+        Err(Stopped::NoMemory) => Status::NoMemory,
+    }
+}
+
+/// Marks the moves of a program, unless one of its cutters is refused.
+#[tactic(auto, using(crate::proofs::Truths::all_truly_marked))]
+fn point_program<K: Sink>(
+    alloc: Global,
+    program: &Program,
+    question: &Question,
+    sink: &mut K,
+) -> Status
+    requires question { IsQuestion question.now }
+    requires valid { All IsMove program.now.moves }
+    ensures answer { Answers result (Some (marked question.now program.now)) (K.written sink.old) (K.written sink.new) }
+    ensures sound { result ≡ Status.Clean → All (IsTrulyMarked question.now) program.now.moves }
+    ensures no_read { result ≢ Status.ReadFault }
+    ensures write_fault { result ≡ Status.WriteFault → Rose (K.faults sink.old) (K.faults sink.new) }
+{
+    if let Some(line) = low_cutter(program.moves.as_slice()) {
+        return refuse(alloc, Fault::CutterHeight(line), sink);
+    }
+    match marks_text(alloc, program, question) {
+        Ok(text) => write_answer(sink, &text, Status::Clean),
+        Err(NoMemory) => Status::NoMemory,
+    }
+}
+
+/// The text of a program's marks.
+fn marks_text(alloc: Global, program: &Program, question: &Question) -> Result<Vec<u8>, NoMemory>
+    requires question { IsQuestion question.now }
+    requires valid { All IsMove program.now.moves }
+    requires rounded { first_low program.now.moves ≡ None }
+    ensures { IfOk result (λ v. v.items ≡ marking_of program.now (marks_for question.now program.now.moves)) }
+{
+    let marks = marks_of(alloc, program.moves.as_slice(), question)?;
+    point_text(alloc, program, &marks)
 }
 
 /// Writes the line of a refusal.

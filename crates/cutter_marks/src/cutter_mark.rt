@@ -4,6 +4,7 @@ ghost use Rattle.bern_form.specs.Marks.{IsPossible};
 ghost use Rattle.axis_cells.specs.Marked.{IsMarked};
 ghost use Rattle.cutter_slabs.specs.Cutter.{Meets};
 ghost use Rattle.cutter_slabs.specs.Stacks.{inner_stack, outer_stack, reach_of};
+ghost use Rattle.cutter_marks.specs.MarkBy.{mark_by};
 
 use axis_cells::{Mark, Sweep, plain_mark};
 use cutter_slabs::Stacks;
@@ -13,6 +14,7 @@ use cutter_slabs::Stacks;
 pub fn mark_of(sweep: &Sweep, stacks: &Stacks, point: [i32; 3], depth: u32) -> Mark
     requires point { IsPoint point }
     requires depth { depth ≤ 10 }
+    ensures value { result ≡ mark_by stacks.now.cutter stacks.now.slabs sweep.now point (2 ^ depth) }
     ensures mark { let cutter = stacks.now.cutter in let n = stacks.now.slabs in
         IsMarked result (inner_stack cutter n) (outer_stack cutter n) (pos (reach_of cutter)) sweep.now point (2 ^ depth) }
     ensures removed { result ≡ Mark.Removed → Meets stacks.now.cutter sweep.now point }

@@ -8,6 +8,7 @@ use Rattle.bern_form.specs.Marks.{HeldAtSample, IsNotPossible}
 use Rattle.axis_cells.specs.declared.mark.Mark.{Mark}
 use Rattle.axis_cells.specs.Marked.{IsMarked}
 use Rattle.cutter_slabs.specs.Stacks.{inner_stack, outer_stack, reach_of}
+use Rattle.cutter_marks.proofs.Decided.{mark_by_is}
 use Rattle.cutter_marks.proofs.cutter_mark.mark_of.Goals as goal
 
 some_cells : (depth : ℕ) → 0 < 2 ^ depth
@@ -45,3 +46,6 @@ returns-clause-clear c = λ clear.
     let sweep : IsSweep m = subst IsSweep c.sweep.view_is c.sweep.invariant in
     let out = subst (λ (mark : Mark). IsMarked mark (inner_stack cutter n) (outer_stack cutter n) (pos (reach_of cutter)) m p S) clear (returns-clause-mark c) in
     c.outer-outer.ensures.clear m p S (some_cells c.args.depth) sweep (subst (λ (l : List SlabSize). IsNotPossible l (pos (reach_of cutter)) m p S) (sym c.outer-outer.ensures.stack) out.1)
+
+pub returns-clause-value : goal.returns-clause-value
+returns-clause-value c = mark_by_is c.plain_mark.result c.args.stacks.now.cutter c.args.stacks.now.slabs c.args.sweep.now c.args.point (2 ^ c.args.depth) (returns-clause-mark c)

@@ -1,0 +1,3 @@
+pub mod AxisLemmas
+pub mod FoldLemmas
+pub mod PassedLemmas

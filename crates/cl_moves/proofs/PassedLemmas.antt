@@ -1,0 +1,87 @@
+-- One record counts for at most one that is passed over, and is one of those that are left.
+use Rattle.std.specs.Prelude.{◌≡◌, ℕ, ◌≤◌, ◌+◌, Bool, true, false, List, [], ◌∷◌, ◌++◌, length, ℤ, Option, Some, None, Result, Ok, Err, unwrap_or, nat_lt, if◌then◌else◌, refl}
+use Rattle.std.specs.List.{list_all}
+use Rattle.std.proofs.Common.{arith, ap}
+use Rattle.cl_lines.specs.Next.{next_of}
+use Rattle.cl_lines.specs.Texts.{Numbered}
+use Rattle.cl_lines.specs.declared.fault.ClFault.{ClFault}
+use Rattle.cl_lines.specs.declared.fault.ClWhy.{ClWhy}
+use Rattle.cl_lines.specs.declared.fault.ClWhy.TheVariants.{NumberRange, AxisFlip, TooManyMoves}
+use Rattle.cl_records.specs.declared.statement.Record.{Record}
+use Rattle.cl_records.specs.declared.statement.Record.TheVariants.{Goto, From, Delta, Cutter, Multax, Units, Rapid, Fini, Passed}
+use Rattle.cl_moves.specs.Axes.{are_opposite}
+use Rattle.cl_moves.specs.Program.{arrived, gone_by, gone_to, is_coordinate, move_to, moved, multaxed, placed, start, step, sum}
+use Rattle.cl_moves.specs.declared.fold.Fold.{Fold}
+use Rattle.cl_moves.specs.declared.moves.TheConstants.{MAX_MOVES}
+
+-- the state that a record made is the one that it gives
+abbrev done : Fold → Result Fold ClWhy
+done fold = Ok fold
+
+same_passed : (made next : Fold) → done made ≡ done next → made.passed ≡ next.passed
+same_passed made next e = let same : made ≡ next = cc in ap (λ (f : Fold). f.passed) same
+
+made_passed : (opposite room : Bool) (made next : Fold)
+    → (if opposite then Err AxisFlip else (if room then Ok made else Err TooManyMoves)) ≡ Ok next → made.passed ≡ next.passed
+made_passed true room made next e = cc
+made_passed false true made next e = same_passed made next e
+made_passed false false made next e = cc
+
+moved_passed : (line : ℕ) (from tip axis : List ℤ) (fold next : Fold) → moved line from tip axis fold ≡ Ok next → fold.passed ≡ next.passed
+moved_passed line from tip axis fold next e =
+    made_passed (are_opposite fold.axis axis) (nat_lt (length fold.moves) MAX_MOVES)
+    (record (arrived tip axis fold) { moves = fold.moves ++ move_to line from tip axis fold ∷ [] }) next e
+
+gone_to_passed : (line : ℕ) (tip axis : List ℤ) (position : Option (List ℤ)) (fold next : Fold)
+    → gone_to line tip axis position fold ≡ Ok next → fold.passed ≡ next.passed
+gone_to_passed line tip axis None fold next e = same_passed (arrived tip axis fold) next e
+gone_to_passed line tip axis (Some from) fold next e = moved_passed line from tip axis fold next e
+
+summed_passed : (inside : Bool) (line : ℕ) (by from : List ℤ) (fold next : Fold)
+    → (if inside then moved line from (sum from by) fold.axis fold else Err NumberRange) ≡ Ok next → fold.passed ≡ next.passed
+summed_passed true line by from fold next e = moved_passed line from (sum from by) fold.axis fold next e
+summed_passed false line by from fold next e = cc
+
+gone_by_passed : (line : ℕ) (by : List ℤ) (position : Option (List ℤ)) (fold next : Fold)
+    → gone_by line by position fold ≡ Ok next → fold.passed ≡ next.passed
+gone_by_passed line by None fold next e = cc
+gone_by_passed line by (Some from) fold next e = summed_passed (list_all is_coordinate (sum from by)) line by from fold next e
+
+multaxed_passed : (on : Bool) (fold : Fold) → fold.passed ≡ (multaxed on fold).passed
+multaxed_passed true fold = refl
+multaxed_passed false fold = refl
+
+-- one record counts for at most one that is passed over
+pub passed_grows : (line : ℕ) (statement : Record) (fold next : Fold) → step line statement fold ≡ Ok next → next.passed ≤ fold.passed + 1
+passed_grows line (Goto tip axis) fold next e =
+    let same = gone_to_passed line tip (unwrap_or axis fold.axis) fold.position fold next e in omega arith
+passed_grows line (From tip axis) fold next e = let same = same_passed (placed tip (unwrap_or axis fold.axis) fold) next e in omega arith
+passed_grows line (Delta by) fold next e = let same = gone_by_passed line by fold.position fold next e in omega arith
+passed_grows line (Cutter cutter) fold next e = let same = same_passed (record fold { cutter = Some cutter }) next e in omega arith
+passed_grows line (Multax on) fold next e =
+    let same = same_passed (multaxed on fold) next e in let kept = multaxed_passed on fold in omega arith
+passed_grows line (Units unit) fold next e = let same = same_passed fold next e in omega arith
+passed_grows line Rapid fold next e = let same = same_passed (record fold { rapid = true }) next e in omega arith
+passed_grows line Fini fold next e = let same = same_passed fold next e in omega arith
+passed_grows line Passed fold next e = let same = same_passed (record fold { passed = fold.passed + 1 }) next e in omega arith
+
+-- whether an item comes
+abbrev gives : {A : Type 0} → Result (Option (ℕ × A) × List (Numbered A)) ClFault → Bool
+gives (Ok (None, items)) = false
+gives (Ok (Some item, items)) = true
+gives (Err fault) = false
+
+-- the items that are left
+abbrev left : {A : Type 0} → Result (Option (ℕ × A) × List (Numbered A)) ClFault → List (Numbered A)
+left (Ok (item, items)) = items
+left (Err fault) = []
+
+-- at the start nothing was passed over
+pub none_passed : (fold : Fold) → fold ≡ start → fold.passed ≡ 0
+none_passed fold e = ap (λ (f : Fold). f.passed) e
+
+-- a record that comes was the first of those left
+pub next_shorter : {A : Type 0} (old new : List (Numbered A)) (first : ℕ × A) → next_of old ≡ Ok (Some first, new) → length old ≡ length new + 1
+next_shorter [] new first e = let none : false ≡ true = ap gives e in cc
+next_shorter ((number, Ok item) ∷ items) new first e = let same : items ≡ new = ap left e in omega (arith, ap length same)
+next_shorter ((number, Err why) ∷ items) new first e = cc

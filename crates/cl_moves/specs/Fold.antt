@@ -1,0 +1,14 @@
+-- What holds of the tool's state between two records.
+use Rattle.std.specs.Prelude.{IfSome, All}
+use Rattle.bern_form.specs.Motion.{IsWithin}
+use Rattle.cl_records.specs.Ranges.{IsAxis, IsCutterText}
+use Rattle.cl_moves.specs.Moves.{IsMove}
+use Rattle.cl_moves.specs.declared.fold.Fold.{Fold}
+
+-- a position within a metre of the origin where one is known, a tool axis, a cutter whose sizes make sense where there is one,
+-- and moves that are all valid sweeps
+pub record IsFold (fold : Fold) : Type 0 where
+  pub position : IfSome fold.position (IsWithin 1000000)
+  pub axis : IsAxis fold.axis
+  pub cutter : IfSome fold.cutter IsCutterText
+  pub moves : All IsMove fold.moves

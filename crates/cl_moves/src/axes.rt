@@ -1,0 +1,69 @@
+ghost use Rattle.std.specs.Prelude.{◌≡◌, ◌≤◌, pos, ◌*ℤ◌, int_lt, unsigned_abs, ◌&&◌};
+ghost use Rattle.std.specs.Ordering.{int_eq};
+ghost use Rattle.bern_form.specs.Forms.{at};
+ghost use Rattle.bern_form.specs.Motion.{IsWithin, dot};
+ghost use Rattle.cl_moves.specs.Axes.{are_opposite};
+
+/// The tool axis at the start, along z.
+pub(crate) const UPRIGHT: [i32; 3] = [0, 0, 100_000];
+
+/// Whether two tool axes are opposite: parallel, and of opposite directions. Their lengths don't count. Axes that follow each
+/// other are mostly near each other, so the scalar product is judged first.
+#[tactic(auto, using(crate::proofs::AxisLemmas::last_first))]
+pub(crate) fn are_opposite(f: &[i32; 3], t: &[i32; 3]) -> bool
+    requires first { IsWithin 100000 f.now }
+    requires last { IsWithin 100000 t.now }
+    ensures { result ≡ are_opposite f.now t.now }
+{
+    is_obtuse(f, t) && are_parallel(f, t)
+}
+
+/// Whether the scalar product of two axes is negative.
+fn is_obtuse(f: &[i32; 3], t: &[i32; 3]) -> bool
+    requires first { IsWithin 100000 f.now }
+    requires last { IsWithin 100000 t.now }
+    ensures { result ≡ int_lt (dot f.now t.now) (pos 0) }
+{
+    scalar_product(f, t) < 0
+}
+
+/// The scalar product of two axes.
+fn scalar_product(f: &[i32; 3], t: &[i32; 3]) -> i64
+    requires first { IsWithin 100000 f.now }
+    requires last { IsWithin 100000 t.now }
+    ensures { result ≡ dot f.now t.now }
+{
+    product(f[0], t[0]) + product(f[1], t[1]) + product(f[2], t[2])
+}
+
+/// Whether the cross product of two axes is zero.
+fn are_parallel(f: &[i32; 3], t: &[i32; 3]) -> bool
+    requires first { IsWithin 100000 f.now }
+    requires last { IsWithin 100000 t.now }
+    ensures { result ≡ (int_eq (at f.now 1 *ℤ at t.now 2) (at f.now 2 *ℤ at t.now 1) && (int_eq (at f.now 2 *ℤ at t.now 0) (at f.now 0 *ℤ at t.now 2) && int_eq (at f.now 0 *ℤ at t.now 1) (at f.now 1 *ℤ at t.now 0))) }
+{
+    are_equal(f[1], t[2], f[2], t[1])
+        && are_equal(f[2], t[0], f[0], t[2])
+        && are_equal(f[0], t[1], f[1], t[0])
+}
+
+/// Whether a * b and c * d are equal.
+fn are_equal(a: i32, b: i32, c: i32, d: i32) -> bool
+    requires a { unsigned_abs a ≤ 100000 }
+    requires b { unsigned_abs b ≤ 100000 }
+    requires c { unsigned_abs c ≤ 100000 }
+    requires d { unsigned_abs d ≤ 100000 }
+    ensures { result ≡ int_eq (a *ℤ b) (c *ℤ d) }
+{
+    product(a, b) == product(c, d)
+}
+
+/// The product of two components of an axis.
+fn product(a: i32, b: i32) -> i64
+    requires first { unsigned_abs a ≤ 100000 }
+    requires last { unsigned_abs b ≤ 100000 }
+    ensures exact { result ≡ a *ℤ b }
+    ensures small { unsigned_abs result ≤ 10000000000 }
+{
+    a as i64 * b as i64
+}

@@ -1,0 +1,3 @@
+pub mod Ends
+pub mod Shapes
+pub mod Truths
