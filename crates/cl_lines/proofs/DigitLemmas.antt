@@ -65,16 +65,16 @@ SpellsOn-next digits i value total most within so_far =
     }
 
 -- digits behind a number that fits still fit
-pub fits-append : (n w f : ℕ) → n < (0 + 1) * 10 ^ w → w + f ≤ 20 → (n + 1) * 10 ^ f ≤ 10 ^ 20
-fits-append n w f bound short =
+pub fits-append : (most n w f : ℕ) → n < (0 + 1) * 10 ^ w → w + f ≤ most → (n + 1) * 10 ^ f ≤ 10 ^ most
+fits-append most n w f bound short =
     let split = pow-add 10 w f in
     let grows = mul-le-mul_right (10 ^ f) bound in
-    omega (arith, ten_monotone (w + f) 20 short)
+    omega (arith, ten_monotone (w + f) most short)
 
 -- what was spelt so far fits, as long as all of it does
 pub SpellsOn-small : (digits : List ℕ) (i value total most : ℕ) → SpellsOn digits i value total most → value + 1 ≤ most
 SpellsOn-small digits i value total most so_far = omega (arith, so_far.bound, ten_grows (value + 1) (length digits - i))
 
--- two runs of at most twenty digits spell less than 10^20
-pub fits-whole : (n m w f : ℕ) → n < (0 + 1) * 10 ^ w → m < (n + 1) * 10 ^ f → w + f ≤ 20 → m < 10 ^ 20
-fits-whole n m w f bound more short = omega (arith, fits-append n w f bound short)
+-- two runs of digits spell less than the power of ten of as many
+pub fits-whole : (most n m w f : ℕ) → n < (0 + 1) * 10 ^ w → m < (n + 1) * 10 ^ f → w + f ≤ most → m < 10 ^ most
+fits-whole most n m w f bound more short = omega (arith, fits-append most n w f bound short)

@@ -56,3 +56,10 @@ ten_later-le n i j within = let split = ten_later n i j within in let grows = te
 
 pub ten_later-zero : (n i j : ℕ) → i ≤ j → 0 ≡ n * 10 ^ i → 0 ≡ n * 10 ^ j
 ten_later-zero n i j within none = sym (ten_later n i j within ∙ ap (λ k. k * 10 ^ (j - i)) (sym none) ∙ omega arith)
+
+-- a power of ten in the factor is as good as one in the number
+pub scaled-power : (digits base power up down : ℕ) → scaled digits (base * 10 ^ power) up down ≡ scaled digits base (up + power) down
+scaled-power digits base power up down =
+    let split : 10 ^ (up + power) ≡ 10 ^ up * 10 ^ power = pow-add 10 up power in
+    let same : digits * (base * 10 ^ power) * 10 ^ up ≡ digits * base * 10 ^ (up + power) = (omega arith) ∙ ap (λ k. digits * base * k) (sym split) in
+    ap (λ n. nearest n (10 ^ down)) same

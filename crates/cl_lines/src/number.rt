@@ -1,6 +1,7 @@
-ghost use Rattle.std.specs.Prelude.{◌≡◌, ◌+◌, ◌*◌, ◌^◌, ◌<◌, ◌≤◌, length, true, Some, IfOk, IfSome, option_map};
+ghost use Rattle.std.specs.Prelude.{◌≡◌, ◌+◌, ◌*◌, ◌^◌, ◌<◌, ◌≤◌, ◌++◌, length, true, Some, IfOk, IfSome, MatchOption, option_map};
 ghost use Rattle.std.specs.Char.{is_ascii_digit};
 ghost use Rattle.std.specs.List.{list_all, prefix_len};
+ghost use Rattle.cl_lines.specs.Rounding.{scaled};
 ghost use Rattle.cl_lines.specs.Numbers.{signed, digits_of, fraction_of, spelt, small_number_of, power_of, exponent_of, number_of, with_sign, whole_of, bounded, length_of, scaled_of, IsBetween};
 
 use crate::rounding::rounded;
@@ -38,11 +39,10 @@ pub fn read_length(text: &[u8], unit: Unit, least: i32, most: i32) -> Result<i32
     ensures length { result ≡ length_of unit least most text.now }
     ensures range { IfOk result (IsBetween least most) }
 {
-    let factor = match unit {
-        Unit::Mm => 1_000,
-        Unit::Inch => 25_400,
-    };
-    bounded_number(number(text), factor, least, most)
+    match unit {
+        Unit::Mm => bounded_number(number(text), 1, 3, least, most),
+        Unit::Inch => bounded_number(number(text), 254, 2, least, most),
+    }
 }
 
 /// Reads a number and rounds it to 1/100,000, halves away from zero.
@@ -50,28 +50,49 @@ pub fn read_scaled(text: &[u8], least: i32, most: i32) -> Result<i32, NumberFaul
     ensures number { result ≡ scaled_of least most text.now }
     ensures range { IfOk result (IsBetween least most) }
 {
-    bounded_number(number(text), 100_000, least, most)
+    bounded_number(number(text), 1, 5, least, most)
 }
 
-/// The number times a factor, rounded, where it lies between the bounds.
+/// The number times base * 10^power, rounded, where it lies between the bounds.
 fn bounded_number(
     number: Option<Decimal>,
-    factor: u128,
+    base: u128,
+    power: u32,
     least: i32,
     most: i32,
 ) -> Result<i32, NumberFault>
     requires digits { IfSome number (λ n. n.digits < 10 ^ 20) }
-    requires factor { factor ≤ 100000 }
-    ensures value { result ≡ bounded least most (option_map (whole_of factor) number) }
+    requires up { IfSome number (λ n. n.up < 100) }
+    requires base { base ≤ 1000 }
+    requires power { power ≤ 5 }
+    ensures value { result ≡ bounded least most (option_map (whole_of (base * 10 ^ power)) number) }
     ensures range { IfOk result (IsBetween least most) }
 {
     let Some(number) = number else {
         return Err(NumberFault::Syntax);
     };
-    match rounded(number.digits, factor, number.up, number.down, LARGEST_SIZE) {
+    match rounded_size(number, base, power) {
         Some(size) => within(signed_size(number.negative, size), least, most),
         None => Err(NumberFault::Range),
     }
+}
+
+/// The size of a number times base * 10^power, rounded, where any range holds it. The power is added to the number's own, so
+/// that a small number is divided by a small one.
+fn rounded_size(number: Decimal, base: u128, power: u32) -> Option<u128>
+    requires digits { number.digits < 10 ^ 20 }
+    requires up { number.up < 100 }
+    requires base { base ≤ 1000 }
+    requires power { power ≤ 5 }
+    ensures { MatchOption result (LARGEST_SIZE < scaled number.digits (base * 10 ^ power) number.up number.down) (λ r. (r ≡ scaled number.digits (base * 10 ^ power) number.up number.down) × (r ≤ LARGEST_SIZE)) }
+{
+    rounded(
+        number.digits,
+        base,
+        number.up + power,
+        number.down,
+        LARGEST_SIZE,
+    )
 }
 
 /// The greatest size that any range holds.
@@ -102,6 +123,7 @@ fn within(value: i64, least: i32, most: i32) -> Result<i32, NumberFault>
 fn number(text: &[u8]) -> Option<Decimal>
     ensures number { result ≡ number_of text.now }
     ensures digits { IfSome result (λ n. n.digits < 10 ^ 20) }
+    ensures up { IfSome result (λ n. n.up < 100) }
 {
     let (negative, behind_sign) = behind_sign(text);
     let (whole, behind_whole) = split_digits(behind_sign);
@@ -113,7 +135,7 @@ fn number(text: &[u8]) -> Option<Decimal>
     let (up, down) = exponent(behind_fraction)?;
     Some(Decimal {
         negative,
-        digits: spell(spell(0, whole), fraction),
+        digits: spell_both(whole, fraction),
         up,
         down: fraction.len() as u32 + down,
     })
@@ -168,7 +190,7 @@ fn split_fraction(text: &[u8]) -> (&[u8], &[u8])
 /// The power of ten that an exponent stands for: one to multiply by and one to divide by.
 fn exponent(text: &[u8]) -> Option<(u32, u32)>
     ensures power { result ≡ exponent_of text.now }
-    ensures small { IfSome result (λ power. power.1 < 100) }
+    ensures small { IfSome result (λ power. (power.0 < 100) × (power.1 < 100)) }
 {
     match text {
         [] => Some((0, 0)),
@@ -180,7 +202,7 @@ fn exponent(text: &[u8]) -> Option<(u32, u32)>
 /// The power of ten of one or two digits with a sign.
 fn power(text: &[u8]) -> Option<(u32, u32)>
     ensures power { result ≡ power_of (signed text.now) }
-    ensures small { IfSome result (λ power. power.1 < 100) }
+    ensures small { IfSome result (λ power. (power.0 < 100) × (power.1 < 100)) }
 {
     let (negative, digits) = behind_sign(text);
     let size = small_number(digits)?;
@@ -199,6 +221,38 @@ fn small_number(digits: &[u8]) -> Option<u32>
         }
         _ => None,
     }
+}
+
+/// The number that the digits ahead of the point and those behind it spell together.
+fn spell_both(whole: &[u8], fraction: &[u8]) -> u128
+    requires whole { list_all is_ascii_digit whole.now ≡ true }
+    requires fraction { list_all is_ascii_digit fraction.now ≡ true }
+    requires few { length whole.now + length fraction.now ≤ 20 }
+    ensures spelt { result ≡ spelt 0 (whole.now ++ fraction.now) }
+    ensures bound { result < 10 ^ 20 }
+{
+    if whole.len() + fraction.len() <= SHORT_DIGITS {
+        spell_short(spell_short(0, whole), fraction) as u128
+    } else {
+        spell(spell(0, whole), fraction)
+    }
+}
+
+/// Numbers of no more digits are spelt in 64 bits, which is faster.
+const SHORT_DIGITS: usize = 18;
+
+/// The number that a few digits spell behind those of `n`.
+fn spell_short(n: u64, digits: &[u8]) -> u64
+    requires digits { list_all is_ascii_digit digits.now ≡ true }
+    requires fits { (n + 1) * 10 ^ length digits.now ≤ 10 ^ 18 }
+    ensures spelt { result ≡ spelt n digits.now }
+    ensures bound { result < (n + 1) * 10 ^ length digits.now }
+{
+    let mut value = n;
+    for digit in digits {
+        value = 10 * value + u64::from(*digit - b'0');
+    }
+    value
 }
 
 /// The number that the digits spell behind those of `n`.

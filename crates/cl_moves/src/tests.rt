@@ -270,7 +270,7 @@ fn what_each_record_does(rt: HostRuntime) -> Result<(), Fail> {
 
 #[test]
 fn first_faults(rt: HostRuntime) {
-    let rows: [(&str, &str, u32, ClWhy); 15] = [
+    let rows: [(&str, &str, u32, ClWhy); 16] = [
         (
             "GODLTA with no position",
             "CUTTER/2\nGODLTA/1,0,0",
@@ -305,6 +305,12 @@ fn first_faults(rt: HostRuntime) {
             "a sum past a metre in z",
             "FROM/0,0,999\nGODLTA/0,0,1\nGODLTA/0,0,0.001",
             3,
+            ClWhy::NumberRange,
+        ),
+        (
+            "a number out of range ahead of the axis turned over",
+            "FROM/0,0,0\nGOTO/1000.001,0,0,0,0,-1",
+            2,
             ClWhy::NumberRange,
         ),
         (

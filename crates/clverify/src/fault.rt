@@ -99,6 +99,6 @@ fn write_refused_word(page: &mut Page, why: ClWhy) -> Result<(), NoMemory>
     let ClWhy::Unsupported(word) = why else {
         return Ok(());
     };
-    page.text(b" ")?;
+    page.space()?;
     page.text(word.name())
 }

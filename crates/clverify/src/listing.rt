@@ -68,9 +68,9 @@ fn write_cutter(page: &mut Page, cutter: &Option<CutterText>) -> Result<(), NoMe
         return page.text(b"none");
     };
     page.number(cutter.d)?;
-    page.text(b" ")?;
+    page.space()?;
     page.number(cutter.r)?;
-    page.text(b" ")?;
+    page.space()?;
     write_height(page, cutter.h)
 }
 

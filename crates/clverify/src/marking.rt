@@ -47,7 +47,7 @@ fn write_mark(
     page.count(number)?;
     page.text(b" line ")?;
     page.count(next.line as usize)?;
-    page.text(b" ")?;
+    page.space()?;
     page.text(name_of_mark(*mark))?;
     page.end_line()
 }

@@ -1,4 +1,4 @@
-ghost use Rattle.std.specs.Prelude.{◌≡◌, [], ◌++◌, ◌∷◌, decimal, IfOk, OnOk};
+ghost use Rattle.std.specs.Prelude.{◌≡◌, [], ◌++◌, ◌∷◌, codes, decimal, IfOk, OnOk};
 ghost use Rattle.std.specs.Fmt.{signed_decimal};
 ghost use Rattle.vf_io.specs.Pieces.{line_feed};
 ghost use Rattle.clverify.specs.Texts.{numbers};
@@ -59,6 +59,16 @@ impl Page {
         }
     }
 
+    /// Adds a space, which stands ahead of each number of a line.
+    pub(crate) fn space(&mut self) -> Result<(), NoMemory>
+        ensures { OnOk result (self.new ≡ self.old ++ codes " ") }
+    {
+        match self.bytes.push(b' ') {
+            Ok(()) => Ok(()),
+            Err(_) => Err(NoMemory),
+        }
+    }
+
     /// Adds a line end.
     pub(crate) fn end_line(&mut self) -> Result<(), NoMemory>
         ensures { OnOk result (self.new ≡ self.old ++ line_feed ∷ []) }
@@ -85,11 +95,11 @@ impl Page {
         ensures { OnOk result (self.new ≡ self.old ++ numbers point.now) }
     {
         let [x, y, z] = *point;
-        self.text(b" ")?;
+        self.space()?;
         self.number(x)?;
-        self.text(b" ")?;
+        self.space()?;
         self.number(y)?;
-        self.text(b" ")?;
+        self.space()?;
         self.number(z)
     }
 }
