@@ -1,9 +1,10 @@
 -- The coefficients of a cell's tests stay below 4 * 10^37.
 use Rattle.std.proofs.Common.{◌≡◌, ℕ, ◌+◌, ◌*◌, ◌^◌, ◌≤◌, ◌<◌, [], ◌∷◌, List, ℤ, pos, ◌*ℤ◌, unsigned_abs, arith, subst}
 use Rattle.std.specs.List.{All}
-use Rattle.bern_form.specs.Forms.{IsSmall, at, difference4, lifted, product11, product22, scaled2, scaled4, sum2}
-use Rattle.bern_form.specs.Motion.{IsWithin}
-use Rattle.bern_form.specs.Cells.{cross, ends}
+use Rattle.bern_form.specs.Forms.{IsSmall, difference4, lifted, product11, product22, scaled2, scaled4, sum2}
+use Rattle.space.specs.Vectors.{at}
+use Rattle.space.specs.Ranges.{IsWithin}
+use Rattle.bern_form.specs.Cells.{dot_on_cell, ends}
 use Rattle.bern_form.specs.Sizes.{IsBounded2, IsBounded4, axis_limit, length_limit, offset_limit}
 use Rattle.bern_form.proofs.Sizes.{bounded2_small, bounded4_small, difference4_bounded, lifted_bounded, product11_bounded, product22_bounded, scaled2_bounded, scaled4_bounded, sum2_bounded}
 
@@ -19,10 +20,10 @@ two_bounded p q a c m n hp hq ha hc =
     (component_bounded p q a c 0 m n hp.0 hq.0 ha.0 hc.0) (component_bounded p q a c 1 m n hp.1 hq.1 ha.1 hc.1)
 
 -- a scalar product on a cell
-pub cross_bounded : (p q a c : List ℤ) (m n : ℕ) → IsWithin m p → IsWithin m q → IsWithin n a → IsWithin n c → IsBounded2 (3 * (m * n)) (cross p q a c)
+pub cross_bounded : (p q a c : List ℤ) (m n : ℕ) → IsWithin m p → IsWithin m q → IsWithin n a → IsWithin n c → IsBounded2 (3 * (m * n)) (dot_on_cell p q a c)
 cross_bounded p q a c m n hp hq ha hc =
     let e : m * n + m * n + m * n ≡ 3 * (m * n) = omega arith in
-    subst (λ k. IsBounded2 k (cross p q a c)) e
+    subst (λ k. IsBounded2 k (dot_on_cell p q a c)) e
     (sum2_bounded (sum2 (product11 (ends p q 0) (ends a c 0)) (product11 (ends p q 1) (ends a c 1))) (product11 (ends p q 2) (ends a c 2)) (m * n + m * n) (m * n)
     (two_bounded p q a c m n hp hq ha hc) (component_bounded p q a c 2 m n hp.2 hq.2 ha.2 hc.2))
 
@@ -32,7 +33,7 @@ pub record CrossFits (p q a c : List ℤ) : Type 0 where
   pub y : All IsSmall (product11 (ends p q 1) (ends a c 1))
   pub z : All IsSmall (product11 (ends p q 2) (ends a c 2))
   pub two : All IsSmall (sum2 (product11 (ends p q 0) (ends a c 0)) (product11 (ends p q 1) (ends a c 1)))
-  pub whole : All IsSmall (cross p q a c)
+  pub whole : All IsSmall (dot_on_cell p q a c)
 
 small2 : (a b c : ℤ) (m : ℕ) → m ≤ 3 * (offset_limit * offset_limit) → IsBounded2 m (a ∷ b ∷ c ∷ []) → All IsSmall (a ∷ b ∷ c ∷ [])
 small2 a b c m l h = bounded2_small a b c m (omega arith) h
@@ -48,7 +49,7 @@ cross_fits p q a c hp hq ha hc =
       y = list2 (product11 (ends p q 1) (ends a c 1)) part (omega arith) (component_bounded p q a c 1 m m hp.1 hq.1 ha.1 hc.1);
       z = list2 (product11 (ends p q 2) (ends a c 2)) part (omega arith) (component_bounded p q a c 2 m m hp.2 hq.2 ha.2 hc.2);
       two = list2 (sum2 (product11 (ends p q 0) (ends a c 0)) (product11 (ends p q 1) (ends a c 1))) (part + part) (omega arith) (two_bounded p q a c m m hp hq ha hc);
-      whole = list2 (cross p q a c) (3 * part) (omega arith) (cross_bounded p q a c m m hp hq ha hc);
+      whole = list2 (dot_on_cell p q a c) (3 * part) (omega arith) (cross_bounded p q a c m m hp hq ha hc);
     }
 
 -- a list of degree 4 that is bounded below the limit

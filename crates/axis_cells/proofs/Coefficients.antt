@@ -2,9 +2,10 @@
 use Rattle.std.proofs.Common.{negsuc, ℕ, ◌+◌, ◌*◌, ◌≤◌, ◌<◌, List, ℤ, pos, ◌≤ℤ◌, unsigned_abs, arith}
 use Rattle.std.proofs.lemmas.Int.{ints}
 use Rattle.bern_form.specs.Forms.{lifted, product22, scaled2}
-use Rattle.bern_form.specs.Motion.{IsPoint, IsSweep, Motion}
+use Rattle.space.specs.Ranges.{IsPoint}
+use Rattle.space.specs.Motion.{IsSweep, Motion}
 use Rattle.bern_form.specs.Slab.{IsSlab, SlabSize}
-use Rattle.bern_form.specs.Cells.{d_list, first_axis, first_offset, last_axis, last_offset, n_list, scaled_square, u_list, w_list}
+use Rattle.bern_form.specs.Cells.{d_list, start_axis, start_offset, end_axis, end_offset, n_list, scaled_square, u_list, w_list}
 use Rattle.bern_form.specs.Sizes.{axis_limit, offset_limit, scale_limit}
 use Rattle.bern_form.proofs.Sizes.{axis_within, offset_within}
 use Rattle.axis_cells.specs.Exclusion.{CoefficientsAreSmall}
@@ -18,7 +19,7 @@ length_small (negsuc k) n h l b = absurd (omega (arith, ints, h))
 
 pub coefficients_small : (s : SlabSize) (m : Motion) (p : List ℤ) (k S : ℕ) → IsSlab s → IsSweep m → IsPoint p → k < S → S ≤ scale_limit → CoefficientsAreSmall s m p k S
 coefficients_small s m p k S slab sweep point within few =
-    let P = first_offset m p k S in let Q = last_offset m p k S in let A = first_axis m k S in let C = last_axis m k S in
+    let P = start_offset m p k S in let Q = end_offset m p k S in let A = start_axis m k S in let C = end_axis m k S in
     let hP = offset_within m p k S sweep point (omega arith) few in let hQ = offset_within m p (k + 1) S sweep point (omega arith) few in
     let hA = axis_within m k S sweep (omega arith) few in let hC = axis_within m (k + 1) S sweep (omega arith) few in
     let u = u_list m p k S in let n = n_list m k S in let d = d_list m p k S in

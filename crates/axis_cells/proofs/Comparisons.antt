@@ -1,13 +1,11 @@
 -- From the numbers that a test compares to what it says.
 use Rattle.std.specs.Int.Signed.{le_z}
 use Rattle.std.proofs.lemmas.Int.{ints}
-use Rattle.std.proofs.Common.{arith}
-use Rattle.std.proofs.Common.{◌≡◌, Bool, false, IsTrue, ◌↔◌, ℤ, pos, ◌*ℤ◌, ◌≤ℤ◌, subst, sym}
-use Rattle.std.proofs.Common.{ℕ, List, inl, inr, ⊎_elim, ◌∙◌, ap}
+use Rattle.std.proofs.Common.{arith, ◌≡◌, Bool, false, IsTrue, ◌↔◌, ℤ, pos, ◌*ℤ◌, ◌≤ℤ◌, subst, sym, ℕ, List, inl, inr, ⊎_elim, ◌∙◌, ap}
 use Rattle.bern_form.specs.Forms.{AllNegative, AllPositive, difference4, product22, scaled4}
-use Rattle.bern_form.specs.Motion.{Motion}
+use Rattle.space.specs.Motion.{Motion}
 use Rattle.bern_form.specs.Slab.{Covers, SlabSize}
-use Rattle.bern_form.specs.Cells.{Excluded, cross, d_list, first_axis, first_offset, last_axis, last_offset, n_list, u_list, w_list}
+use Rattle.bern_form.specs.Cells.{Excluded, dot_on_cell, d_list, start_axis, start_offset, end_axis, end_offset, n_list, u_list, w_list}
 use Rattle.bern_form.specs.Marks.{IsNear}
 use Rattle.axis_cells.specs.Exclusion.{IsCellOf, IsExcludedBy, squared}
 
@@ -75,23 +73,23 @@ excluded_by scale behind n height width m p k S s cell out =
 
 -- the cell between two poses is the cell between their times
 pub cell_of_poses : (scale : ℤ) (behind : Bool) (n height width : List ℤ) (m : Motion) (p : List ℤ) (k S : ℕ) (P Q A C : List ℤ)
-    → P ≡ first_offset m p k S → Q ≡ last_offset m p k S → A ≡ first_axis m k S → C ≡ last_axis m k S
-    → scale ≡ pos S → (IsTrue behind ↔ AllNegative (cross P Q A C)) → n ≡ cross A C A C → height ≡ product22 (cross P Q A C) (cross P Q A C)
-    → width ≡ scaled4 (pos 4) (difference4 (product22 (cross P Q P Q) (cross A C A C)) (product22 (cross P Q A C) (cross P Q A C)))
+    → P ≡ start_offset m p k S → Q ≡ end_offset m p k S → A ≡ start_axis m k S → C ≡ end_axis m k S
+    → scale ≡ pos S → (IsTrue behind ↔ AllNegative (dot_on_cell P Q A C)) → n ≡ dot_on_cell A C A C → height ≡ product22 (dot_on_cell P Q A C) (dot_on_cell P Q A C)
+    → width ≡ scaled4 (pos 4) (difference4 (product22 (dot_on_cell P Q P Q) (dot_on_cell A C A C)) (product22 (dot_on_cell P Q A C) (dot_on_cell P Q A C)))
     → IsCellOf scale behind n height width m p k S
 cell_of_poses scale behind n height width m p k S P Q A C eP eQ eA eC es eb en eh ew =
-    let n' : cross A C A C ≡ n_list m k S = ap (λ a. cross a C a C) eA ∙ ap (λ c. cross (first_axis m k S) c (first_axis m k S) c) eC in
-    let u' : cross P Q A C ≡ u_list m p k S =
-    ap (λ p. cross p Q A C) eP ∙ ap (λ q. cross (first_offset m p k S) q A C) eQ ∙ ap (λ a. cross (first_offset m p k S) (last_offset m p k S) a C) eA
-    ∙ ap (λ c. cross (first_offset m p k S) (last_offset m p k S) (first_axis m k S) c) eC in
-    let d' : cross P Q P Q ≡ d_list m p k S = ap (λ p. cross p Q p Q) eP ∙ ap (λ q. cross (first_offset m p k S) q (first_offset m p k S) q) eQ in
+    let n' : dot_on_cell A C A C ≡ n_list m k S = ap (λ a. dot_on_cell a C a C) eA ∙ ap (λ c. dot_on_cell (start_axis m k S) c (start_axis m k S) c) eC in
+    let u' : dot_on_cell P Q A C ≡ u_list m p k S =
+    ap (λ p. dot_on_cell p Q A C) eP ∙ ap (λ q. dot_on_cell (start_offset m p k S) q A C) eQ ∙ ap (λ a. dot_on_cell (start_offset m p k S) (end_offset m p k S) a C) eA
+    ∙ ap (λ c. dot_on_cell (start_offset m p k S) (end_offset m p k S) (start_axis m k S) c) eC in
+    let d' : dot_on_cell P Q P Q ≡ d_list m p k S = ap (λ p. dot_on_cell p Q p Q) eP ∙ ap (λ q. dot_on_cell (start_offset m p k S) q (start_offset m p k S) q) eQ in
     record {
       scale_is = es;
       behind_is = subst (λ l. IsTrue behind ↔ AllNegative l) u' eb;
       n_is = en ∙ n';
       height_is = eh ∙ ap (λ u. product22 u u) u';
-      width_is = ew ∙ ap (λ d. scaled4 (pos 4) (difference4 (product22 d (cross A C A C)) (product22 (cross P Q A C) (cross P Q A C)))) d'
-          ∙ ap (λ n. scaled4 (pos 4) (difference4 (product22 (d_list m p k S) n) (product22 (cross P Q A C) (cross P Q A C)))) n'
+      width_is = ew ∙ ap (λ d. scaled4 (pos 4) (difference4 (product22 d (dot_on_cell A C A C)) (product22 (dot_on_cell P Q A C) (dot_on_cell P Q A C)))) d'
+          ∙ ap (λ n. scaled4 (pos 4) (difference4 (product22 (d_list m p k S) n) (product22 (dot_on_cell P Q A C) (dot_on_cell P Q A C)))) n'
           ∙ ap (λ u. scaled4 (pos 4) (difference4 (product22 (d_list m p k S) (n_list m k S)) (product22 u u))) u';
     }
 

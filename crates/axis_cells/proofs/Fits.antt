@@ -2,11 +2,12 @@
 use Rattle.std.proofs.Common.{ℕ, ◌*◌, ◌^◌, ◌≤◌, ◌<◌, List, ℤ, pos, ◌+ℤ◌, ◌*ℤ◌, ◌-ℤ◌, unsigned_abs, FitsSigned, arith}
 use Rattle.std.proofs.lemmas.Int.{fits_signed_from_abs}
 use mir.Syntax.{w64, w128}
-use Rattle.bern_form.specs.Forms.{at}
-use Rattle.bern_form.specs.Motion.{IsWithin, between, dot, offset, spread}
+use Rattle.space.specs.Vectors.{at, dot, spread}
+use Rattle.space.specs.Ranges.{IsWithin}
+use Rattle.space.specs.Motion.{between, offset}
 use Rattle.bern_form.specs.Sizes.{axis_limit, length_limit, offset_limit, scale_limit}
 use Rattle.bern_form.proofs.Sizes.{after_small, before_small, between_small, dot_small, offset_small}
-use Rattle.bern_form.proofs.Naturals.{abs_add, abs_mul, abs_sub}
+use Rattle.space.proofs.Naturals.{abs_add, abs_mul, abs_sub}
 
 pub fits64 : (z : ℤ) (n : ℕ) → unsigned_abs z ≤ n → n < 2 ^ 63 → FitsSigned w64 z
 fits64 z n h l = fits_signed_from_abs w64 z (omega arith)

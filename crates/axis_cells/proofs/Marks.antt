@@ -4,11 +4,12 @@ use Rattle.std.specs.List.{Contains}
 use Rattle.std.proofs.lemmas.Bool.{cases_lt}
 use Rattle.std.proofs.lemmas.List.{get_or_default}
 use Rattle.std.proofs.lemmas.Int.{ints}
-use Rattle.bern_form.specs.Motion.{IsSweep, IsTime, Motion, axis_at, dot, offset_at, spread}
+use Rattle.space.specs.Motion.{IsSweep, IsTime, Motion, axis_at, offset_at}
+use Rattle.space.specs.Vectors.{dot, spread}
 use Rattle.bern_form.specs.Slab.{Covers, HoldsAt, SlabSize}
 use Rattle.bern_form.specs.Cells.{Excluded}
 use Rattle.bern_form.specs.Marks.{InReach, LeftOnCell, SomeHolds}
-use Rattle.bern_form.proofs.Naturals.{natural}
+use Rattle.space.proofs.Naturals.{natural}
 use Rattle.bern_form.proofs.Reach.{held_within, reach_more}
 use Rattle.axis_cells.specs.Exclusion.{CoveredBySome, ExcludesAll, IsCellOf, LeavesSome}
 use Rattle.axis_cells.specs.Marked.{FitsInReach}

@@ -1,7 +1,7 @@
 -- The cell rule in terms of what a cell keeps.
 use Rattle.std.specs.Prelude.{◌≡◌, ◌↔◌, Bool, IsTrue, List, ℕ, ℤ, pos, ◌*ℤ◌, ◌⊎◌, Contains, All}
 use Rattle.bern_form.specs.Forms.{IsSmall, AllNegative, AllPositive, difference4, lifted, product22, scaled2}
-use Rattle.bern_form.specs.Motion.{Motion}
+use Rattle.space.specs.Motion.{Motion}
 use Rattle.bern_form.specs.Slab.{Covers, SlabSize}
 use Rattle.bern_form.specs.Cells.{across_list, along_list, n_list, u_list, w_list}
 

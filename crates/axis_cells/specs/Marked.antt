@@ -1,6 +1,6 @@
 -- What each mark of a point says.
 use Rattle.std.specs.Prelude.{ℕ, List, ℤ, ◌+ℤ◌, ◌≤ℤ◌}
-use Rattle.bern_form.specs.Motion.{Motion}
+use Rattle.space.specs.Motion.{Motion}
 use Rattle.bern_form.specs.Slab.{IsSlab, SlabSize}
 use Rattle.bern_form.specs.Marks.{HeldAtSample, IsPossible, IsNotPossible}
 use Rattle.axis_cells.specs.declared.mark.Mark.{Mark}

@@ -1,7 +1,7 @@
 ghost use Rattle.std.specs.Prelude.{◌≡◌, ◌+◌, ◌*◌, ◌<◌, ◌≤◌, ◌↔◌, ◌⊎◌, [], ◌∷◌, pos, ◌*ℤ◌, unsigned_abs, IsTrue, MatchBool};
 ghost use Rattle.bern_form.specs.Forms.{AllNegative, AllPositive, difference4, lifted, product22, scaled2, scaled4};
-ghost use Rattle.bern_form.specs.Motion.{IsPoint, IsWithin};
-ghost use Rattle.bern_form.specs.Cells.{cross};
+ghost use Rattle.space.specs.Ranges.{IsPoint, IsWithin};
+ghost use Rattle.bern_form.specs.Cells.{dot_on_cell};
 ghost use Rattle.axis_cells.specs.Exclusion.{ExcludesAll, IsCellOf, IsExcludedBy, LeavesSome};
 ghost use Rattle.bern_form.specs.Sizes.{IsBounded2, IsBounded4, axis_limit, length_limit, offset_limit, scale_limit};
 
@@ -30,7 +30,7 @@ fn scalar_product_on_cell(p: &[i64; 3], q: &[i64; 3], a: &[i64; 3], c: &[i64; 3]
     requires q { IsWithin offset_limit q.now }
     requires a { IsWithin offset_limit a.now }
     requires c { IsWithin offset_limit c.now }
-    ensures { result.c ≡ cross p.now q.now a.now c.now }
+    ensures { result.c ≡ dot_on_cell p.now q.now a.now c.now }
 {
     let [px, py, pz] = *p;
     let [qx, qy, qz] = *q;
@@ -63,12 +63,12 @@ impl Cell {
     pub fn between(first: &Pose, last: &Pose, scale: u32) -> Cell
         requires { scale ≤ scale_limit }
         ensures scale { result.scale ≡ pos scale }
-        ensures behind { IsTrue result.is_behind ↔ AllNegative (cross first.now.offset last.now.offset first.now.axis last.now.axis) }
-        ensures n { result.n.c ≡ cross first.now.axis last.now.axis first.now.axis last.now.axis }
-        ensures height { let u = cross first.now.offset last.now.offset first.now.axis last.now.axis in result.height.c ≡ product22 u u }
-        ensures width { let u = cross first.now.offset last.now.offset first.now.axis last.now.axis in
-            let n = cross first.now.axis last.now.axis first.now.axis last.now.axis in
-            let d = cross first.now.offset last.now.offset first.now.offset last.now.offset in
+        ensures behind { IsTrue result.is_behind ↔ AllNegative (dot_on_cell first.now.offset last.now.offset first.now.axis last.now.axis) }
+        ensures n { result.n.c ≡ dot_on_cell first.now.axis last.now.axis first.now.axis last.now.axis }
+        ensures height { let u = dot_on_cell first.now.offset last.now.offset first.now.axis last.now.axis in result.height.c ≡ product22 u u }
+        ensures width { let u = dot_on_cell first.now.offset last.now.offset first.now.axis last.now.axis in
+            let n = dot_on_cell first.now.axis last.now.axis first.now.axis last.now.axis in
+            let d = dot_on_cell first.now.offset last.now.offset first.now.offset last.now.offset in
             result.width.c ≡ scaled4 (pos 4) (difference4 (product22 d n) (product22 u u)) }
     {
         let u = scalar_product_on_cell(&first.offset, &last.offset, &first.axis, &last.axis);

@@ -1,5 +1,5 @@
 ghost use Rattle.std.specs.Prelude.{◌≡◌, ◌^◌, ◌<◌, ◌≤◌, pos, ◌≤ℤ◌, Contains, IsTrue, MatchBool};
-ghost use Rattle.bern_form.specs.Motion.{IsPoint};
+ghost use Rattle.space.specs.Ranges.{IsPoint};
 ghost use Rattle.bern_form.specs.Marks.{AllExcluded, HeldAtSample, InReach, LeftOnCell, NeverHeld};
 ghost use Rattle.bern_form.specs.Sizes.{scale_limit};
 ghost use Rattle.bern_form.specs.Slab.{SlabSize};

@@ -1,5 +1,5 @@
 ghost use Rattle.std.specs.Prelude.{◌≡◌, ◌^◌, ◌<◌, ◌≤◌, ◌↔◌, ℕ, pos, ◌≤ℤ◌, IsTrue};
-ghost use Rattle.bern_form.specs.Motion.{IsPoint};
+ghost use Rattle.space.specs.Ranges.{IsPoint};
 ghost use Rattle.bern_form.specs.Slab.{HoldsAt};
 ghost use Rattle.bern_form.specs.Cells.{Excluded, IsInCell};
 ghost use Rattle.bern_form.specs.Sizes.{scale_limit};

@@ -1,5 +1,6 @@
 ghost use Rattle.std.specs.Prelude.{◌≡◌, ◌*◌, ◌≤◌, pos, unsigned_abs};
-ghost use Rattle.bern_form.specs.Motion.{IsPoint, IsWithin, axis_at, between, offset, offset_at};
+ghost use Rattle.space.specs.Ranges.{IsPoint, IsWithin};
+ghost use Rattle.space.specs.Motion.{axis_at, between, offset, offset_at};
 ghost use Rattle.bern_form.specs.Sizes.{axis_limit, offset_limit, scale_limit};
 
 use crate::sweep::Sweep;

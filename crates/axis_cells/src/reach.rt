@@ -1,5 +1,5 @@
 ghost use Rattle.std.specs.Prelude.{◌↔◌, ◌⊎◌, pos, ◌+ℤ◌, ◌-ℤ◌, ◌≤ℤ◌, unsigned_abs, ◌≤◌, IsTrue};
-ghost use Rattle.bern_form.specs.Motion.{IsPoint};
+ghost use Rattle.space.specs.Ranges.{IsPoint};
 ghost use Rattle.bern_form.specs.Marks.{InReach, IsNear};
 
 use crate::sweep::Sweep;

@@ -1,5 +1,6 @@
 ghost use Rattle.std.specs.Prelude.{◌≡◌, ◌*◌, ◌≤◌, ◌↔◌, pos, ◌≤ℤ◌, unsigned_abs, IsTrue, MatchBool};
-ghost use Rattle.bern_form.specs.Motion.{IsWithin, dot, spread};
+ghost use Rattle.space.specs.Ranges.{IsWithin};
+ghost use Rattle.space.specs.Vectors.{dot, spread};
 ghost use Rattle.bern_form.specs.Sizes.{axis_limit, offset_limit, scale_limit};
 ghost use Rattle.bern_form.specs.Slab.{Covers};
 ghost use Rattle.axis_cells.specs.Exclusion.{CoveredBySome};

@@ -14,7 +14,7 @@ pub struct Sweep {
 }
 
 impl Model for Sweep {
-    ghost use Rattle.bern_form.specs.Motion.{Motion, IsSweep};
+    ghost use Rattle.space.specs.Motion.{Motion, IsSweep};
 
     ghost Value = { Motion };
 

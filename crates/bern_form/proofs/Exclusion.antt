@@ -4,7 +4,8 @@ use Rattle.std.proofs.lemmas.Int.{ints}
 use Rattle.std.proofs.lemmas.Bool.{cases_lt}
 use Rattle.std.proofs.Math.Nat.{mul-le-mul_left}
 use Rattle.bern_form.specs.Forms.{value2, value4}
-use Rattle.bern_form.specs.Motion.{Motion, IsTime, dot, spread, offset_at, axis_at}
+use Rattle.space.specs.Motion.{Motion, IsTime, offset_at, axis_at}
+use Rattle.space.specs.Vectors.{dot, spread}
 use Rattle.bern_form.specs.Slab.{SlabSize, HoldsAt}
 use Rattle.bern_form.specs.Cells.{IsInCell, u_list, along_list, across_list, Excluded}
 use Rattle.bern_form.specs.Marks.{AllExcluded, NeverHeld}

@@ -1,8 +1,10 @@
 -- What the coefficient lists of products, lifts, sums and differences stand for.
 use Rattle.std.proofs.Common.{◌≡◌, ◌+◌, [], ◌∷◌, List, ℤ, pos, ◌+ℤ◌, ◌*ℤ◌, ◌-ℤ◌, refl, ap, ◌∙◌}
-use Rattle.bern_form.specs.Forms.{at, value1, value2, value4, product11, product22, lifted, sum2, scaled2, scaled4, difference4}
-use Rattle.bern_form.proofs.Solver.{var, num, add, mul, ring}
-use Rattle.bern_form.proofs.Terms.{sub, form1, form2, form4, from}
+use Rattle.space.specs.Vectors.{at}
+use Rattle.bern_form.specs.Forms.{value1, value2, value4, product11, product22, lifted, sum2, scaled2, scaled4, difference4}
+use Rattle.space.proofs.Solver.{var, num, add, mul, ring}
+use Rattle.space.proofs.Terms.{sub, from}
+use Rattle.bern_form.proofs.FormTerms.{form1, form2, form4}
 
 pub product11_is : (a b : List ℤ) (x y : ℤ) → value2 (product11 a b) x y ≡ value1 a x y *ℤ value1 b x y
 product11_is a b x y =

@@ -1,12 +1,8 @@
-pub mod Ring
-pub mod Solver
-pub mod Terms
+pub mod FormTerms
 pub mod Forms
 pub mod Signs
 pub mod Roots
-pub mod Naturals
 pub mod Places
 pub mod Exclusion
-pub mod Axis
 pub mod Reach
 pub mod Sizes

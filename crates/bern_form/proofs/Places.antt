@@ -1,20 +1,21 @@
 -- The forms of a cell at a time inside it: with x = a S - k b and y = (k + 1) b - a S the time a / b lies at the place
 -- x / (x + y) of cell k, and each form has there its quantity at that time, times a power of S.
 use Rattle.std.proofs.Common.{◌≡◌, ℕ, [], ◌∷◌, List, ℤ, pos, ◌+ℤ◌, ◌*ℤ◌, ◌-ℤ◌, refl, ap, ◌∙◌}
-use Rattle.bern_form.specs.Forms.{at, value2, value4, product22, lifted, scaled2, scaled4, difference4}
-use Rattle.bern_form.specs.Motion.{Motion, between, offset, offset_at, axis_at, dot, spread}
-use Rattle.bern_form.specs.Cells.{cross, first_offset, last_offset, first_axis, last_axis, u_list, n_list, d_list, scaled_square, along_list, across_list}
-use Rattle.bern_form.proofs.Solver.{Term, var, num, add, mul, ring}
-use Rattle.bern_form.proofs.Terms.{sub, dots, from}
+use Rattle.space.specs.Vectors.{at, dot, spread}
+use Rattle.bern_form.specs.Forms.{value2, value4, product22, lifted, scaled2, scaled4, difference4}
+use Rattle.space.specs.Motion.{Motion, between, offset, offset_at, axis_at}
+use Rattle.bern_form.specs.Cells.{dot_on_cell, start_offset, end_offset, start_axis, end_axis, u_list, n_list, d_list, scaled_square, along_list, across_list}
+use Rattle.space.proofs.Solver.{Term, var, num, add, mul, ring}
+use Rattle.space.proofs.Terms.{sub, dots, from}
 use Rattle.bern_form.proofs.Forms.{product22_is, lifted_is, scaled2_is, scaled4_is, difference4_is}
 
 -- the vector between two ends, with the weights y and x
 abbrev pub mixed : List ℤ → List ℤ → ℤ → ℤ → List ℤ
 mixed p q x y = (y *ℤ at p 0 +ℤ x *ℤ at q 0) ∷ (y *ℤ at p 1 +ℤ x *ℤ at q 1) ∷ (y *ℤ at p 2 +ℤ x *ℤ at q 2) ∷ []
 
--- a cross list stands for the scalar product of the vectors between the ends
-pub cross_is : (p q a c : List ℤ) (x y : ℤ) → value2 (cross p q a c) x y ≡ dot (mixed p q x y) (mixed a c x y)
-cross_is p q a c x y =
+-- a dot_on_cell list stands for the scalar product of the vectors between the ends
+pub dot_on_cell_is : (p q a c : List ℤ) (x y : ℤ) → value2 (dot_on_cell p q a c) x y ≡ dot (mixed p q x y) (mixed a c x y)
+dot_on_cell_is p q a c x y =
     let X = var 12 in let Y = var 13 in
     let P = from 0 in let Q = from 3 in let A = from 6 in let C = from 9 in
     ring (at p 0 ∷ at p 1 ∷ at p 2 ∷ at q 0 ∷ at q 1 ∷ at q 2 ∷ at a 0 ∷ at a 1 ∷ at a 2 ∷ at c 0 ∷ at c 1 ∷ at c 2 ∷ x ∷ y ∷ [])
@@ -71,10 +72,10 @@ pub u_place : (m : Motion) (p : List ℤ) (k S a b : ℕ)
 u_place m p k S a b =
     let x = late S k a b in let y = early S k a b in
     let P = offset_at m p (pos a) (pos b) in let A = axis_at m (pos a) (pos b) in
-    let M = mixed (first_offset m p k S) (last_offset m p k S) x y in let B = mixed (first_axis m k S) (last_axis m k S) x y in
+    let M = mixed (start_offset m p k S) (end_offset m p k S) x y in let B = mixed (start_axis m k S) (end_axis m k S) x y in
     let o = λ (i : ℕ). offset_place (pos S) (pos k) (pos a) (pos b) (at p i) (at m.from i) (at m.to i) in
     let e = λ (i : ℕ). between_place (pos S) (pos k) (pos a) (pos b) (at m.axis_from i) (at m.axis_to i) in
-    cross_is (first_offset m p k S) (last_offset m p k S) (first_axis m k S) (last_axis m k S) x y
+    dot_on_cell_is (start_offset m p k S) (end_offset m p k S) (start_axis m k S) (end_axis m k S) x y
     ∙ dot_scaled (pos S) (at P 0) (at P 1) (at P 2) (at A 0) (at A 1) (at A 2) (at M 0) (at M 1) (at M 2) (at B 0) (at B 1) (at B 2) (o 0) (o 1) (o 2) (e 0) (e 1) (e 2)
 
 pub n_place : (m : Motion) (k S a b : ℕ)
@@ -82,9 +83,9 @@ pub n_place : (m : Motion) (k S a b : ℕ)
 n_place m k S a b =
     let x = late S k a b in let y = early S k a b in
     let A = axis_at m (pos a) (pos b) in
-    let B = mixed (first_axis m k S) (last_axis m k S) x y in
+    let B = mixed (start_axis m k S) (end_axis m k S) x y in
     let e = λ (i : ℕ). between_place (pos S) (pos k) (pos a) (pos b) (at m.axis_from i) (at m.axis_to i) in
-    cross_is (first_axis m k S) (last_axis m k S) (first_axis m k S) (last_axis m k S) x y
+    dot_on_cell_is (start_axis m k S) (end_axis m k S) (start_axis m k S) (end_axis m k S) x y
     ∙ dot_scaled (pos S) (at A 0) (at A 1) (at A 2) (at A 0) (at A 1) (at A 2) (at B 0) (at B 1) (at B 2) (at B 0) (at B 1) (at B 2) (e 0) (e 1) (e 2) (e 0) (e 1) (e 2)
 
 pub d_place : (m : Motion) (p : List ℤ) (k S a b : ℕ)
@@ -93,9 +94,9 @@ pub d_place : (m : Motion) (p : List ℤ) (k S a b : ℕ)
 d_place m p k S a b =
     let x = late S k a b in let y = early S k a b in
     let P = offset_at m p (pos a) (pos b) in
-    let M = mixed (first_offset m p k S) (last_offset m p k S) x y in
+    let M = mixed (start_offset m p k S) (end_offset m p k S) x y in
     let o = λ (i : ℕ). offset_place (pos S) (pos k) (pos a) (pos b) (at p i) (at m.from i) (at m.to i) in
-    cross_is (first_offset m p k S) (last_offset m p k S) (first_offset m p k S) (last_offset m p k S) x y
+    dot_on_cell_is (start_offset m p k S) (end_offset m p k S) (start_offset m p k S) (end_offset m p k S) x y
     ∙ dot_scaled (pos S) (at P 0) (at P 1) (at P 2) (at P 0) (at P 1) (at P 2) (at M 0) (at M 1) (at M 2) (at M 0) (at M 1) (at M 2) (o 0) (o 1) (o 2) (o 0) (o 1) (o 2)
 
 -- what the lists of degree 4 stand for, from those of degree 2

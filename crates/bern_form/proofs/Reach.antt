@@ -3,14 +3,14 @@ use Rattle.std.proofs.Common.{◌≡◌, ℕ, zero, suc, ◌+◌, ◌*◌, ◌-�
 use Rattle.std.proofs.lemmas.Int.{ints}
 use Rattle.std.proofs.Math.Nat.{le_of_mul-le-mul_left}
 use borrow.Author.Differences.{abs_is}
-use Rattle.bern_form.specs.Forms.{at}
-use Rattle.bern_form.specs.Motion.{Motion, IsSweep, IsTime, offset, offset_at, axis_at, dot, spread}
+use Rattle.space.specs.Vectors.{at, dot, spread}
+use Rattle.space.specs.Motion.{Motion, IsSweep, IsTime, offset, offset_at, axis_at}
 use Rattle.bern_form.specs.Slab.{SlabSize, HoldsAt}
 use Rattle.bern_form.specs.Marks.{IsNear, InReach}
-use Rattle.bern_form.proofs.Naturals.{square_not_negative, natural, dot_natural, spread_natural}
-use Rattle.bern_form.proofs.Axis.{axis_not_zero, rest_is}
+use Rattle.space.proofs.Naturals.{square_not_negative, natural, dot_natural, spread_natural}
+use Rattle.space.proofs.Axis.{axis_not_zero, rest_is}
 use Rattle.bern_form.proofs.Roots.{root_le}
-use Rattle.bern_form.proofs.Solver.{var, num, add, mul, neg, ring}
+use Rattle.space.proofs.Solver.{var, num, add, mul, neg, ring}
 
 -- the length of the offset
 radius : (H G D N W U : ℕ) → 0 < N → D * N ≡ W + U * U → 4 * W ≤ (G * G) * N → U * U ≤ (H * H) * N → D ≤ (H + G) * (H + G)

@@ -1,9 +1,11 @@
 -- The sign of a form whose coefficients share a strict sign.
 use Rattle.std.proofs.Common.{◌≡◌, ℕ, zero, suc, ◌+◌, ◌*◌, ◌<◌, ◌≤◌, [], ◌∷◌, List, length, ℤ, pos, negsuc, ◌+ℤ◌, ◌*ℤ◌, neg_ℤ, ◌<ℤ◌, ◌≤ℤ◌, arith, refl}
 use Rattle.std.proofs.lemmas.Int.{ints}
-use Rattle.bern_form.specs.Forms.{AllNegative, AllPositive, IsPlace, at, value2, value4}
-use Rattle.bern_form.proofs.Solver.{var, neg, ring}
-use Rattle.bern_form.proofs.Terms.{form2, form4, from}
+use Rattle.bern_form.specs.Forms.{AllNegative, AllPositive, IsPlace, value2, value4}
+use Rattle.space.specs.Vectors.{at}
+use Rattle.space.proofs.Solver.{var, neg, ring}
+use Rattle.bern_form.proofs.FormTerms.{form2, form4}
+use Rattle.space.proofs.Terms.{from}
 
 -- a number above 0 times one that is not below 0, and times one that is above 0
 not_below : (c : ℤ) (m : ℕ) → pos 0 <ℤ c → pos 0 ≤ℤ (c *ℤ pos m)

@@ -2,10 +2,12 @@
 use Rattle.std.proofs.Common.{◌≡◌, ℕ, zero, suc, ◌+◌, ◌*◌, ◌-◌, ◌^◌, ◌≤◌, ◌<◌, [], ◌∷◌, List, ℤ, pos, ◌+ℤ◌, ◌*ℤ◌, ◌-ℤ◌, unsigned_abs, arith, subst, sym}
 use Rattle.std.specs.List.{All}
 use Rattle.std.proofs.lemmas.Int.{ints}
-use Rattle.bern_form.specs.Forms.{IsSmall, at, product11, product22, lifted, sum2, scaled2, scaled4, difference4}
-use Rattle.bern_form.specs.Motion.{Motion, IsPoint, IsSweep, IsWithin, axis_at, between, dot, offset, offset_at}
+use Rattle.bern_form.specs.Forms.{IsSmall, product11, product22, lifted, sum2, scaled2, scaled4, difference4}
+use Rattle.space.specs.Vectors.{at, dot}
+use Rattle.space.specs.Motion.{Motion, IsSweep, axis_at, between, offset, offset_at}
+use Rattle.space.specs.Ranges.{IsPoint, IsWithin}
 use Rattle.bern_form.specs.Sizes.{IsBounded2, IsBounded4, axis_limit, offset_limit, scale_limit}
-use Rattle.bern_form.proofs.Naturals.{abs_add, abs_mul, abs_sub}
+use Rattle.space.proofs.Naturals.{abs_add, abs_mul, abs_sub}
 
 sum_small : (a b : ℤ) (m n : ℕ) → unsigned_abs a ≤ m → unsigned_abs b ≤ n → unsigned_abs (a +ℤ b) ≤ m + n
 sum_small a b m n h k = let s = abs_add a b in omega arith

@@ -1,8 +1,9 @@
 -- Time cells: cell k of S is the part of a move from the time k / S to the time (k + 1) / S, where the point's offset and
 -- the axis are linear between their values at its ends. So u = p.a, N = |a|^2 and D = |p|^2 are forms of degree 2 there.
-use Rattle.std.specs.Prelude.{ℕ, ◌+◌, ◌*◌, ◌≤◌, ◌<◌, List, [], ◌∷◌, ℤ, pos, ◌+ℤ◌, ◌*ℤ◌, ◌⊎◌}
-use Rattle.bern_form.specs.Forms.{AllNegative, AllPositive, at, product11, product22, lifted, sum2, scaled2, scaled4, difference4}
-use Rattle.bern_form.specs.Motion.{Motion, offset_at, axis_at}
+use Rattle.std.specs.Prelude.{ℕ, ◌+◌, ◌*◌, ◌≤◌, ◌<◌, List, [], ◌∷◌, ℤ, pos, ◌+ℤ◌, ◌*ℤ◌, Bool, ◌||◌}
+use Rattle.bern_form.specs.Forms.{all_negative, all_positive, product11, product22, lifted, sum2, scaled2, scaled4, difference4}
+use Rattle.space.specs.Vectors.{at}
+use Rattle.space.specs.Motion.{Motion, offset_at, axis_at}
 use Rattle.bern_form.specs.Slab.{SlabSize}
 
 -- the time a / b lies in cell k of S, ends included
@@ -16,31 +17,31 @@ abbrev pub ends : List ℤ → List ℤ → ℕ → List ℤ
 ends first last i = at first i ∷ at last i ∷ []
 
 -- the scalar product of two vectors that are linear on the cell, from their values p, a at its first end and q, c at its last
-abbrev pub cross : List ℤ → List ℤ → List ℤ → List ℤ → List ℤ
-cross p q a c = sum2 (sum2 (product11 (ends p q 0) (ends a c 0)) (product11 (ends p q 1) (ends a c 1))) (product11 (ends p q 2) (ends a c 2))
+abbrev pub dot_on_cell : List ℤ → List ℤ → List ℤ → List ℤ → List ℤ
+dot_on_cell p q a c = sum2 (sum2 (product11 (ends p q 0) (ends a c 0)) (product11 (ends p q 1) (ends a c 1))) (product11 (ends p q 2) (ends a c 2))
 
 -- the point's offset and the axis, times S, at both ends of cell k
-abbrev pub first_offset : Motion → List ℤ → ℕ → ℕ → List ℤ
-first_offset m p k S = offset_at m p (pos k) (pos S)
+abbrev pub start_offset : Motion → List ℤ → ℕ → ℕ → List ℤ
+start_offset m p k S = offset_at m p (pos k) (pos S)
 
-abbrev pub last_offset : Motion → List ℤ → ℕ → ℕ → List ℤ
-last_offset m p k S = offset_at m p (pos k +ℤ pos 1) (pos S)
+abbrev pub end_offset : Motion → List ℤ → ℕ → ℕ → List ℤ
+end_offset m p k S = offset_at m p (pos k +ℤ pos 1) (pos S)
 
-abbrev pub first_axis : Motion → ℕ → ℕ → List ℤ
-first_axis m k S = axis_at m (pos k) (pos S)
+abbrev pub start_axis : Motion → ℕ → ℕ → List ℤ
+start_axis m k S = axis_at m (pos k) (pos S)
 
-abbrev pub last_axis : Motion → ℕ → ℕ → List ℤ
-last_axis m k S = axis_at m (pos k +ℤ pos 1) (pos S)
+abbrev pub end_axis : Motion → ℕ → ℕ → List ℤ
+end_axis m k S = axis_at m (pos k +ℤ pos 1) (pos S)
 
 -- the coefficients of u, of N and of D on cell k
 abbrev pub u_list : Motion → List ℤ → ℕ → ℕ → List ℤ
-u_list m p k S = cross (first_offset m p k S) (last_offset m p k S) (first_axis m k S) (last_axis m k S)
+u_list m p k S = dot_on_cell (start_offset m p k S) (end_offset m p k S) (start_axis m k S) (end_axis m k S)
 
 abbrev pub n_list : Motion → ℕ → ℕ → List ℤ
-n_list m k S = cross (first_axis m k S) (last_axis m k S) (first_axis m k S) (last_axis m k S)
+n_list m k S = dot_on_cell (start_axis m k S) (end_axis m k S) (start_axis m k S) (end_axis m k S)
 
 abbrev pub d_list : Motion → List ℤ → ℕ → ℕ → List ℤ
-d_list m p k S = cross (first_offset m p k S) (last_offset m p k S) (first_offset m p k S) (last_offset m p k S)
+d_list m p k S = dot_on_cell (start_offset m p k S) (end_offset m p k S) (start_offset m p k S) (end_offset m p k S)
 
 -- the square of a length times S
 abbrev pub scaled_square : ℕ → ℤ → ℤ
@@ -60,7 +61,7 @@ across_list m p k S dia = difference4 (w_list m p k S) (lifted (scaled2 (scaled_
 
 -- The cell rule: the slab is excluded on cell k of S. There the point is behind the tip throughout, or below lo throughout,
 -- or above hi throughout, or beside the slab throughout, each by a strict common sign of the coefficients.
-abbrev pub Excluded : SlabSize → Motion → List ℤ → ℕ → ℕ → Type 0
-Excluded s m p k S =
-    AllNegative (u_list m p k S)
-    ⊎ (AllNegative (along_list m p k S s.lo) ⊎ (AllPositive (along_list m p k S s.hi) ⊎ AllPositive (across_list m p k S s.dia)))
+abbrev pub is_excluded : SlabSize → Motion → List ℤ → ℕ → ℕ → Bool
+is_excluded s m p k S =
+    all_negative (u_list m p k S)
+    || (all_negative (along_list m p k S s.lo) || (all_positive (along_list m p k S s.hi) || all_positive (across_list m p k S s.dia)))

@@ -1,11 +1,8 @@
 -- Coefficient forms: the list c of n + 1 coefficients stands for the sum of c[k] * x^k * y^(n-k), with x for the time t of
 -- an interval and y for 1 - t.
-use Rattle.std.specs.Prelude.{ℕ, ◌+◌, ◌*◌, ◌^◌, ◌<◌, List, [], ◌∷◌, ℤ, pos, ◌+ℤ◌, ◌*ℤ◌, ◌-ℤ◌, ◌<ℤ◌, unsigned_abs, All}
-use Rattle.std.specs.List.{slice_index_or}
-
--- the number at a place of a list
-abbrev pub at : List ℤ → ℕ → ℤ
-at c k = slice_index_or c k (pos 0)
+use Rattle.std.specs.Prelude.{ℕ, ◌+◌, ◌*◌, ◌^◌, ◌<◌, List, [], ◌∷◌, ℤ, pos, ◌+ℤ◌, ◌*ℤ◌, ◌-ℤ◌, int_lt, unsigned_abs, Bool}
+use Rattle.std.specs.List.{list_all}
+use Rattle.space.specs.Vectors.{at}
 
 -- what a form of degree 1 stands for
 abbrev pub value1 : List ℤ → ℤ → ℤ → ℤ
@@ -63,8 +60,8 @@ abbrev pub scaled4 : ℤ → List ℤ → List ℤ
 scaled4 s a = (s *ℤ at a 0) ∷ (s *ℤ at a 1) ∷ (s *ℤ at a 2) ∷ (s *ℤ at a 3) ∷ (s *ℤ at a 4) ∷ []
 
 -- every coefficient is above, or below, 0
-abbrev pub AllPositive : List ℤ → Type 0
-AllPositive c = All (λ z. pos 0 <ℤ z) c
+abbrev pub all_positive : List ℤ → Bool
+all_positive c = list_all (λ z. int_lt (pos 0) z) c
 
-abbrev pub AllNegative : List ℤ → Type 0
-AllNegative c = All (λ z. z <ℤ pos 0) c
+abbrev pub all_negative : List ℤ → Bool
+all_negative c = list_all (λ z. int_lt z (pos 0)) c

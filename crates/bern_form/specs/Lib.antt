@@ -1,6 +1,5 @@
 pub mod Forms
 pub mod Roots
-pub mod Motion
 pub mod Slab
 pub mod Cells
 pub mod Marks

@@ -1,6 +1,6 @@
 -- Sizes: how large the numbers of one point's tests can be, at a scale S of at most 1024 = 2^10.
 use Rattle.std.specs.Prelude.{ℕ, ◌*◌, ◌≤◌, List, ℤ, unsigned_abs}
-use Rattle.bern_form.specs.Forms.{at}
+use Rattle.space.specs.Vectors.{at}
 
 -- 2^depth is at most this
 abbrev pub scale_limit : ℕ

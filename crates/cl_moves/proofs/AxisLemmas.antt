@@ -3,8 +3,8 @@ use Rattle.std.specs.Prelude.{◌≡◌, ℤ, pos, ◌<ℤ◌, ◌*ℤ◌, int_l
 use Rattle.std.specs.Ordering.{int_eq}
 use Rattle.std.proofs.Common.{T, arith}
 use Rattle.std.proofs.lemmas.Bool.Decides.{Decides-int_eq}
-use Rattle.bern_form.specs.Forms.{at}
-use Rattle.bern_form.specs.Motion.{IsOpposite, dot}
+use Rattle.space.specs.Vectors.{at, dot}
+use Rattle.space.proofs.Tests.{IsOpposite}
 use Rattle.cl_records.specs.Ranges.{IsAxis}
 use Rattle.cl_moves.specs.Axes.{upright, are_opposite}
 

@@ -4,8 +4,8 @@ use Rattle.std.specs.List.{list_all}
 use Rattle.std.proofs.Common.{arith, subst, sym}
 use Rattle.std.proofs.lemmas.Int.{ints, by_lt_z}
 use Rattle.std.proofs.lemmas.List.Elements.{All-append, All-cons}
-use Rattle.bern_form.specs.Forms.{at}
-use Rattle.bern_form.specs.Motion.{IsWithin}
+use Rattle.space.specs.Vectors.{at}
+use Rattle.space.specs.Ranges.{IsWithin}
 use Rattle.cl_lines.specs.declared.fault.ClWhy.{ClWhy}
 use Rattle.cl_lines.specs.declared.fault.ClWhy.TheVariants.{NumberRange, AxisFlip, TooManyMoves}
 use Rattle.cl_records.specs.Ranges.{IsAxis, IsRecord}

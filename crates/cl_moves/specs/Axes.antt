@@ -1,8 +1,7 @@
 -- Tool axes: the one at the start, and two that are opposite.
 use Rattle.std.specs.Prelude.{ℤ, pos, int_lt, ◌*ℤ◌, ◌&&◌, Bool, List, [], ◌∷◌}
 use Rattle.std.specs.Ordering.{int_eq}
-use Rattle.bern_form.specs.Forms.{at}
-use Rattle.bern_form.specs.Motion.{dot}
+use Rattle.space.specs.Vectors.{at, dot}
 
 -- along z
 abbrev pub upright : List ℤ

@@ -1,6 +1,6 @@
 -- What holds of the tool's state between two records.
 use Rattle.std.specs.Prelude.{IfSome, All}
-use Rattle.bern_form.specs.Motion.{IsWithin}
+use Rattle.space.specs.Ranges.{IsWithin}
 use Rattle.cl_records.specs.Ranges.{IsAxis, IsCutterText}
 use Rattle.cl_moves.specs.Moves.{IsMove}
 use Rattle.cl_moves.specs.declared.fold.Fold.{Fold}

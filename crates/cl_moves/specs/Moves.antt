@@ -1,6 +1,6 @@
 -- What every move of a program is: a valid sweep, with a cutter whose sizes make sense where it has one.
 use Rattle.std.specs.Prelude.{IfSome}
-use Rattle.bern_form.specs.Motion.{Motion, IsSweep}
+use Rattle.space.specs.Motion.{Motion, IsSweep}
 use Rattle.cl_records.specs.Ranges.{IsCutterText}
 use Rattle.cl_moves.specs.declared.moves.Move.{Move}
 

@@ -1,7 +1,7 @@
 -- The program that a cutter location text stands for: its records folded into moves, or its first fault.
 use Rattle.std.specs.Prelude.{◌≡◌, ℕ, ◌+◌, ℤ, pos, neg_ℤ, ◌+ℤ◌, int_lt, nat_lt, ◌&&◌, not, Bool, true, false, List, [], ◌∷◌, ◌++◌, length, unwrap_or, Option, Some, None, Result, Ok, Err, if◌then◌else◌}
 use Rattle.std.specs.List.{list_all}
-use Rattle.bern_form.specs.Forms.{at}
+use Rattle.space.specs.Vectors.{at}
 use Rattle.cl_lines.specs.Texts.{Numbered, texts_of}
 use Rattle.cl_lines.specs.declared.fault.ClFault.{ClFault}
 use Rattle.cl_lines.specs.declared.fault.ClEnd.{ClEnd}

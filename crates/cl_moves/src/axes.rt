@@ -1,7 +1,7 @@
 ghost use Rattle.std.specs.Prelude.{◌≡◌, ◌≤◌, pos, ◌*ℤ◌, int_lt, unsigned_abs, ◌&&◌};
 ghost use Rattle.std.specs.Ordering.{int_eq};
-ghost use Rattle.bern_form.specs.Forms.{at};
-ghost use Rattle.bern_form.specs.Motion.{IsWithin, dot};
+ghost use Rattle.space.specs.Vectors.{at, dot};
+ghost use Rattle.space.specs.Ranges.{IsWithin};
 ghost use Rattle.cl_moves.specs.Axes.{are_opposite};
 
 /// The tool axis at the start, along z.

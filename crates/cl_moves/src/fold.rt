@@ -1,5 +1,5 @@
 ghost use Rattle.std.specs.Prelude.{◌≡◌, ◌<◌, Ok, Err, IfOk, OnOk, MatchResult};
-ghost use Rattle.bern_form.specs.Motion.{IsWithin};
+ghost use Rattle.space.specs.Ranges.{IsWithin};
 ghost use Rattle.cl_records.specs.Ranges.{IsAxis, IsRecord};
 ghost use Rattle.cl_moves.specs.Fold.{IsFold};
 ghost use Rattle.cl_moves.specs.Program.{start, placed, arrived, move_to, moved, gone_to, gone_by, multaxed, step, finished, StepEnds};

@@ -1,6 +1,6 @@
 ghost use Rattle.std.specs.Prelude.{◌≡◌, ◌≤◌, ◌+ℤ◌, unsigned_abs};
 ghost use Rattle.std.specs.List.{list_all};
-ghost use Rattle.bern_form.specs.Motion.{IsWithin};
+ghost use Rattle.space.specs.Ranges.{IsWithin};
 ghost use Rattle.cl_moves.specs.Program.{is_coordinate, sum};
 
 /// The furthest coordinate of a position: a metre from the origin.

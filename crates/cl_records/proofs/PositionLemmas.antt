@@ -1,6 +1,6 @@
 -- Axes that are zero.
 use Rattle.std.proofs.Common.{◌≡◌, ℤ, List, true, false, refl, sym, ◌∙◌}
-use Rattle.bern_form.specs.Motion.{IsZero}
+use Rattle.space.proofs.Tests.{IsZero}
 use Rattle.cl_records.specs.Records.{is_zero}
 
 zero-is : (axis : List ℤ) → IsZero axis → is_zero axis ≡ true

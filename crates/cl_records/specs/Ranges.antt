@@ -1,6 +1,7 @@
 -- The ranges of what a record gives. Lengths are micrometres, components of an axis 1/100,000.
 use Rattle.std.specs.Prelude.{ℤ, pos, ◌≤ℤ◌, ◌*ℤ◌, List, [], ◌∷◌, IfSome}
-use Rattle.bern_form.specs.Motion.{IsWithin, IsZero}
+use Rattle.space.specs.Ranges.{IsWithin}
+use Rattle.space.proofs.Tests.{IsZero}
 use Rattle.cl_lines.specs.Numbers.{IsBetween}
 use Rattle.cl_records.specs.declared.cutter.CutterText.{CutterText}
 use Rattle.cl_records.specs.declared.kind.Kind.{Kind}

@@ -3,7 +3,7 @@ use Rattle.std.specs.Prelude.{ℕ, ℤ, pos, ◌==◌, ◌||◌, ◌&&◌, nat_l
 use Rattle.std.specs.List.{list_all}
 use Rattle.std.specs.Ordering.{int_eq}
 use Rattle.std.specs.Str.{str_eq_ignore_ascii_case}
-use Rattle.bern_form.specs.Forms.{at}
+use Rattle.space.specs.Vectors.{at}
 use Rattle.cl_lines.specs.Texts.{Numbered}
 use Rattle.cl_lines.specs.declared.fault.ClWhy.{ClWhy}
 use Rattle.cl_lines.specs.declared.fault.ClWhy.TheVariants.{BadByte, Unsupported, ParamCount, ParamWord, AxisZero}

@@ -1,6 +1,6 @@
 ghost use Rattle.std.specs.Prelude.{◌≡◌, IfOk};
 ghost use Rattle.std.specs.List.{list_all};
-ghost use Rattle.bern_form.specs.Motion.{IsWithin};
+ghost use Rattle.space.specs.Ranges.{IsWithin};
 ghost use Rattle.cl_records.specs.Parameters.{only_of, parameters_of};
 ghost use Rattle.cl_records.specs.Ranges.{AreKinds, IsPosition, IsRecord};
 ghost use Rattle.cl_records.specs.Records.{cutter_in, delta_in, delta_of, is_cycle, is_fini, is_off, is_plain, is_zero, judged_refused, known, multax_in, multax_of, position_in, position_of, read_as, record_of, unit_behind, units_in, units_of, with_axis, with_parameters};

@@ -6,7 +6,7 @@ use Rattle.std.proofs.lemmas.Int.{ints}
 use Rattle.std.proofs.lemmas.List.Elements.{All-cons, All-head, All-tail, All-nil}
 use Rattle.axis_cells.specs.declared.mark.Mark.{Mark}
 use Rattle.axis_cells.specs.declared.mark.Mark.TheVariants.{Clear, Possible, Removed}
-use Rattle.bern_form.specs.Motion.{IsSweep, Motion}
+use Rattle.space.specs.Motion.{IsSweep, Motion}
 use Rattle.cl_lines.specs.Numbers.{IsBetween}
 use Rattle.cl_moves.specs.Moves.{IsMove, motion_of}
 use Rattle.cl_records.specs.Ranges.{IsCutterText}

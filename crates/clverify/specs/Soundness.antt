@@ -2,7 +2,7 @@
 use Rattle.std.specs.Prelude.{List, ℤ, All, Option, Some, IfSome, IfOk}
 use Rattle.axis_cells.specs.declared.mark.Mark.{Mark}
 use Rattle.axis_cells.specs.declared.mark.Mark.TheVariants.{Clear, Possible, Removed}
-use Rattle.bern_form.specs.Motion.{Motion}
+use Rattle.space.specs.Motion.{Motion}
 use Rattle.cl_moves.specs.Moves.{motion_of}
 use Rattle.cl_moves.specs.declared.moves.Move.{Move}
 use Rattle.cutter_slabs.specs.Cutter.{CutterSize, Meets}

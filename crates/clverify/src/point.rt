@@ -1,5 +1,5 @@
 ghost use Rattle.std.specs.Prelude.{◌≡◌, ◌≤ℤ◌, All, IfOk, false, None};
-ghost use Rattle.bern_form.specs.Motion.{IsSweep};
+ghost use Rattle.space.specs.Motion.{IsSweep};
 ghost use Rattle.cl_moves.specs.Moves.{IsMove, motion_of};
 ghost use Rattle.cl_records.specs.Ranges.{IsCutterText};
 ghost use Rattle.clverify.specs.Questions.{IsQuestion};

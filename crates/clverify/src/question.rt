@@ -1,6 +1,6 @@
 ghost use Rattle.std.specs.Prelude.{◌≡◌, ◌≤◌, ◌-◌, map, unsigned_abs, IfSome, true, string_bytes};
 ghost use Rattle.std.specs.Char.{is_ascii_digit};
-ghost use Rattle.bern_form.specs.Motion.{IsPoint};
+ghost use Rattle.space.specs.Ranges.{IsPoint};
 ghost use Rattle.clverify.specs.Questions.{IsQuestion};
 ghost use Rattle.clverify.specs.Words.{coordinate_of, count_of, depth_of, point_at, question_of, slabs_of, within};
 

@@ -7,8 +7,9 @@ use Rattle.std.proofs.lemmas.Bool.Decides.{Decides-and, Decides-or, Decides-not,
 use Rattle.std.proofs.lemmas.Int.{ints}
 use Rattle.std.proofs.lemmas.List.{get_or_default}
 use Rattle.std.proofs.lemmas.List.FromFn.{length-range_with_len, get_or-range_with_len}
-use Rattle.bern_form.specs.Forms.{AllNegative, AllPositive, at}
-use Rattle.bern_form.specs.Motion.{IsSweep, Motion, axis_at, dot, offset_at, spread}
+use Rattle.bern_form.specs.Forms.{AllNegative, AllPositive}
+use Rattle.space.specs.Vectors.{at, dot, spread}
+use Rattle.space.specs.Motion.{IsSweep, Motion, axis_at, offset_at}
 use Rattle.bern_form.specs.Slab.{Covers, HoldsAt as SlabHoldsAt, SlabSize}
 use Rattle.bern_form.specs.Cells.{Excluded, across_list, along_list, u_list}
 use Rattle.bern_form.specs.Marks.{AllExcluded, HeldAtSample, InReach, IsNear, IsNotPossible, IsPossible, LeftOnCell, SomeHolds}

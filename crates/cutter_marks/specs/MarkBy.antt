@@ -2,8 +2,8 @@
 -- is the yes or no of the relation that it is named after.
 use Rattle.std.specs.Prelude.{ℕ, ◌+◌, ℤ, pos, ◌+ℤ◌, ◌-ℤ◌, ◌*ℤ◌, int_le, int_lt, Bool, not, ◌&&◌, ◌||◌, if◌then◌else◌, List}
 use Rattle.std.specs.List.{list_all, list_any, range_with_len}
-use Rattle.bern_form.specs.Forms.{at}
-use Rattle.bern_form.specs.Motion.{Motion, axis_at, dot, offset_at, spread}
+use Rattle.space.specs.Vectors.{at, dot, spread}
+use Rattle.space.specs.Motion.{Motion, axis_at, offset_at}
 use Rattle.bern_form.specs.Slab.{SlabSize}
 use Rattle.bern_form.specs.Cells.{across_list, along_list, u_list}
 use Rattle.axis_cells.specs.declared.mark.Mark.{Mark}

@@ -1,5 +1,5 @@
 ghost use Rattle.std.specs.Prelude.{◌≡◌, ◌^◌, ◌≤◌, pos};
-ghost use Rattle.bern_form.specs.Motion.{IsPoint};
+ghost use Rattle.space.specs.Ranges.{IsPoint};
 ghost use Rattle.bern_form.specs.Marks.{IsPossible};
 ghost use Rattle.axis_cells.specs.Marked.{IsMarked};
 ghost use Rattle.cutter_slabs.specs.Cutter.{Meets};

@@ -2,10 +2,11 @@
 use Rattle.std.proofs.Common.{◌≡◌, ℕ, ◌*◌, ◌<◌, List, ℤ, pos, ◌*ℤ◌, ◌≤ℤ◌, arith, refl, subst, sym, ⊎_elim, zero, suc, Bool, true, false, [], ◌∷◌, ◌++◌, length, ltb, length-append}
 use Rattle.std.proofs.lemmas.Bool.{cond_both}
 use Rattle.std.proofs.lemmas.Int.{ints}
-use Rattle.bern_form.specs.Motion.{IsSweep, IsTime, Motion, axis_at, dot, offset_at, spread}
+use Rattle.space.specs.Motion.{IsSweep, IsTime, Motion, axis_at, offset_at}
+use Rattle.space.specs.Vectors.{dot, spread}
 use Rattle.bern_form.specs.Slab.{Covers, HoldsAt, SlabSize}
 use Rattle.bern_form.specs.Marks.{HeldAtSample, InReach, IsNotPossible, IsPossible, SomeHolds}
-use Rattle.bern_form.proofs.Naturals.{dot_natural, natural, spread_natural}
+use Rattle.space.proofs.Naturals.{dot_natural, natural, spread_natural}
 use Rattle.bern_form.proofs.Exclusion.{cell_of, excluded_never_held, excluded_not_held}
 use Rattle.bern_form.proofs.Reach.{held_within}
 use Rattle.cutter_slabs.specs.Cutter.{CutterSize, InsideAt, IsCutter, Meets}

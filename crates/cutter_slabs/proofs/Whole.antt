@@ -2,7 +2,7 @@
 use Rattle.std.proofs.Common.{◌≡◌, ℕ, ◌+◌, ◌*◌, ◌-◌, ◌≤◌, List, ℤ, pos, negsuc, ◌*ℤ◌, ◌-ℤ◌, ◌≤ℤ◌, arith, ap, sym, subst, ◌⊎◌, inl, inr, ⊎_elim}
 use Rattle.std.proofs.lemmas.Int.{ints}
 use Rattle.std.proofs.Math.Nat.{mul-le-mul_right}
-use Rattle.bern_form.specs.Motion.{dot, spread}
+use Rattle.space.specs.Vectors.{dot, spread}
 use Rattle.cutter_slabs.specs.Cutter.{CornerRule, CutterSize, IsCutter, IsInside, flat_of}
 use Rattle.cutter_slabs.proofs.Corner.{Corner, InCutter}
 

@@ -1,6 +1,7 @@
 -- The exact cutter: a flat bottom, a rounded corner and a cylinder above it, over plain numbers.
 use Rattle.std.specs.Prelude.{◌≡◌, ℕ, ◌*◌, ◌-◌, ◌≤◌, ◌⊎◌, ℤ, pos, ◌*ℤ◌, ◌-ℤ◌, ◌≤ℤ◌, List}
-use Rattle.bern_form.specs.Motion.{IsTime, Motion, axis_at, dot, offset_at, spread}
+use Rattle.space.specs.Motion.{IsTime, Motion, axis_at, offset_at}
+use Rattle.space.specs.Vectors.{dot, spread}
 
 -- diameter, corner radius and height in micrometres
 pub record CutterSize : Type 0 where

@@ -1,5 +1,5 @@
 ghost use Rattle.std.specs.Prelude.{◌≡◌, ◌<◌, ◌≤◌, ◌++◌, [], ◌∷◌, ℕ, List, ℤ, pos, length, nat_lt, if◌then◌else◌, IfOk, OnOk};
-ghost use Rattle.bern_form.specs.Motion.{IsSweep, IsTime, Motion};
+ghost use Rattle.space.specs.Motion.{IsSweep, IsTime, Motion};
 ghost use Rattle.bern_form.specs.Marks.{HeldAtSample, InReach, IsNotPossible, IsPossible, SomeHolds};
 ghost use Rattle.cutter_slabs.specs.Cutter.{InsideAt, Meets};
 ghost use Rattle.cutter_slabs.specs.Stacks.{inner_stack, outer_stack, reach_of, slab_of};

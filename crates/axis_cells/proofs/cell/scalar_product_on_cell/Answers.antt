@@ -2,7 +2,8 @@ use Rattle.std.proofs.Common.{FitsSigned, rules, sym, subst, ap, ℤ, List, ◌�
 use Rattle.std.proofs.lemmas.Int.{to_z-of_z}
 use mir.Syntax.{w64, w128}
 use Rattle.std.specs.List.{All}
-use Rattle.bern_form.specs.Forms.{IsSmall, at, product11, sum2}
+use Rattle.bern_form.specs.Forms.{IsSmall, product11, sum2}
+use Rattle.space.specs.Vectors.{at}
 use Rattle.bern_form.specs.Cells.{ends}
 use Rattle.axis_cells.proofs.Bounds.{cross_fits}
 use Rattle.axis_cells.proofs.cell.scalar_product_on_cell.Goals as goal

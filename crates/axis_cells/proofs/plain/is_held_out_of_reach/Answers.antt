@@ -1,7 +1,7 @@
 use Rattle.std.proofs.Common.{FitsSigned, rules, subst, ℤ}
 use Rattle.std.proofs.lemmas.Int.{to_z-of_z}
 use mir.Syntax.{w32}
-use Rattle.bern_form.specs.Motion.{IsSweep}
+use Rattle.space.specs.Motion.{IsSweep}
 use Rattle.axis_cells.specs.Marked.{FitsInReach}
 use Rattle.axis_cells.proofs.Marks.{held_in_reach}
 use Rattle.axis_cells.proofs.plain.is_held_out_of_reach.Goals as goal

@@ -1,6 +1,6 @@
 use Rattle.std.proofs.Common.{ℕ, ◌≤◌, ◌^◌, subst}
 use Rattle.std.specs.Prelude.{IsTrue, ◌↔◌}
-use Rattle.bern_form.specs.Motion.{IsSweep}
+use Rattle.space.specs.Motion.{IsSweep}
 use Rattle.bern_form.specs.Slab.{IsSlab}
 use Rattle.bern_form.specs.Sizes.{scale_limit}
 use Rattle.bern_form.specs.Cells.{Excluded}

@@ -2,8 +2,8 @@ use Rattle.std.proofs.Common.{FitsSigned, rules, subst, false}
 use Rattle.std.proofs.lemmas.Int.{to_z-of_z}
 use Rattle.std.specs.Prelude.{IsTrue, ◌↔◌}
 use mir.Syntax.{w32}
-use Rattle.bern_form.specs.Forms.{at}
-use Rattle.bern_form.specs.Motion.{Motion}
+use Rattle.space.specs.Vectors.{at}
+use Rattle.space.specs.Motion.{Motion}
 use Rattle.bern_form.specs.Marks.{InReach}
 use Rattle.axis_cells.proofs.Comparisons.{near_as, never_true, not_true}
 use Rattle.axis_cells.proofs.reach.in_reach.Goals as goal

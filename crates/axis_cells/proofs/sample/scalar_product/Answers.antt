@@ -1,7 +1,7 @@
 use Rattle.std.proofs.Common.{FitsSigned, rules, refl}
 use Rattle.std.proofs.lemmas.Int.{to_z-of_z}
 use mir.Syntax.{w64, w128}
-use Rattle.bern_form.specs.Forms.{at}
+use Rattle.space.specs.Vectors.{at}
 use Rattle.axis_cells.proofs.Fits.{dot_fits}
 use Rattle.axis_cells.proofs.sample.scalar_product.Goals as goal
 

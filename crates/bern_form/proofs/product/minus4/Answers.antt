@@ -1,7 +1,8 @@
 use Rattle.std.proofs.Common.{◌≡◌, List, ℤ, pos, ◌-ℤ◌, FitsSigned, arith, rules, refl, subst, sym}
 use Rattle.std.proofs.lemmas.Int.{to_z-of_z}
 use mir.Syntax.{w128}
-use Rattle.bern_form.specs.Forms.{at, value4}
+use Rattle.space.specs.Vectors.{at}
+use Rattle.bern_form.specs.Forms.{value4}
 use Rattle.bern_form.proofs.Forms.{difference4_is}
 use Rattle.bern_form.proofs.product.minus4.Goals as goal
 

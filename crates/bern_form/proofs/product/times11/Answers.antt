@@ -1,7 +1,8 @@
 use Rattle.std.proofs.Common.{◌≡◌, List, ℤ, pos, ◌*ℤ◌, FitsSigned, arith, rules, refl, subst, sym}
 use Rattle.std.proofs.lemmas.Int.{to_z-of_z}
 use mir.Syntax.{w128}
-use Rattle.bern_form.specs.Forms.{at, value1, value2}
+use Rattle.space.specs.Vectors.{at}
+use Rattle.bern_form.specs.Forms.{value1, value2}
 use Rattle.bern_form.proofs.Forms.{product11_is}
 use Rattle.bern_form.proofs.product.times11.Goals as goal
 

@@ -1,6 +1,6 @@
 use Rattle.std.proofs.Common.{◌≡◌, ◌≤◌, ℤ, ◌+ℤ◌, ◌*ℤ◌, unsigned_abs, w64, to_z, of_z, rules, arith}
 use Rattle.std.proofs.lemmas.Int.{ints}
-use Rattle.bern_form.specs.Forms.{at}
+use Rattle.space.specs.Vectors.{at}
 use Rattle.cl_moves.proofs.axes.scalar_product.Goals as goal
 
 -- a sum of three numbers that are far within 64 bits

@@ -2,7 +2,7 @@ use Rattle.std.proofs.Common.{FitsSigned, rules, arith, subst, sym, ℕ, ℤ, Li
 use Rattle.std.proofs.lemmas.Int.{to_z-of_z}
 use Rattle.std.proofs.Math.Pow.{pow_mono}
 use mir.Syntax.{w32}
-use Rattle.bern_form.specs.Motion.{IsSweep}
+use Rattle.space.specs.Motion.{IsSweep}
 use Rattle.bern_form.specs.Slab.{SlabSize}
 use Rattle.bern_form.specs.Marks.{HeldAtSample, IsNotPossible}
 use Rattle.axis_cells.specs.declared.mark.Mark.{Mark}

@@ -4,7 +4,7 @@ use mir.Syntax.{w128}
 use Rattle.std.specs.Prelude.{IsTrue, ◌↔◌}
 use Rattle.std.specs.List.{All}
 use Rattle.bern_form.specs.Forms.{IsSmall, AllNegative, difference4, product22, scaled4}
-use Rattle.bern_form.specs.Cells.{cross}
+use Rattle.bern_form.specs.Cells.{dot_on_cell}
 use Rattle.bern_form.specs.Sizes.{IsBounded2, IsBounded4, axis_limit, offset_limit}
 use Rattle.axis_cells.proofs.Bounds.{cell_fits, cross_bounded}
 use Rattle.axis_cells.proofs.cell.Cell.between.Goals as goal
@@ -14,7 +14,7 @@ times22-height-requires c =
     let P = c.args.first.now.offset in let Q = c.args.last.now.offset in let A = c.args.first.now.axis in let C = c.args.last.now.axis in
     let hP = c.args.first.now.offset_within in let hQ = c.args.last.now.offset_within in
     let hA = c.args.first.now.axis_within in let hC = c.args.last.now.axis_within in
-    let u = cross P Q A C in let n = cross A C A C in let d = cross P Q P Q in
+    let u = dot_on_cell P Q A C in let n = dot_on_cell A C A C in let d = dot_on_cell P Q P Q in
     let fits = cell_fits u n d (cross_bounded P Q A C offset_limit axis_limit hP hQ hA hC) (cross_bounded A C A C axis_limit axis_limit hA hC hA hC) (cross_bounded P Q P Q offset_limit offset_limit hP hQ hP hQ) in
     let eu = c.scalar_product_on_cell-u.ensures in let en = c.scalar_product_on_cell-n.ensures in let ed = c.scalar_product_on_cell-d.ensures in
     subst (λ (l : List ℤ). All IsSmall (product22 l l)) (sym eu) fits.height
@@ -24,7 +24,7 @@ times22-requires c =
     let P = c.args.first.now.offset in let Q = c.args.last.now.offset in let A = c.args.first.now.axis in let C = c.args.last.now.axis in
     let hP = c.args.first.now.offset_within in let hQ = c.args.last.now.offset_within in
     let hA = c.args.first.now.axis_within in let hC = c.args.last.now.axis_within in
-    let u = cross P Q A C in let n = cross A C A C in let d = cross P Q P Q in
+    let u = dot_on_cell P Q A C in let n = dot_on_cell A C A C in let d = dot_on_cell P Q P Q in
     let fits = cell_fits u n d (cross_bounded P Q A C offset_limit axis_limit hP hQ hA hC) (cross_bounded A C A C axis_limit axis_limit hA hC hA hC) (cross_bounded P Q P Q offset_limit offset_limit hP hQ hP hQ) in
     let eu = c.scalar_product_on_cell-u.ensures in let en = c.scalar_product_on_cell-n.ensures in let ed = c.scalar_product_on_cell-d.ensures in
     subst (λ (l : List ℤ). All IsSmall (product22 l c.scalar_product_on_cell-n.result.c)) (sym ed) (subst (λ (l : List ℤ). All IsSmall (product22 d l)) (sym en) fits.both)
@@ -34,7 +34,7 @@ minus4-spread-requires c =
     let P = c.args.first.now.offset in let Q = c.args.last.now.offset in let A = c.args.first.now.axis in let C = c.args.last.now.axis in
     let hP = c.args.first.now.offset_within in let hQ = c.args.last.now.offset_within in
     let hA = c.args.first.now.axis_within in let hC = c.args.last.now.axis_within in
-    let u = cross P Q A C in let n = cross A C A C in let d = cross P Q P Q in
+    let u = dot_on_cell P Q A C in let n = dot_on_cell A C A C in let d = dot_on_cell P Q P Q in
     let fits = cell_fits u n d (cross_bounded P Q A C offset_limit axis_limit hP hQ hA hC) (cross_bounded A C A C axis_limit axis_limit hA hC hA hC) (cross_bounded P Q P Q offset_limit offset_limit hP hQ hP hQ) in
     let eu = c.scalar_product_on_cell-u.ensures in let en = c.scalar_product_on_cell-n.ensures in let ed = c.scalar_product_on_cell-d.ensures in
     let eh : c.times22-height.result.c ≡ product22 u u =
@@ -48,7 +48,7 @@ scale4-requires c =
     let P = c.args.first.now.offset in let Q = c.args.last.now.offset in let A = c.args.first.now.axis in let C = c.args.last.now.axis in
     let hP = c.args.first.now.offset_within in let hQ = c.args.last.now.offset_within in
     let hA = c.args.first.now.axis_within in let hC = c.args.last.now.axis_within in
-    let u = cross P Q A C in let n = cross A C A C in let d = cross P Q P Q in
+    let u = dot_on_cell P Q A C in let n = dot_on_cell A C A C in let d = dot_on_cell P Q P Q in
     let fits = cell_fits u n d (cross_bounded P Q A C offset_limit axis_limit hP hQ hA hC) (cross_bounded A C A C axis_limit axis_limit hA hC hA hC) (cross_bounded P Q P Q offset_limit offset_limit hP hQ hP hQ) in
     let eu = c.scalar_product_on_cell-u.ensures in let en = c.scalar_product_on_cell-n.ensures in let ed = c.scalar_product_on_cell-d.ensures in
     let eh : c.times22-height.result.c ≡ product22 u u =
@@ -67,7 +67,7 @@ invariant_of-result c =
     let P = c.args.first.now.offset in let Q = c.args.last.now.offset in let A = c.args.first.now.axis in let C = c.args.last.now.axis in
     let hP = c.args.first.now.offset_within in let hQ = c.args.last.now.offset_within in
     let hA = c.args.first.now.axis_within in let hC = c.args.last.now.axis_within in
-    let u = cross P Q A C in let n = cross A C A C in let d = cross P Q P Q in
+    let u = dot_on_cell P Q A C in let n = dot_on_cell A C A C in let d = dot_on_cell P Q P Q in
     let fits = cell_fits u n d (cross_bounded P Q A C offset_limit axis_limit hP hQ hA hC) (cross_bounded A C A C axis_limit axis_limit hA hC hA hC) (cross_bounded P Q P Q offset_limit offset_limit hP hQ hP hQ) in
     let eu = c.scalar_product_on_cell-u.ensures in let en = c.scalar_product_on_cell-n.ensures in let ed = c.scalar_product_on_cell-d.ensures in
     let eh : c.times22-height.result.c ≡ product22 u u =

@@ -1,8 +1,9 @@
 use Rattle.std.proofs.Common.{FitsSigned, rules, pos, refl, subst, sym, ◌≡◌, [], ◌∷◌}
 use Rattle.std.proofs.lemmas.Int.{to_z-of_z}
 use mir.Syntax.{w32, w64}
-use Rattle.bern_form.specs.Forms.{at}
-use Rattle.bern_form.specs.Motion.{IsSweep, IsWithin, Motion, axis_at, offset_at}
+use Rattle.space.specs.Vectors.{at}
+use Rattle.space.specs.Motion.{IsSweep, Motion, axis_at, offset_at}
+use Rattle.space.specs.Ranges.{IsWithin}
 use Rattle.bern_form.specs.Sizes.{axis_limit, offset_limit}
 use Rattle.bern_form.proofs.Sizes.{axis_within, offset_within}
 use Rattle.axis_cells.proofs.pose.Pose.at_sample.Goals as goal

@@ -1,7 +1,7 @@
 use Rattle.std.proofs.Common.{FitsSigned, rules, arith, refl, pos, ◌*◌}
 use Rattle.std.proofs.lemmas.Int.{to_z-of_z}
 use mir.Syntax.{w128}
-use Rattle.bern_form.specs.Motion.{dot}
+use Rattle.space.specs.Vectors.{dot}
 use Rattle.bern_form.specs.Sizes.{axis_limit, offset_limit}
 use Rattle.bern_form.proofs.Sizes.{dot_small}
 use Rattle.axis_cells.proofs.Fits.{fits128, spread_fits}

@@ -3,7 +3,7 @@
 use Rattle.std.proofs.Common.{◌≡◌, ℕ, Bool, true, false, cond, ltb, eqb, ◌&&◌, List, [], ◌∷◌, ℤ, pos, negsuc, ◌+ℤ◌, ◌*ℤ◌, neg_ℤ, arith, ap, refl, sym, ◌∙◌, slice_index_or}
 use Rattle.std.proofs.lemmas.Bool.{cond_both, eqb-true, and_parts}
 use Rattle.std.proofs.lemmas.Int.{ints}
-use Rattle.bern_form.proofs.Ring.{mul_assoc_ℤ, mul_add_ℤ, add_mul_ℤ, mul_swap_ℤ, mul_pairs_ℤ}
+use Rattle.space.proofs.Ring.{mul_assoc_ℤ, mul_add_ℤ, add_mul_ℤ, mul_swap_ℤ, mul_pairs_ℤ}
 
 pub data Term : Type 0 where
   var : ℕ → Term

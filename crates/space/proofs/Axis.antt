@@ -1,10 +1,11 @@
 -- The axis of a valid sweep is zero at no rational time.
 use Rattle.std.proofs.Common.{◌≡◌, ℕ, zero, suc, ◌+◌, ◌-◌, ◌≤◌, ◌<◌, [], ◌∷◌, ℤ, pos, negsuc, ◌+ℤ◌, ◌*ℤ◌, ◌-ℤ◌, ◌≤ℤ◌, ◌<ℤ◌, arith, refl, subst, ap, ◌∙◌}
 use Rattle.std.proofs.lemmas.Int.{ints}
-use Rattle.bern_form.specs.Forms.{at}
-use Rattle.bern_form.specs.Motion.{Motion, IsSweep, IsTime, axis_at, dot}
-use Rattle.bern_form.proofs.Naturals.{square_not_negative, dot_natural}
-use Rattle.bern_form.proofs.Solver.{var, add, mul, neg, ring}
+use Rattle.space.specs.Vectors.{at, dot}
+use Rattle.space.specs.Motion.{Motion, IsSweep, IsTime, axis_at}
+use Rattle.space.proofs.Naturals.{square_not_negative, dot_natural}
+use Rattle.space.proofs.Solver.{var, add, mul, neg, ring}
+use Rattle.space.proofs.Tests.{not_opposite, not_zero}
 
 cancel : (e : ℕ) (z : ℤ) → 0 < e → pos e *ℤ z ≡ pos 0 → z ≡ pos 0
 cancel (suc e) (pos zero) h k = refl
@@ -73,18 +74,18 @@ no_axis : (m : Motion) (e a : ℕ) → IsSweep m → 0 < e + a
 no_axis m zero a v h x y z =
     let g : 0 < a = omega arith in
     let f = m.axis_from in let t = m.axis_to in
-    v.last_axis (cancel a (at t 0) g (second_out (at f 0) (pos a *ℤ at t 0) x), cancel a (at t 1) g (second_out (at f 1) (pos a *ℤ at t 1) y), cancel a (at t 2) g (second_out (at f 2) (pos a *ℤ at t 2) z))
+    not_zero t v.last_axis (cancel a (at t 0) g (second_out (at f 0) (pos a *ℤ at t 0) x), cancel a (at t 1) g (second_out (at f 1) (pos a *ℤ at t 1) y), cancel a (at t 2) g (second_out (at f 2) (pos a *ℤ at t 2) z))
 no_axis m (suc e) zero v h x y z =
     let f = m.axis_from in let t = m.axis_to in
     let n = suc e in
     let g : 0 < n = omega arith in
-    v.first_axis (cancel n (at f 0) g (first_out (at t 0) (pos n *ℤ at f 0) x), cancel n (at f 1) g (first_out (at t 1) (pos n *ℤ at f 1) y), cancel n (at f 2) g (first_out (at t 2) (pos n *ℤ at f 2) z))
+    not_zero f v.first_axis (cancel n (at f 0) g (first_out (at t 0) (pos n *ℤ at f 0) x), cancel n (at f 1) g (first_out (at t 1) (pos n *ℤ at f 1) y), cancel n (at f 2) g (first_out (at t 2) (pos n *ℤ at f 2) z))
 no_axis m (suc e) (suc a) v h x y z =
     let f = m.axis_from in let t = m.axis_to in
     let n = suc e in let k = suc a in
     let g : 0 < n = omega arith in
-    let own : dot t t ≡ pos 0 → ⊥ = λ q. v.last_axis (squares_zero (at t 0) (at t 1) (at t 2) q) in
-    v.apart record {
+    let own : dot t t ≡ pos 0 → ⊥ = λ q. not_zero t v.last_axis (squares_zero (at t 0) (at t 1) (at t 2) q) in
+    not_opposite f t v.apart record {
       x = same_from (at f 1 *ℤ at t 2) (at f 2 *ℤ at t 1) (cancel n (at f 1 *ℤ at t 2 -ℤ at f 2 *ℤ at t 1) g (parallel (pos n) (pos k) (at f 1) (at t 1) (at f 2) (at t 2) y z));
       y = same_from (at f 2 *ℤ at t 0) (at f 0 *ℤ at t 2) (cancel n (at f 2 *ℤ at t 0 -ℤ at f 0 *ℤ at t 2) g (parallel (pos n) (pos k) (at f 2) (at t 2) (at f 0) (at t 0) z x));
       z = same_from (at f 0 *ℤ at t 1) (at f 1 *ℤ at t 0) (cancel n (at f 0 *ℤ at t 1 -ℤ at f 1 *ℤ at t 0) g (parallel (pos n) (pos k) (at f 0) (at t 0) (at f 1) (at t 1) x y));

@@ -3,11 +3,10 @@ use Rattle.std.proofs.Common.{◌≡◌, ℕ, ◌+◌, ◌*◌, ◌≤◌, List,
 use Rattle.std.proofs.lemmas.Int.{ints, unsigned_abs-mul}
 use Rattle.std.proofs.Math.Nat.{mul-le-mul}
 use borrow.Author.Differences.{abs_is}
-use Rattle.bern_form.specs.Forms.{at}
-use Rattle.bern_form.specs.Motion.{dot, spread}
-use Rattle.bern_form.proofs.Solver.{ring}
-use Rattle.bern_form.proofs.Terms.{sub, square, dots, from}
-use Rattle.bern_form.proofs.Solver.{add, mul}
+use Rattle.space.specs.Vectors.{at, dot, spread}
+use Rattle.space.proofs.Solver.{ring}
+use Rattle.space.proofs.Terms.{sub, square, dots, from}
+use Rattle.space.proofs.Solver.{add, mul}
 
 pub abs_add : (a b : ℤ) → unsigned_abs (a +ℤ b) ≤ unsigned_abs a + unsigned_abs b
 abs_add a b = omega (arith, ints, abs_is a, abs_is b, abs_is (a +ℤ b))

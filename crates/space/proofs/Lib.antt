@@ -1,0 +1,7 @@
+pub mod Ring
+pub mod Solver
+pub mod Terms
+pub mod Naturals
+pub mod Tests
+pub mod Axis
+pub mod ReachLemmas

@@ -1,0 +1,4 @@
+pub mod Vectors
+pub mod Ranges
+pub mod Motion
+pub mod Reach
