@@ -5,3 +5,4 @@ pub mod Naturals
 pub mod Tests
 pub mod Axis
 pub mod ReachLemmas
+pub mod FlankLemmas
