@@ -6,9 +6,11 @@ use Rattle.std.proofs.Math.Nat.{mul-le-mul_left}
 use Rattle.bern_form.specs.Forms.{value2, value4}
 use Rattle.space.specs.Motion.{Motion, IsTime, offset_at, axis_at}
 use Rattle.space.specs.Vectors.{dot, spread}
-use Rattle.bern_form.specs.Slab.{SlabSize, HoldsAt}
-use Rattle.bern_form.specs.Cells.{IsInCell, u_list, along_list, across_list, Excluded}
-use Rattle.bern_form.specs.Marks.{AllExcluded, NeverHeld}
+use Rattle.bern_form.specs.Slab.{SlabSize}
+use Rattle.bern_form.specs.Cells.{IsInCell, u_list, along_list, across_list}
+use Rattle.bern_form.specs.Marks.{NeverHeld}
+use Rattle.bern_form.proofs.Relations.{AllExcluded, Excluded, HoldsAt, SomeHolds}
+use Rattle.bern_form.proofs.Decided.{never_held}
 use Rattle.bern_form.proofs.Places.{late, early, u_place, along_place, across_place}
 use Rattle.bern_form.proofs.Signs.{negative2, negative4, positive4}
 
@@ -83,6 +85,6 @@ cell_of a b S time l = cell_from a b S time.0 S (let t = mul-le-mul_left S time.
 
 -- slabs that are excluded on every cell hold the point at no rational time
 pub excluded_never_held : (slabs : List SlabSize) (m : Motion) (p : List ℤ) (S : ℕ) → 0 < S → AllExcluded slabs m p S → NeverHeld slabs m p
-excluded_never_held slabs m p S l out = λ a b time held.
+excluded_never_held slabs m p S l out = never_held slabs m p (λ a b time held.
     let k = cell_of a b S time l in
-    excluded_not_held held.slab m p k.0 S a b k.2 (out held.slab k.0 held.among k.1) held.holds
+    excluded_not_held held.slab m p k.0 S a b k.2 (out held.slab k.0 held.among k.1) held.holds)
