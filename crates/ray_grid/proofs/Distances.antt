@@ -6,7 +6,8 @@ use Rattle.std.specs.Int.{int_min, int_max}
 use native.Mathlib.Decide.{dec_le}
 use mathlib.Core.Logic.{dite}
 use lib.Signed.{le_z}
-use Rattle.ray_grid.specs.Reach.{IsNear}
+use Rattle.space.specs.Reach.{is_near}
+use Rattle.space.proofs.ReachLemmas.{decides_near}
 use Rattle.ray_grid.proofs.Sizes.{times_is}
 
 -- the numbers of whole steps within a length
@@ -33,27 +34,21 @@ steps_is z m s l positive size some =
     let whole = pos_le (l * s) z positive in
     (λ p. whole.1 (subst (λ (n : ℕ). l * s ≤ n) size (natural.0 p)), λ p. natural.1 (subst (λ (n : ℕ). l * s ≤ n) (sym size) (whole.0 p)))
 
--- the test of one coordinate
-pub near_test : (from to reach x lo hi : ℤ) → lo ≡ int_min from to -ℤ reach → hi ≡ int_max from to +ℤ reach → lo ≤ℤ x → IsTrue (le_z x hi) ↔ IsNear from to reach x
-near_test from to reach x lo hi l h above = (
-  λ t. record { above = subst (λ (z : ℤ). z ≤ℤ x) l above; below = subst (λ (z : ℤ). x ≤ℤ z) h (true_le x hi t) },
-  λ near. le_true x hi (subst (λ (z : ℤ). x ≤ℤ z) (sym h) near.below),
-)
-
 -- the indices between the two ends that the divisions gave are those within reach
 pub indices_exact : (from to reach o z dl dh : ℤ) (s count a b first end l : ℕ) → pos 1 ≤ℤ z → s ≡ unsigned_abs z
     → dl ≡ (int_min from to -ℤ reach) -ℤ o → dh ≡ (int_max from to +ℤ reach) -ℤ o
     → (a ≤ l) ↔ (dl ≤ℤ pos (l * s)) → (l < b) ↔ (pos (l * s) ≤ℤ dh) → first ≡ min a count → end ≡ max (min b count) first
-    → ((first ≤ l) × (l < end)) ↔ ((l < count) × IsNear from to reach (o +ℤ (pos l *ℤ z)))
+    → ((first ≤ l) × (l < end)) ↔ ((l < count) × IsTrue (is_near reach from to (o +ℤ (pos l *ℤ z))))
 indices_exact from to reach o z dl dh s count a b first end l positive size low high up down is is' =
-    let whole : (pos l *ℤ z) ≡ pos (l * s) = times_is l z positive ∙ ap (λ k. pos (l * k)) (sym size) in (
+    let whole : (pos l *ℤ z) ≡ pos (l * s) = times_is l z positive ∙ ap (λ k. pos (l * k)) (sym size) in
+    let near = decides_near reach from to (o +ℤ (pos l *ℤ z)) in (
       λ t.
           let p = t.0 in let q = t.1 in
           let from_a = up.0 (omega arith) in
           let to_b = down.0 (omega arith) in
-          (omega arith, record { above = omega (arith, ints); below = omega (arith, ints) }),
+          (omega arith, near.1 record { above = omega (arith, ints); below = omega (arith, ints) }),
       λ t.
-          let p = t.0 in let q = t.1.above in let r = t.1.below in
+          let p = t.0 in let there = near.0 t.1 in let q = there.above in let r = there.below in
           let from_a : a ≤ l = up.1 (omega (arith, ints)) in
           let to_b : l < b = down.1 (omega (arith, ints)) in
           (omega arith, omega arith),

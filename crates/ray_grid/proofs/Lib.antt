@@ -3,3 +3,4 @@ pub mod Distances
 pub mod Rows
 pub mod Windows
 pub mod Listed
+pub mod Counted

@@ -1,9 +1,12 @@
 -- How large the coordinates of a grid's nodes and points are.
-use Rattle.std.proofs.Common.{◌≡◌, ℕ, suc, zero, ◌+◌, ◌-◌, ◌*◌, ◌/◌, ◌%◌, ◌<◌, ◌≤◌, ℤ, pos, negsuc, ◌+ℤ◌, ◌*ℤ◌, ◌≤ℤ◌, unsigned_abs, List, arith, refl, sym, ap, ap₂, ◌∙◌, w32, FitsSigned, to_z, of_z, slice_index}
+use Rattle.std.proofs.Common.{◌≡◌, ℕ, suc, zero, ◌+◌, ◌-◌, ◌*◌, ◌/◌, ◌%◌, ◌<◌, ◌≤◌, ℤ, pos, negsuc, ◌+ℤ◌, ◌*ℤ◌, ◌≤ℤ◌, unsigned_abs, List, arith, refl, sym, ap, ap₂, ◌∙◌, subst, w32, FitsSigned, to_z, of_z, slice_index}
 use Rattle.std.proofs.lemmas.Int.{ints, to_z-of_z, to_z_pos}
 use Rattle.std.proofs.Math.IntN.{pos-*ℤ-pos}
 use Rattle.std.proofs.Math.Nat.{mul-le-mul, mul-le-mul_right}
-use Rattle.ray_grid.specs.Ranges.{IsGrid, IsAxis, IsCoordinate, along}
+use Rattle.ray_grid.specs.Ranges.{IsGrid, IsGridAxis}
+use Rattle.space.specs.Ranges.{metre}
+use Rattle.space.specs.Vectors.{at}
+use borrow.Author.Differences.{abs_is as size_is}
 
 pub abs_is : (z : ℤ) → pos 1 ≤ℤ z → z ≡ pos (unsigned_abs z)
 abs_is (pos n) h = refl
@@ -42,50 +45,51 @@ pub record Scaled (o z : ℤ) (k : ℕ) : Type 0 where
   pub product : FitsSigned w32 (to_z w32 k *ℤ to_z w32 (of_z w32 z))
   pub sum : FitsSigned w32 (to_z w32 (of_z w32 o) +ℤ to_z w32 (of_z w32 (to_z w32 k *ℤ to_z w32 (of_z w32 z))))
   pub value : to_z w32 (of_z w32 (to_z w32 (of_z w32 o) +ℤ to_z w32 (of_z w32 (to_z w32 k *ℤ to_z w32 (of_z w32 z))))) ≡ o +ℤ (pos k *ℤ z)
+  pub near : unsigned_abs (to_z w32 (of_z w32 (to_z w32 (of_z w32 o) +ℤ to_z w32 (of_z w32 (to_z w32 k *ℤ to_z w32 (of_z w32 z)))))) ≤ metre
 
-pub scaled : (o z : ℤ) (k : ℕ) → FitsSigned w32 z → k < 2147483648 → IsCoordinate o → pos 1 ≤ℤ z → (o +ℤ pos (k * unsigned_abs z)) ≤ℤ pos 1000000 → Scaled o z k
+pub scaled : (o z : ℤ) (k : ℕ) → FitsSigned w32 z → k < 2147483648 → unsigned_abs o ≤ metre → pos 1 ≤ℤ z → (o +ℤ pos (k * unsigned_abs z)) ≤ℤ pos 1000000 → Scaled o z k
 scaled o z k fits small coordinate positive last =
     let whole : to_z w32 (of_z w32 z) ≡ z = to_z-of_z w32 z fits in
     let product : (to_z w32 k *ℤ to_z w32 (of_z w32 z)) ≡ pos (k * unsigned_abs z) = ap₂ (λ a b. a *ℤ b) (to_z_pos w32 k small) whole ∙ times_is k z positive in
-    let low = coordinate.from_low in
-    let high = coordinate.to_high in
+    let size = size_is o in
     let fits_o : FitsSigned w32 o = omega (arith, ints) in
     let fits_product : FitsSigned w32 (to_z w32 k *ℤ to_z w32 (of_z w32 z)) = omega (arith, ints) in
     let sum : (to_z w32 (of_z w32 o) +ℤ to_z w32 (of_z w32 (to_z w32 k *ℤ to_z w32 (of_z w32 z)))) ≡ o +ℤ (pos k *ℤ z) =
     ap₂ (λ a b. a +ℤ b) (to_z-of_z w32 o fits_o) (to_z-of_z w32 (to_z w32 k *ℤ to_z w32 (of_z w32 z)) fits_product ∙ product ∙ sym (times_is k z positive)) in
     let known = times_is k z positive in
     let fits_sum : FitsSigned w32 (to_z w32 (of_z w32 o) +ℤ to_z w32 (of_z w32 (to_z w32 k *ℤ to_z w32 (of_z w32 z)))) = omega (arith, ints) in
-    record {
-      product = fits_product;
-      sum = fits_sum;
-      value = to_z-of_z w32 (to_z w32 (of_z w32 o) +ℤ to_z w32 (of_z w32 (to_z w32 k *ℤ to_z w32 (of_z w32 z)))) fits_sum ∙ sum;
-    }
+    let value = to_z-of_z w32 (to_z w32 (of_z w32 o) +ℤ to_z w32 (of_z w32 (to_z w32 k *ℤ to_z w32 (of_z w32 z)))) fits_sum ∙ sum in
+    let near : unsigned_abs (o +ℤ (pos k *ℤ z)) ≤ metre = let there = size_is (o +ℤ (pos k *ℤ z)) in omega (arith, ints) in
+    record { product = fits_product; sum = fits_sum; value = value; near = subst (λ x. unsigned_abs x ≤ metre) (sym value) near }
 
-pub axis_of : (origin : List ℤ) (pitch step : ℤ) (counts : List ℕ) (axis : ℕ) → IsGrid origin pitch step counts → axis < 3 → IsAxis pitch step (along origin axis) (slice_index counts axis)
+pub axis_of : (origin : List ℤ) (pitch step : ℤ) (counts : List ℕ) (axis : ℕ) → IsGrid origin pitch step counts → axis < 3 → IsGridAxis pitch step (at origin axis) (slice_index counts axis)
 axis_of origin pitch step counts zero g three = g.x
 axis_of origin pitch step counts (suc zero) g three = g.y
 axis_of origin pitch step counts (suc (suc zero)) g three = g.z
 axis_of origin pitch step counts (suc (suc (suc axis))) g three = absurd (omega arith)
 
-pub node_scaled : (origin : List ℤ) (pitch step : ℤ) (counts : List ℕ) (axis n : ℕ) → IsGrid origin pitch step counts → FitsSigned w32 pitch → axis < 3 → n < slice_index counts axis → Scaled (along origin axis) pitch n
+pub node_scaled : (origin : List ℤ) (pitch step : ℤ) (counts : List ℕ) (axis n : ℕ) → IsGrid origin pitch step counts → FitsSigned w32 pitch → axis < 3 → n < slice_index counts axis → Scaled (at origin axis) pitch n
 node_scaled origin pitch step counts axis n g fits three lt =
-    let one : pos 1 ≤ℤ pitch = g.pitch_in.from_low in
-    let sp = abs_is step g.step_in.from_low in
+    let one : pos 1 ≤ℤ pitch = g.pitch_in.from_least in
+    let sp = abs_is step g.step_in.from_least in
     let pp = abs_is pitch one in
-    let a = g.step_in.from_low in
-    let b = g.step_in.to_high in
+    let a = g.step_in.from_least in
+    let b = g.step_in.to_most in
     let ax = axis_of origin pitch step counts axis g three in
     let most = ax.most in
-    scaled (along origin axis) pitch n fits (omega arith) ax.origin_in one
-    (node_within (along origin axis) (unsigned_abs pitch) (unsigned_abs step) (slice_index counts axis) n (omega (arith, ints)) (omega (arith, ints)) g.divides lt ax.last)
+    scaled (at origin axis) pitch n fits (omega arith) ax.origin_in one
+    (node_within (at origin axis) (unsigned_abs pitch) (unsigned_abs step) (slice_index counts axis) n (omega (arith, ints)) (omega (arith, ints)) g.divides lt ax.last)
+
+pub few_nodes : (origin : List ℤ) (pitch step : ℤ) (counts : List ℕ) (axis : ℕ) → IsGrid origin pitch step counts → axis < 3 → slice_index counts axis ≤ 400
+few_nodes origin pitch step counts axis g three = (axis_of origin pitch step counts axis g three).most
 
 pub few_places : (origin : List ℤ) (pitch step : ℤ) (counts : List ℕ) (axis : ℕ) → IsGrid origin pitch step counts → axis < 3 → slice_index counts axis * (unsigned_abs pitch / unsigned_abs step) ≤ 400000
 few_places origin pitch step counts axis g three = mul-le-mul (axis_of origin pitch step counts axis g three).most g.fine
 
 pub place_scaled : (origin : List ℤ) (pitch step : ℤ) (counts : List ℕ) (axis l : ℕ) → IsGrid origin pitch step counts → FitsSigned w32 step → axis < 3 → l < slice_index counts axis * (unsigned_abs pitch / unsigned_abs step)
-    → Scaled (along origin axis) step l
+    → Scaled (at origin axis) step l
 place_scaled origin pitch step counts axis l g fits three lt =
     let ax = axis_of origin pitch step counts axis g three in
     let most = mul-le-mul ax.most g.fine in
-    scaled (along origin axis) step l fits (omega arith) ax.origin_in g.step_in.from_low
-    (place_within (along origin axis) (unsigned_abs step) (slice_index counts axis * (unsigned_abs pitch / unsigned_abs step)) l lt ax.last)
+    scaled (at origin axis) step l fits (omega arith) ax.origin_in g.step_in.from_least
+    (place_within (at origin axis) (unsigned_abs step) (slice_index counts axis * (unsigned_abs pitch / unsigned_abs step)) l lt ax.last)

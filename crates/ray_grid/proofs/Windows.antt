@@ -4,75 +4,80 @@ use Rattle.ray_grid.specs.declared.grid.Grid.{Grid}
 use Rattle.ray_grid.specs.declared.ray.Ray.{Ray}
 use Rattle.ray_grid.specs.declared.ray.Family.{Family}
 use Rattle.ray_grid.specs.declared.ray.Family.TheVariants.{X, Y, Z}
-use Rattle.ray_grid.specs.Ranges.{along}
+use Rattle.space.specs.Vectors.{at}
 use Rattle.ray_grid.specs.Families.{ray_axis, first_axis, second_axis}
 use Rattle.ray_grid.specs.Lattice.{nodes_of, points_of, node_at, place_at, point_at}
 use Rattle.ray_grid.specs.Strips.{strip_of, strip_at}
 use Rattle.ray_grid.proofs.Rows.{ray_in, ray_past}
 use native.Mathlib.Decide.{dec_le}
 use mathlib.Core.Logic.{dite}
-use Rattle.ray_grid.specs.Reach.{IsNear, InReach, Enters}
+use Rattle.ray_grid.specs.Reach.{Enters}
+use Rattle.space.specs.Reach.{is_in_reach, is_near}
+use Rattle.space.proofs.ReachLemmas.{in_reach_of, in_reach_parts}
 
 -- a point is within reach where its two nodes and its place along the ray are
 pub record NearAll (g : Grid) (f : Family) (i j l : ℕ) (from to : List ℤ) (reach : ℤ) : Type 0 where
-  pub first : IsNear (along from (first_axis f)) (along to (first_axis f)) reach (node_at g (first_axis f) i)
-  pub second : IsNear (along from (second_axis f)) (along to (second_axis f)) reach (node_at g (second_axis f) j)
-  pub place : IsNear (along from (ray_axis f)) (along to (ray_axis f)) reach (place_at g (ray_axis f) l)
+  pub first : IsTrue (is_near reach (at from (first_axis f)) (at to (first_axis f)) (node_at g (first_axis f) i))
+  pub second : IsTrue (is_near reach (at from (second_axis f)) (at to (second_axis f)) (node_at g (second_axis f) j))
+  pub place : IsTrue (is_near reach (at from (ray_axis f)) (at to (ray_axis f)) (place_at g (ray_axis f) l))
 
-pub reach_of : (g : Grid) (f : Family) (i j l : ℕ) (from to : List ℤ) (reach : ℤ) → NearAll g f i j l from to reach → InReach from to reach (point_at g f i j l)
-reach_of g X i j l from to reach h = record { x = h.place; y = h.first; z = h.second }
-reach_of g Y i j l from to reach h = record { x = h.first; y = h.place; z = h.second }
-reach_of g Z i j l from to reach h = record { x = h.first; y = h.second; z = h.place }
+pub reach_of : (g : Grid) (f : Family) (i j l : ℕ) (from to : List ℤ) (reach : ℤ) → NearAll g f i j l from to reach → IsTrue (is_in_reach reach from to (point_at g f i j l))
+reach_of g X i j l from to reach h = in_reach_of reach from to (point_at g X i j l) h.place h.first h.second
+reach_of g Y i j l from to reach h = in_reach_of reach from to (point_at g Y i j l) h.first h.place h.second
+reach_of g Z i j l from to reach h = in_reach_of reach from to (point_at g Z i j l) h.first h.second h.place
 
-pub reach_parts : (g : Grid) (f : Family) (i j l : ℕ) (from to : List ℤ) (reach : ℤ) → InReach from to reach (point_at g f i j l) → NearAll g f i j l from to reach
-reach_parts g X i j l from to reach h = record { first = h.y; second = h.z; place = h.x }
-reach_parts g Y i j l from to reach h = record { first = h.x; second = h.z; place = h.y }
-reach_parts g Z i j l from to reach h = record { first = h.x; second = h.y; place = h.z }
+pub reach_parts : (g : Grid) (f : Family) (i j l : ℕ) (from to : List ℤ) (reach : ℤ) → IsTrue (is_in_reach reach from to (point_at g f i j l)) → NearAll g f i j l from to reach
+reach_parts g X i j l from to reach h =
+    let parts = in_reach_parts reach from to (point_at g X i j l) h in record { first = parts.1; second = parts.2; place = parts.0 }
+reach_parts g Y i j l from to reach h =
+    let parts = in_reach_parts reach from to (point_at g Y i j l) h in record { first = parts.0; second = parts.2; place = parts.1 }
+reach_parts g Z i j l from to reach h =
+    let parts = in_reach_parts reach from to (point_at g Z i j l) h in record { first = parts.0; second = parts.1; place = parts.2 }
 
 -- what the two divisions gave along a ray, at its own axis and number of points
 along_axis : (g : Grid) (f : Family) (from to : List ℤ) (reach : ℤ) (c lo hi m l : ℕ) → c ≡ ray_axis f → m ≡ points_of g f
-    → ((lo ≤ l) × (l < hi)) ↔ ((l < m) × IsNear (along from c) (along to c) reach (place_at g c l))
-    → ((lo ≤ l) × (l < hi)) ↔ ((l < points_of g f) × IsNear (along from (ray_axis f)) (along to (ray_axis f)) reach (place_at g (ray_axis f) l))
+    → ((lo ≤ l) × (l < hi)) ↔ ((l < m) × IsTrue (is_near reach (at from c) (at to c) (place_at g c l)))
+    → ((lo ≤ l) × (l < hi)) ↔ ((l < points_of g f) × IsTrue (is_near reach (at from (ray_axis f)) (at to (ray_axis f)) (place_at g (ray_axis f) l)))
 along_axis g f from to reach c lo hi m l ec em exact =
-    subst (λ (k : ℕ). ((lo ≤ l) × (l < hi)) ↔ ((l < points_of g f) × IsNear (along from k) (along to k) reach (place_at g k l))) ec
-    (subst (λ (k : ℕ). ((lo ≤ l) × (l < hi)) ↔ ((l < k) × IsNear (along from c) (along to c) reach (place_at g c l))) em exact)
+    subst (λ (k : ℕ). ((lo ≤ l) × (l < hi)) ↔ ((l < points_of g f) × IsTrue (is_near reach (at from k) (at to k) (place_at g k l)))) ec
+    (subst (λ (k : ℕ). ((lo ≤ l) × (l < hi)) ↔ ((l < k) × IsTrue (is_near reach (at from c) (at to c) (place_at g c l)))) em exact)
 
 pub window_is : (g : Grid) (f : Family) (i j : ℕ) (from to : List ℤ) (reach : ℤ) (a b c lo hi m l : ℕ) → a ≡ first_axis f → b ≡ second_axis f → c ≡ ray_axis f → m ≡ points_of g f
-    → IsNear (along from a) (along to a) reach (node_at g a i) → IsNear (along from b) (along to b) reach (node_at g b j)
-    → ((lo ≤ l) × (l < hi)) ↔ ((l < m) × IsNear (along from c) (along to c) reach (place_at g c l))
-    → ((lo ≤ l) × (l < hi)) ↔ ((l < points_of g f) × InReach from to reach (point_at g f i j l))
+    → IsTrue (is_near reach (at from a) (at to a) (node_at g a i)) → IsTrue (is_near reach (at from b) (at to b) (node_at g b j))
+    → ((lo ≤ l) × (l < hi)) ↔ ((l < m) × IsTrue (is_near reach (at from c) (at to c) (place_at g c l)))
+    → ((lo ≤ l) × (l < hi)) ↔ ((l < points_of g f) × IsTrue (is_in_reach reach from to (point_at g f i j l)))
 window_is g f i j from to reach a b c lo hi m l ea eb ec em first second exact =
-    let first' = subst (λ (k : ℕ). IsNear (along from k) (along to k) reach (node_at g k i)) ea first in
-    let second' = subst (λ (k : ℕ). IsNear (along from k) (along to k) reach (node_at g k j)) eb second in
+    let first' = subst (λ (k : ℕ). IsTrue (is_near reach (at from k) (at to k) (node_at g k i))) ea first in
+    let second' = subst (λ (k : ℕ). IsTrue (is_near reach (at from k) (at to k) (node_at g k j))) eb second in
     let exact' = along_axis g f from to reach c lo hi m l ec em exact in (
       λ p. let q = exact'.0 p in (q.0, reach_of g f i j l from to reach (record { first = first'; second = second'; place = q.1 })),
       λ p. exact'.1 (p.0, (reach_parts g f i j l from to reach p.1).place),
     )
 
 pub none_first : (g : Grid) (f : Family) (i j : ℕ) (from to : List ℤ) (reach : ℤ) (a l : ℕ) → a ≡ first_axis f
-    → ¬ IsNear (along from a) (along to a) reach (node_at g a i) → ((0 ≤ l) × (l < 0)) ↔ ((l < points_of g f) × InReach from to reach (point_at g f i j l))
+    → ¬ IsTrue (is_near reach (at from a) (at to a) (node_at g a i)) → ((0 ≤ l) × (l < 0)) ↔ ((l < points_of g f) × IsTrue (is_in_reach reach from to (point_at g f i j l)))
 none_first g f i j from to reach a l ea far = (
   λ p. absurd (let q = p.1 in omega arith),
   λ p.
       let parts = reach_parts g f i j l from to reach p.1 in
-      absurd (far (subst (λ (k : ℕ). IsNear (along from k) (along to k) reach (node_at g k i)) (sym ea) parts.first)),
+      absurd (far (subst (λ (k : ℕ). IsTrue (is_near reach (at from k) (at to k) (node_at g k i))) (sym ea) parts.first)),
 )
 
 pub none_second : (g : Grid) (f : Family) (i j : ℕ) (from to : List ℤ) (reach : ℤ) (b l : ℕ) → b ≡ second_axis f
-    → ¬ IsNear (along from b) (along to b) reach (node_at g b j) → ((0 ≤ l) × (l < 0)) ↔ ((l < points_of g f) × InReach from to reach (point_at g f i j l))
+    → ¬ IsTrue (is_near reach (at from b) (at to b) (node_at g b j)) → ((0 ≤ l) × (l < 0)) ↔ ((l < points_of g f) × IsTrue (is_in_reach reach from to (point_at g f i j l)))
 none_second g f i j from to reach b l eb far = (
   λ p. absurd (let q = p.1 in omega arith),
   λ p.
       let parts = reach_parts g f i j l from to reach p.1 in
-      absurd (far (subst (λ (k : ℕ). IsNear (along from k) (along to k) reach (node_at g k j)) (sym eb) parts.second)),
+      absurd (far (subst (λ (k : ℕ). IsTrue (is_near reach (at from k) (at to k) (node_at g k j))) (sym eb) parts.second)),
 )
 
 -- what the test of a node's coordinate told
-pub told_near : (r : Bool) (from to reach x y : ℤ) → IsTrue r ↔ IsNear from to reach x → x ≡ y → r ≡ true → IsNear from to reach y
-told_near r from to reach x y test same is = subst (λ (z : ℤ). IsNear from to reach z) same (test.0 is)
+pub told_near : (r : Bool) (from to reach x y : ℤ) → r ≡ is_near reach from to x → x ≡ y → r ≡ true → IsTrue (is_near reach from to y)
+told_near r from to reach x y test same is = cc
 
-pub told_far : (r : Bool) (from to reach x y : ℤ) → IsTrue r ↔ IsNear from to reach x → x ≡ y → r ≡ false → ¬ IsNear from to reach y
-told_far r from to reach x y test same is near = let other = test.1 (subst (λ (z : ℤ). IsNear from to reach z) (sym same) near) in cc
+pub told_far : (r : Bool) (from to reach x y : ℤ) → r ≡ is_near reach from to x → x ≡ y → r ≡ false → ¬ IsTrue (is_near reach from to y)
+told_far r from to reach x y test same is near = cc
 
 -- a ray of a strip that enters: its number, the point, and what is near
 record EntersAt (g : Grid) (f : Family) (i n : ℕ) (from to : List ℤ) (reach : ℤ) : Type 0 where
@@ -92,38 +97,38 @@ enters_at g f i n from to reach h =
 
 pub strip_is : (g : Grid) (strip : ℕ) (f : Family) (i : ℕ) (from to : List ℤ) (reach : ℤ) (a b c start end m lo hi count n : ℕ) → strip_at g strip ≡ strip_of g f i
     → a ≡ first_axis f → b ≡ second_axis f → c ≡ ray_axis f → m ≡ points_of g f → count ≡ nodes_of g b
-    → IsNear (along from a) (along to a) reach (node_at g a i)
-    → ((l : ℕ) → ((start ≤ l) × (l < end)) ↔ ((l < m) × IsNear (along from c) (along to c) reach (place_at g c l))) → start ≤ end → ¬ (start ≡ end)
-    → ((lo ≤ n) × (n < hi)) ↔ ((n < count) × IsNear (along from b) (along to b) reach (node_at g b n))
+    → IsTrue (is_near reach (at from a) (at to a) (node_at g a i))
+    → ((l : ℕ) → ((start ≤ l) × (l < end)) ↔ ((l < m) × IsTrue (is_near reach (at from c) (at to c) (place_at g c l)))) → start ≤ end → ¬ (start ≡ end)
+    → ((lo ≤ n) × (n < hi)) ↔ ((n < count) × IsTrue (is_near reach (at from b) (at to b) (node_at g b n)))
     → ((lo ≤ n) × (n < hi)) ↔ IsSomeAnd (slice_get (strip_at g strip) n) (Enters g from to reach)
 strip_is g strip f i from to reach a b c start end m lo hi count n row ea eb ec em en first points order some exact =
-    let first' = subst (λ (k : ℕ). IsNear (along from k) (along to k) reach (node_at g k i)) ea first in
-    let exact' = subst (λ (k : ℕ). ((lo ≤ n) × (n < hi)) ↔ ((n < nodes_of g k) × IsNear (along from k) (along to k) reach (node_at g k n))) eb
-    (subst (λ (k : ℕ). ((lo ≤ n) × (n < hi)) ↔ ((n < k) × IsNear (along from b) (along to b) reach (node_at g b n))) en exact) in
+    let first' = subst (λ (k : ℕ). IsTrue (is_near reach (at from k) (at to k) (node_at g k i))) ea first in
+    let exact' = subst (λ (k : ℕ). ((lo ≤ n) × (n < hi)) ↔ ((n < nodes_of g k) × IsTrue (is_near reach (at from k) (at to k) (node_at g k n)))) eb
+    (subst (λ (k : ℕ). ((lo ≤ n) × (n < hi)) ↔ ((n < k) × IsTrue (is_near reach (at from b) (at to b) (node_at g b n)))) en exact) in
     subst (λ (rays : List Ray). ((lo ≤ n) × (n < hi)) ↔ IsSomeAnd (slice_get rays n) (Enters g from to reach)) (sym row) (
       λ p.
           let near = exact'.0 p in
           let there = (along_axis g f from to reach c start end m start ec em (points start)).0 (omega arith, (let q : start < end = omega arith in q)) in
           subst (λ (o : Option Ray). IsSomeAnd o (Enters g from to reach)) (sym (ray_in g f i n near.0))
           (start, there.0, reach_of g f i n start from to reach (record { first = first'; second = near.1; place = there.1 })),
-      λ h. let at = enters_at g f i n from to reach h in exact'.1 (at.below, at.near.second),
+      λ h. let found = enters_at g f i n from to reach h in exact'.1 (found.below, found.near.second),
     )
 
 pub strip_far : (g : Grid) (strip : ℕ) (f : Family) (i : ℕ) (from to : List ℤ) (reach : ℤ) (a n : ℕ) → strip_at g strip ≡ strip_of g f i → a ≡ first_axis f
-    → ¬ IsNear (along from a) (along to a) reach (node_at g a i) → ((0 ≤ n) × (n < 0)) ↔ IsSomeAnd (slice_get (strip_at g strip) n) (Enters g from to reach)
+    → ¬ IsTrue (is_near reach (at from a) (at to a) (node_at g a i)) → ((0 ≤ n) × (n < 0)) ↔ IsSomeAnd (slice_get (strip_at g strip) n) (Enters g from to reach)
 strip_far g strip f i from to reach a n row ea far = (
   λ p. absurd (let q = p.1 in omega arith),
   λ h.
-      let at = enters_at g f i n from to reach (subst (λ (rays : List Ray). IsSomeAnd (slice_get rays n) (Enters g from to reach)) row h) in
-      absurd (far (subst (λ (k : ℕ). IsNear (along from k) (along to k) reach (node_at g k i)) (sym ea) at.near.first)),
+      let found = enters_at g f i n from to reach (subst (λ (rays : List Ray). IsSomeAnd (slice_get rays n) (Enters g from to reach)) row h) in
+      absurd (far (subst (λ (k : ℕ). IsTrue (is_near reach (at from k) (at to k) (node_at g k i))) (sym ea) found.near.first)),
 )
 
 pub strip_beside : (g : Grid) (strip : ℕ) (f : Family) (i : ℕ) (from to : List ℤ) (reach : ℤ) (c start end m n : ℕ) → strip_at g strip ≡ strip_of g f i → c ≡ ray_axis f → m ≡ points_of g f
-    → ((l : ℕ) → ((start ≤ l) × (l < end)) ↔ ((l < m) × IsNear (along from c) (along to c) reach (place_at g c l))) → start ≡ end
+    → ((l : ℕ) → ((start ≤ l) × (l < end)) ↔ ((l < m) × IsTrue (is_near reach (at from c) (at to c) (place_at g c l)))) → start ≡ end
     → ((0 ≤ n) × (n < 0)) ↔ IsSomeAnd (slice_get (strip_at g strip) n) (Enters g from to reach)
 strip_beside g strip f i from to reach c start end m n row ec em points none = (
   λ p. absurd (let q = p.1 in omega arith),
   λ h.
-      let at = enters_at g f i n from to reach (subst (λ (rays : List Ray). IsSomeAnd (slice_get rays n) (Enters g from to reach)) row h) in
-      absurd (let q = (along_axis g f from to reach c start end m at.l ec em (points at.l)).1 (at.point, at.near.place) in let r = q.0 in let t = q.1 in omega arith),
+      let found = enters_at g f i n from to reach (subst (λ (rays : List Ray). IsSomeAnd (slice_get rays n) (Enters g from to reach)) row h) in
+      absurd (let q = (along_axis g f from to reach c start end m found.l ec em (points found.l)).1 (found.point, found.near.place) in let r = q.0 in let t = q.1 in omega arith),
 )

@@ -4,7 +4,7 @@ use Rattle.ray_grid.specs.declared.grid.Grid.{Grid}
 use Rattle.ray_grid.specs.declared.ray.Ray.{Ray}
 use Rattle.ray_grid.specs.declared.ray.Family.{Family}
 use Rattle.ray_grid.specs.declared.ray.Family.TheVariants.{X, Y, Z}
-use Rattle.ray_grid.specs.Ranges.{along}
+use Rattle.space.specs.Vectors.{at}
 use Rattle.ray_grid.specs.Families.{ray_axis, first_axis, second_axis}
 
 -- how many nodes an axis has, and how many points a ray has for each node that it passes
@@ -20,10 +20,10 @@ points_of grid family = nodes_of grid (ray_axis family) * per_node grid
 
 -- where node n of an axis lies, and point l of a ray along it
 abbrev pub node_at : Grid → ℕ → ℕ → ℤ
-node_at grid axis n = along grid.origin axis +ℤ (pos n *ℤ grid.pitch)
+node_at grid axis n = at grid.origin axis +ℤ (pos n *ℤ grid.pitch)
 
 abbrev pub place_at : Grid → ℕ → ℕ → ℤ
-place_at grid axis l = along grid.origin axis +ℤ (pos l *ℤ grid.step)
+place_at grid axis l = at grid.origin axis +ℤ (pos l *ℤ grid.step)
 
 -- the ray's nodes are nodes of the grid
 pub record IsRay (grid : Grid) (ray : Ray) : Type 0 where

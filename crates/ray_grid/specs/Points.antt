@@ -1,9 +1,11 @@
 -- The lattice as one list: each point of each ray. A location on the rays of two families is there twice.
-use Rattle.std.specs.Prelude.{ℕ, ℤ, List, map}
+use Rattle.std.specs.Prelude.{◌≡◌, ℕ, ◌*◌, ◌<◌, ℤ, List, map}
 use Rattle.std.specs.List.{flat_map, range_with_len}
 use Rattle.ray_grid.specs.declared.grid.Grid.{Grid}
 use Rattle.ray_grid.specs.declared.ray.Ray.{Ray}
-use Rattle.ray_grid.specs.Lattice.{points_of, point_of}
+use Rattle.ray_grid.specs.declared.ray.Family.{Family}
+use Rattle.ray_grid.specs.Families.{first_axis, second_axis}
+use Rattle.ray_grid.specs.Lattice.{IsRay, nodes_of, points_of, point_of}
 use Rattle.ray_grid.specs.Strips.{strips_of}
 
 -- a point of the lattice: its ray, its index along the ray, and its coordinates
@@ -22,3 +24,13 @@ rays_of grid = flat_map (λ strip. strip) (strips_of grid)
 
 abbrev pub lattice_of : Grid → List LatticePoint
 lattice_of grid = flat_map (points_on grid) (rays_of grid)
+
+-- a point of the lattice: at an index of a ray of the grid, and where the ray has it
+pub record IsPointOf (grid : Grid) (point : LatticePoint) : Type 0 where
+  pub ray : IsRay grid point.ray
+  pub index : point.l < points_of grid point.ray.family
+  pub position : point.position ≡ point_of grid point.ray point.l
+
+-- how many points the rays of a family have
+abbrev pub family_points : Grid → Family → ℕ
+family_points grid family = nodes_of grid (first_axis family) * (nodes_of grid (second_axis family) * points_of grid family)

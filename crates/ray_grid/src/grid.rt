@@ -17,8 +17,9 @@ pub struct Grid {
 }
 
 impl Grid {
-    ghost use Rattle.std.specs.Prelude.{◌≡◌, ◌*◌, ◌<◌, slice_index, Contains};
+    ghost use Rattle.std.specs.Prelude.{◌≡◌, ◌*◌, ◌<◌, ◌≤◌, slice_index, unsigned_abs, Contains};
     ghost use Rattle.ray_grid.specs.Lattice.{IsRay, points_of, per_node, node_at, place_at, point_of};
+    ghost use Rattle.space.specs.Ranges.{IsPoint, metre};
     ghost use Rattle.ray_grid.specs.Points.{lattice_of};
 
     /// How many points a ray of the family has.
@@ -33,6 +34,8 @@ impl Grid {
         requires ray { IsRay self.now ray.now }
         requires point { l < points_of self.now ray.now.family }
         ensures position { result ≡ point_of self.now ray.now l }
+        // It lies within a metre of the origin, so it may be marked.
+        ensures near { IsPoint result }
         ensures listed { let position = point_of self.now ray.now l in
             Contains (lattice_of self.now) record { ray = ray.now; l = l; position = position } }
     {
@@ -66,7 +69,8 @@ impl Grid {
     pub(crate) fn node(&self, axis: usize, n: u32) -> i32
         requires axis { axis < 3 }
         requires node { n < slice_index self.now.counts axis }
-        ensures { result ≡ node_at self.now axis n }
+        ensures value { result ≡ node_at self.now axis n }
+        ensures near { unsigned_abs result ≤ metre }
     {
         self.origin[axis] + n as i32 * self.pitch
     }
@@ -75,7 +79,8 @@ impl Grid {
     pub(crate) fn place_on(&self, axis: usize, l: u32) -> i32
         requires axis { axis < 3 }
         requires point { l < slice_index self.now.counts axis * per_node self.now }
-        ensures { result ≡ place_at self.now axis l }
+        ensures value { result ≡ place_at self.now axis l }
+        ensures near { unsigned_abs result ≤ metre }
     {
         self.origin[axis] + l as i32 * self.step
     }

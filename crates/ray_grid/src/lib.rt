@@ -2,6 +2,7 @@
 #![tactic(auto)]
 
 mod grid;
+mod lattice;
 mod near;
 mod ray;
 mod strips;

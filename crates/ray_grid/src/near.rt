@@ -1,8 +1,8 @@
 ghost use Rattle.std.specs.Prelude.{◌≡◌, ℕ, ◌*◌, ◌<◌, ◌≤◌, ◌↔◌, IsTrue, pos, ◌≤ℤ◌, ◌+ℤ◌, ◌*ℤ◌, ◌-ℤ◌};
 ghost use Rattle.std.specs.Int.{int_min, int_max};
-ghost use Rattle.ray_grid.specs.Ranges.{along};
+ghost use Rattle.space.specs.Vectors.{at};
 ghost use Rattle.ray_grid.specs.Selects.{Selects};
-ghost use Rattle.ray_grid.specs.OnAxis.{IsNearOn};
+ghost use Rattle.ray_grid.specs.OnAxis.{is_near_on};
 
 /// What lies on each axis at most `reach` outside the segment from `from` to `to`.
 #[derive(Clone, Copy)]
@@ -16,9 +16,9 @@ impl Reach {
     /// Whether a coordinate of the axis is within reach.
     pub fn holds(&self, axis: usize, x: i32) -> bool
         requires { axis < 3 }
-        ensures { IsTrue result ↔ IsNearOn self.now axis x }
+        ensures { result ≡ is_near_on self.now axis x }
     {
-        self.to_lowest(axis, x) <= 0 && self.to_highest(axis, x) >= 0
+        space::is_near(self.reach, self.from[axis], self.to[axis], x)
     }
 
     /// The indices below `count` of the coordinates `origin + l * step` of the axis that are within
@@ -32,7 +32,7 @@ impl Reach {
         requires step { pos 1 ≤ℤ step }
         ensures order { result.0 ≤ result.1 }
         ensures within { result.1 ≤ count }
-        ensures exact { Selects result.0 result.1 (λ l. (l < count) × IsNearOn self.now axis (origin +ℤ (pos l *ℤ step))) }
+        ensures exact { Selects result.0 result.1 (λ l. (l < count) × IsTrue (is_near_on self.now axis (origin +ℤ (pos l *ℤ step)))) }
     {
         let step = u64::from(step.unsigned_abs());
         let first = steps_up_to(self.to_lowest(axis, origin), step).min(u64::from(count)) as u32;
@@ -43,7 +43,7 @@ impl Reach {
     /// The distance from a coordinate up to the lowest one within reach.
     fn to_lowest(&self, axis: usize, x: i32) -> i64
         requires { axis < 3 }
-        ensures { let end = int_min (along self.now.from axis) (along self.now.to axis) in
+        ensures { let end = int_min (at self.now.from axis) (at self.now.to axis) in
             result ≡ (end -ℤ self.now.reach) -ℤ x }
     {
         let end = self.from[axis].min(self.to[axis]);
@@ -53,7 +53,7 @@ impl Reach {
     /// The distance from a coordinate up to the highest one within reach.
     fn to_highest(&self, axis: usize, x: i32) -> i64
         requires { axis < 3 }
-        ensures { let end = int_max (along self.now.from axis) (along self.now.to axis) in
+        ensures { let end = int_max (at self.now.from axis) (at self.now.to axis) in
             result ≡ (end +ℤ self.now.reach) -ℤ x }
     {
         let end = self.from[axis].max(self.to[axis]);

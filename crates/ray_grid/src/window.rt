@@ -4,12 +4,11 @@ use crate::ray::Ray;
 
 impl Grid {
     ghost use Rattle.std.specs.Prelude.{◌≡◌, ℕ, ◌<◌, ◌≤◌, ◌↔◌, IsTrue, IsSomeAnd, length, slice_get};
-    ghost use Rattle.ray_grid.specs.Ranges.{along};
-    ghost use Rattle.ray_grid.specs.Families.{first_axis, second_axis};
     ghost use Rattle.ray_grid.specs.Lattice.{IsRay, points_of, node_at, point_of};
     ghost use Rattle.ray_grid.specs.Strips.{strips_of, strip_at};
     ghost use Rattle.ray_grid.specs.Selects.{Selects};
-    ghost use Rattle.ray_grid.specs.Reach.{IsNear, InReach, Enters};
+    ghost use Rattle.space.specs.Reach.{is_in_reach};
+    ghost use Rattle.ray_grid.specs.Reach.{Enters};
 
     /// The indices of a ray's points within reach of the segment from `from` to `to`, the first
     /// included, the second excluded; the two are equal where there are none.
@@ -20,7 +19,8 @@ impl Grid {
         requires { IsRay self.now ray.now }
         ensures order { result.0 ≤ result.1 }
         ensures within { result.1 ≤ points_of self.now ray.now.family }
-        ensures exact { Selects result.0 result.1 (λ l. (l < points_of self.now ray.now.family) × InReach from to reach (point_of self.now ray.now l)) }
+        ensures exact { Selects result.0 result.1 (λ l. (l < points_of self.now ray.now.family)
+            × IsTrue (is_in_reach reach from to (point_of self.now ray.now l))) }
     {
         let near = Reach { from, to, reach };
         let family = ray.family;

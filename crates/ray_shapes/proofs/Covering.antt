@@ -1,4 +1,4 @@
--- What a list of intervals covers, one interval after the other.
+-- What a list of intervals covers_some, one interval after the other.
 use Rattle.std.proofs.Common.{◌≡◌, ℕ, ◌+◌, ◌<◌, ◌≤◌, max, List, length, take, drop, get_or, Bool, true, false, ◌&&◌, ◌||◌, leb, ltb, IsTrue, arith, refl, sym, ap, ap₂, ◌∙◌}
 use Rattle.std.specs.List.{list_all}
 use Rattle.std.proofs.lemmas.Bool.Decides.{nat_tests}
@@ -7,7 +7,7 @@ use Rattle.std.proofs.lemmas.List.{take-append-drop, get_or_default}
 use native.Mathlib.Decide.{dec_le}
 use mathlib.Core.Logic.{dite}
 use Rattle.ray_shapes.specs.declared.half_line.Interval.{Interval}
-use Rattle.ray_shapes.specs.Parts.{is_in, covers, InOrder}
+use Rattle.ray_shapes.specs.Parts.{is_in, covers_some, InOrder}
 
 and_first : (a b : Bool) → (a && b) ≡ true → a ≡ true
 and_first true b h = refl
@@ -31,8 +31,8 @@ absorbed held before true same covered = covered refl ∙ sym (or_true before)
 absorbed held before false same covered = same ∙ or_false before
 
 -- what is covered with one more interval
-covers_more : (parts : List Interval) (k i : ℕ) (part : Interval) → k < length parts → get_or parts k part ≡ part → covers (take (k + 1) parts) i ≡ (covers (take k parts) i || is_in i part)
-covers_more parts k i part lt is = list_any_more (is_in i) parts k part lt ∙ ap (λ (p : Interval). covers (take k parts) i || is_in i p) is
+covers_more : (parts : List Interval) (k i : ℕ) (part : Interval) → k < length parts → get_or parts k part ≡ part → covers_some (take (k + 1) parts) i ≡ (covers_some (take k parts) i || is_in i part)
+covers_more parts k i part lt is = list_any_more (is_in i) parts k part lt ∙ ap (λ (p : Interval). covers_some (take k parts) i || is_in i p) is
 
 and_second : (a : Bool) (i n : ℕ) → (a && ltb i n) ≡ true → i < n
 and_second true i n h = grind (arith, nat_tests)
@@ -41,10 +41,10 @@ and_second false i n h = absurd (cc)
 in_parts : (i : ℕ) (part : Interval) → is_in i part ≡ true → (part.lo ≤ i) × (i < part.hi)
 in_parts i part h = (let q = and_first (leb part.lo i) (ltb i part.hi) h in grind (arith, nat_tests), and_second (leb part.lo i) i part.hi h)
 
-pub held_none : (parts : List Interval) (k end i from : ℕ) (part : Interval) (held : Bool) → k < length parts → get_or parts k part ≡ part → held ≡ covers (take k parts) i
-    → from ≤ part.lo → (from ≤ i → i < end → IsTrue held) → part.hi ≤ max part.lo end → held ≡ covers (take (k + 1) parts) i
+pub held_none : (parts : List Interval) (k end i from : ℕ) (part : Interval) (held : Bool) → k < length parts → get_or parts k part ≡ part → held ≡ covers_some (take k parts) i
+    → from ≤ part.lo → (from ≤ i → i < end → IsTrue held) → part.hi ≤ max part.lo end → held ≡ covers_some (take (k + 1) parts) i
 held_none parts k end i from part held lt is before low full beyond =
-    absorbed held (covers (take k parts) i) (is_in i part) before (λ t. let q = in_parts i part t in let a = q.0 in let b = q.1 in full (omega arith) (omega arith))
+    absorbed held (covers_some (take k parts) i) (is_in i part) before (λ t. let q = in_parts i part t in let a = q.0 in let b = q.1 in full (omega arith) (omega arith))
     ∙ sym (covers_more parts k i part lt is)
 
 below_test : (m i : ℕ) → i < m → leb m i ≡ false
@@ -56,8 +56,8 @@ same_test m n i p q =
     (λ le. let a : leb m i ≡ true = grind (arith, nat_tests) in let le' = p le in let b : leb n i ≡ true = grind (arith, nat_tests) in a ∙ sym b)
     (λ no. let a : leb m i ≡ false = grind (arith, nat_tests) in let b : leb n i ≡ false = below_test n i (dite (dec_le n i) (λ ge. absurd (no (q ge))) (λ lt. omega arith)) in a ∙ sym b)
 
-pub held_push : (parts : List Interval) (k end i from : ℕ) (part : Interval) (held new : Bool) → k < length parts → get_or parts k part ≡ part → held ≡ covers (take k parts) i
-    → from ≤ part.lo → (from ≤ i → i < end → IsTrue held) → new ≡ (held || (leb (max part.lo end) i && ltb i part.hi)) → new ≡ covers (take (k + 1) parts) i
+pub held_push : (parts : List Interval) (k end i from : ℕ) (part : Interval) (held new : Bool) → k < length parts → get_or parts k part ≡ part → held ≡ covers_some (take k parts) i
+    → from ≤ part.lo → (from ≤ i → i < end → IsTrue held) → new ≡ (held || (leb (max part.lo end) i && ltb i part.hi)) → new ≡ covers_some (take (k + 1) parts) i
 held_push parts k end i from part held new lt is before low full pushed =
     dite (dec_le end i)
     (λ past.
@@ -66,7 +66,7 @@ held_push parts k end i from part held new lt is before low full pushed =
     (λ no.
     let none : leb (max part.lo end) i ≡ false = below_test (max part.lo end) i (omega arith) in
     pushed ∙ ap (λ b. held || (b && ltb i part.hi)) none ∙ sym (or_false held)
-    ∙ absorbed held (covers (take k parts) i) (is_in i part) before (λ t. let q = in_parts i part t in let a = q.0 in full (omega arith) (omega arith))
+    ∙ absorbed held (covers_some (take k parts) i) (is_in i part) before (λ t. let q = in_parts i part t in let a = q.0 in full (omega arith) (omega arith))
     ∙ sym (covers_more parts k i part lt is))
 
 -- what is held after a range was pushed

@@ -2,12 +2,12 @@
 use Rattle.std.proofs.Common.{◌≡◌, ◌↔◌, ℕ, suc, zero, ◌+◌, ◌-◌, ◌*◌, ◌/◌, ◌<◌, ◌≤◌, ℤ, pos, negsuc, ◌+ℤ◌, ◌-ℤ◌, ◌*ℤ◌, ◌≤ℤ◌, unsigned_abs, true, false, FitsSigned, w64, arith, refl, sym, ap, ◌∙◌, subst}
 use Rattle.std.proofs.lemmas.Int.{ints, by_lt_z}
 use lib.Signed.{le_z}
-use Rattle.ray_grid.specs.Ranges.{IsWithin}
+use Rattle.space.specs.Ranges.{IsBetween}
 use Rattle.std.proofs.Math.IntN.{pos-*ℤ-pos, negsuc-*ℤ-pos}
 use native.Mathlib.Decide.{dec_le}
 use mathlib.Core.Logic.{dite}
 use Rattle.ray_grid.proofs.Distances.{within_is}
-use Rattle.ray_shapes.specs.Sizes.{IsSmall}
+use Rattle.ray_shapes.specs.Sizes.{IsTerm}
 
 abs_of : (z : ℤ) → pos 0 ≤ℤ z → pos (unsigned_abs z) ≡ z
 abs_of (pos n) h = refl
@@ -93,14 +93,14 @@ told_within x y t = grind (arith, ints)
 pub told_beyond : (x y : ℤ) → le_z x y ≡ false → ¬ (x ≤ℤ y)
 told_beyond x y t h = grind (arith, ints)
 
-pub small_sum : (start rise : ℤ) → IsSmall start → IsSmall rise → IsWithin (negsuc 36028797018963967) (pos 36028797018963968) (start +ℤ rise)
+pub small_sum : (start rise : ℤ) → IsTerm start → IsTerm rise → IsBetween (negsuc 36028797018963967) (pos 36028797018963968) (start +ℤ rise)
 small_sum start rise s r =
-    let a = s.from_low in let b = s.to_high in let c = r.from_low in let d = r.to_high in
-    record { from_low = omega (arith, ints); to_high = omega (arith, ints) }
+    let a = s.from_least in let b = s.to_most in let c = r.from_least in let d = r.to_most in
+    record { from_least = omega (arith, ints); to_most = omega (arith, ints) }
 
 -- the way from a small value to a limit that lies before another small value
-pub small_way : (x y limit : ℤ) → IsWithin (negsuc 36028797018963967) (pos 36028797018963968) x → IsWithin (negsuc 36028797018963967) (pos 36028797018963968) y → x ≤ℤ limit → ¬ (y ≤ℤ limit) → FitsSigned w64 (limit -ℤ x)
+pub small_way : (x y limit : ℤ) → IsBetween (negsuc 36028797018963967) (pos 36028797018963968) x → IsBetween (negsuc 36028797018963967) (pos 36028797018963968) y → x ≤ℤ limit → ¬ (y ≤ℤ limit) → FitsSigned w64 (limit -ℤ x)
 small_way x y limit p q le beyond =
-    let a = p.from_low in let b = p.to_high in let c = q.from_low in let d = q.to_high in
+    let a = p.from_least in let b = p.to_most in let c = q.from_least in let d = q.to_most in
     let under : limit ≤ℤ y = by_lt_z y limit (λ lt. absurd (beyond (omega (arith, ints)))) (λ ge. ge) in
     omega (arith, ints)

@@ -9,8 +9,8 @@ abbrev pub is_in : ℕ → Interval → Bool
 is_in i part = nat_le part.lo i && nat_lt i part.hi
 
 -- some of the intervals covers the index
-abbrev pub covers : List Interval → ℕ → Bool
-covers parts i = list_any (is_in i) parts
+abbrev pub covers_some : List Interval → ℕ → Bool
+covers_some parts i = list_any (is_in i) parts
 
 -- the intervals stand in the order of their first indices
 abbrev pub InOrder : List Interval → Type 0

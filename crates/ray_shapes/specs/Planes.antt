@@ -1,14 +1,14 @@
 -- Which points a plane, a body and a list of bodies hold.
 use Rattle.std.specs.Prelude.{ℤ, ◌+ℤ◌, ◌*ℤ◌, int_le, Bool, List}
 use Rattle.std.specs.List.{list_all, list_any}
-use Rattle.ray_grid.specs.Ranges.{along}
+use Rattle.space.specs.Vectors.{at}
 use Rattle.ray_grid.specs.declared.ray.Family.{Family}
 use Rattle.ray_grid.specs.declared.ray.Family.TheVariants.{X, Y, Z}
 use Rattle.ray_shapes.specs.declared.plane.Plane.{Plane}
 
 -- the left side of the plane at a point
 abbrev pub value_at : Plane → List ℤ → ℤ
-value_at plane point = ((plane.a *ℤ along point 0) +ℤ (plane.b *ℤ along point 1)) +ℤ (plane.c *ℤ along point 2)
+value_at plane point = ((plane.a *ℤ at point 0) +ℤ (plane.b *ℤ at point 1)) +ℤ (plane.c *ℤ at point 2)
 
 -- the coefficient of the axis along which a family's rays run
 abbrev pub coefficient_of : Plane → Family → ℤ
@@ -17,12 +17,12 @@ coefficient_of plane Y = plane.b
 coefficient_of plane Z = plane.c
 
 -- a plane holds the points on its inner side, those on the plane itself too
-abbrev pub holds : Plane → List ℤ → Bool
-holds plane point = int_le (value_at plane point) plane.d
+abbrev pub plane_holds : Plane → List ℤ → Bool
+plane_holds plane point = int_le (value_at plane point) plane.d
 
 -- a body holds the points that all its planes hold
 abbrev pub in_body : List Plane → List ℤ → Bool
-in_body body point = list_all (λ plane. holds plane point) body
+in_body body point = list_all (λ plane. plane_holds plane point) body
 
 -- the points of a list of bodies are those of any of them
 abbrev pub in_bodies : List (List Plane) → List ℤ → Bool

@@ -4,7 +4,7 @@ ghost use Rattle.ray_grid.specs.Lattice.{IsRay, points_of, point_of};
 ghost use Rattle.ray_grid.specs.Selects.{Selects};
 ghost use Rattle.ray_shapes.specs.OnLine.{point_on};
 ghost use Rattle.ray_shapes.specs.Planes.{in_body, in_bodies};
-ghost use Rattle.ray_shapes.specs.Parts.{covers, InOrder};
+ghost use Rattle.ray_shapes.specs.Parts.{covers_some, InOrder};
 ghost use Rattle.ray_shapes.specs.Sets.{HoldsPointsOf};
 
 use crate::body::Body;
@@ -51,7 +51,7 @@ fn part_in(planes: &[Plane], line: &Line) -> Interval
 /// The parts of a line that lie in the bodies, those that are not empty.
 fn parts_in(alloc: Global, bodies: &[Body], line: &Line) -> Result<Vec<Interval>, NoMemory>
     ensures within { IfOk result (λ v. All (λ part. part.hi ≤ line.now.points) v.items) }
-    ensures exact { IfOk result (λ v. (l : ℕ) → covers v.items l ≡ (nat_lt l line.now.points && in_bodies bodies.now (point_on line.now l))) }
+    ensures exact { IfOk result (λ v. (l : ℕ) → covers_some v.items l ≡ (nat_lt l line.now.points && in_bodies bodies.now (point_on line.now l))) }
 {
     let mut parts = Vec::new(alloc);
     for body in bodies {
@@ -67,7 +67,7 @@ fn parts_in(alloc: Global, bodies: &[Body], line: &Line) -> Result<Vec<Interval>
 fn cover(alloc: Global, bound: u32, parts: &mut [Interval]) -> Result<Spans, NoMemory>
     requires { All (λ part. part.hi ≤ bound) parts.old }
     ensures bound { IfOk result (λ s. length s ≡ bound) }
-    ensures covered { IfOk result (λ s. (i : ℕ) → has s i ≡ covers parts.old i) }
+    ensures covered { IfOk result (λ s. (i : ℕ) → has s i ≡ covers_some parts.old i) }
 {
     parts.sort_unstable_by_key(|part| part.lo);
     join(alloc, bound, parts)
@@ -79,7 +79,7 @@ fn join(alloc: Global, bound: u32, parts: &[Interval]) -> Result<Spans, NoMemory
     requires order { InOrder parts.now }
     requires within { All (λ part. part.hi ≤ bound) parts.now }
     ensures bound { IfOk result (λ s. length s ≡ bound) }
-    ensures covered { IfOk result (λ s. (i : ℕ) → has s i ≡ covers parts.now i) }
+    ensures covered { IfOk result (λ s. (i : ℕ) → has s i ≡ covers_some parts.now i) }
 {
     let mut set = Spans::new(alloc, bound);
     let mut end = 0;

@@ -1,7 +1,7 @@
 ghost use Rattle.std.specs.Prelude.{◌≡◌, ℕ, ◌*◌, ◌<◌, ◌≤◌, ◌↔◌, pos, ◌≤ℤ◌, ◌+ℤ◌, ◌-ℤ◌, ◌*ℤ◌, unsigned_abs, FitsSigned};
 ghost use Rattle.std.specs.Int.{w64};
 ghost use Rattle.ray_grid.specs.Selects.{Selects};
-ghost use Rattle.ray_shapes.specs.Sizes.{IsSmall};
+ghost use Rattle.ray_shapes.specs.Sizes.{IsTerm};
 
 /// Indices from `lo` up to `hi`, `hi` excluded.
 #[derive(Clone, Copy, Debug, PartialEq, Eq)]
@@ -18,8 +18,8 @@ pub struct Interval {
 /// quotient is rounded down for a slope of either sign.
 pub fn half_line(start: i64, slope: i64, limit: i64, part: Interval) -> Interval
     requires some { part.lo < part.hi }
-    requires small_start { IsSmall start }
-    requires small_rise { (l : ℕ) → l < part.hi → IsSmall (slope *ℤ pos l) }
+    requires small_start { IsTerm start }
+    requires small_rise { (l : ℕ) → l < part.hi → IsTerm (slope *ℤ pos l) }
     ensures order { result.lo ≤ result.hi }
     ensures within { result.hi ≤ part.hi }
     ensures exact { Selects result.lo result.hi (λ l. (part.lo ≤ l) × (l < part.hi) × ((start +ℤ (slope *ℤ pos l)) ≤ℤ limit)) }
@@ -50,8 +50,8 @@ pub fn half_line(start: i64, slope: i64, limit: i64, part: Interval) -> Interval
 }
 
 fn value_at(start: i64, slope: i64, l: u32) -> i64
-    requires start { IsSmall start }
-    requires rise { IsSmall (slope *ℤ pos l) }
+    requires start { IsTerm start }
+    requires rise { IsTerm (slope *ℤ pos l) }
     ensures { result ≡ start +ℤ (slope *ℤ pos l) }
 {
     start + slope * i64::from(l)

@@ -1,6 +1,6 @@
 ghost use Rattle.std.specs.Prelude.{◌≡◌, ℕ, ◌<◌, ◌≤◌, ◌↔◌, IsTrue, pos, ◌≤ℤ◌, ◌+ℤ◌, ◌*ℤ◌};
 ghost use Rattle.ray_grid.specs.Selects.{Selects};
-ghost use Rattle.ray_shapes.specs.Sizes.{IsSmall};
+ghost use Rattle.ray_shapes.specs.Sizes.{IsTerm};
 
 use crate::half_line::{Interval, half_line};
 use crate::line::Line;
@@ -24,7 +24,7 @@ pub struct Rise {
 }
 
 impl Plane {
-    ghost use Rattle.ray_shapes.specs.Planes.{value_at, coefficient_of, holds};
+    ghost use Rattle.ray_shapes.specs.Planes.{value_at, coefficient_of, plane_holds};
     ghost use Rattle.ray_shapes.specs.OnLine.{point_on};
 
     /// The part of an interval of a line's points that the plane holds.
@@ -33,7 +33,7 @@ impl Plane {
         requires within { part.hi ≤ line.now.points }
         ensures order { result.lo ≤ result.hi }
         ensures within { result.hi ≤ part.hi }
-        ensures exact { Selects result.lo result.hi (λ l. (part.lo ≤ l) × (l < part.hi) × IsTrue (holds self.now (point_on line.now l))) }
+        ensures exact { Selects result.lo result.hi (λ l. (part.lo ≤ l) × (l < part.hi) × IsTrue (plane_holds self.now (point_on line.now l))) }
     {
         let rise = self.rise(line);
         half_line(rise.start, rise.slope, self.d, part)
@@ -42,8 +42,8 @@ impl Plane {
     /// The left side along a line. A line runs along one axis, so the left side rises by that axis'
     /// coefficient times the step.
     fn rise(&self, line: &Line) -> Rise
-        ensures start { IsSmall result.start }
-        ensures rise { (l : ℕ) → l < line.now.points → IsSmall (result.slope *ℤ pos l) }
+        ensures start { IsTerm result.start }
+        ensures rise { (l : ℕ) → l < line.now.points → IsTerm (result.slope *ℤ pos l) }
         ensures value { (l : ℕ) → value_at self.now (point_on line.now l) ≡ result.start +ℤ (result.slope *ℤ pos l) }
     {
         let [x, y, z] = line.first;

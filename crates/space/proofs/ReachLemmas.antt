@@ -1,8 +1,9 @@
 -- What the tests of reach say, by either end and by the lesser and the greater one.
-use Rattle.std.proofs.Common.{◌≡◌, ℤ, pos, ◌+ℤ◌, ◌-ℤ◌, ◌≤ℤ◌, Bool, true, false, List, arith, ◌⊎◌, inl, inr, ⊎_elim}
+use Rattle.std.proofs.Common.{ℤ, ◌+ℤ◌, ◌-ℤ◌, ◌≤ℤ◌, ◌&&◌, IsTrue, List, arith, refl, ◌⊎◌, inl, inr, ⊎_elim}
 use Rattle.std.specs.Bool.{Decides}
 use Rattle.std.specs.Int.{int_min, int_max}
 use Rattle.std.proofs.lemmas.Bool.Decides.{Decides-and, Decides-like, Decides-or}
+use Rattle.std.proofs.lemmas.Bool.{and_parts}
 use Rattle.std.proofs.lemmas.Int.{ints}
 use Rattle.space.specs.Reach.{is_in_reach, is_near}
 use Rattle.space.specs.Vectors.{at}
@@ -51,3 +52,16 @@ decides_in_reach reach from to point =
     (λ (h : InReach reach from to point). (h.x, (h.y, h.z)))
     (Decides-and _ _ (decides_near reach (at from 0) (at to 0) (at point 0))
     (Decides-and _ _ (decides_near reach (at from 1) (at to 1) (at point 1)) (decides_near reach (at from 2) (at to 2) (at point 2))))
+
+-- a point is within reach where it is so along each axis
+pub in_reach_of : (reach : ℤ) (from to p : List ℤ) → IsTrue (is_near reach (at from 0) (at to 0) (at p 0)) → IsTrue (is_near reach (at from 1) (at to 1) (at p 1))
+    → IsTrue (is_near reach (at from 2) (at to 2) (at p 2)) → IsTrue (is_in_reach reach from to p)
+in_reach_of reach from to p x y z = rw (x, y, z) refl
+
+pub in_reach_parts : (reach : ℤ) (from to p : List ℤ) → IsTrue (is_in_reach reach from to p)
+    → IsTrue (is_near reach (at from 0) (at to 0) (at p 0)) × IsTrue (is_near reach (at from 1) (at to 1) (at p 1)) × IsTrue (is_near reach (at from 2) (at to 2) (at p 2))
+in_reach_parts reach from to p all =
+    let X = is_near reach (at from 0) (at to 0) (at p 0) in let Y = is_near reach (at from 1) (at to 1) (at p 1) in let Z = is_near reach (at from 2) (at to 2) (at p 2) in
+    let first = and_parts X (Y && Z) all in
+    let second = and_parts Y Z first.1 in
+    (first.0, second.0, second.1)

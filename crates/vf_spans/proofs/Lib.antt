@@ -4,3 +4,4 @@ pub mod Ranges
 pub mod Counts
 pub mod Ends
 pub mod Same
+pub mod InRanges

@@ -1,5 +1,5 @@
 -- A set of indices below a bound, as one flag for each index below it: true where the index is in the set.
-use Rattle.std.specs.Prelude.{◌≡◌, ℕ, ◌+◌, Bool, true, false, List, [], ◌∷◌, length, Option, None, Some, count_by, slice_index_or}
+use Rattle.std.specs.Prelude.{◌≡◌, ℕ, ◌+◌, Bool, true, false, nat_le, nat_lt, ◌&&◌, List, [], ◌∷◌, length, Option, None, Some, count_by, slice_index_or}
 
 -- the index is in the set; beyond the bound none is
 abbrev pub has : List Bool → ℕ → Bool
@@ -21,6 +21,10 @@ ranges_from at (Some first) (false ∷ flags) = (first, at) ∷ ranges_from (at 
 -- the ranges of a set in ascending order: its indices that follow each other without a gap
 abbrev pub ranges_of : List Bool → List (ℕ × ℕ)
 ranges_of set = ranges_from 0 None set
+
+-- the index lies in a range
+abbrev pub in_range : ℕ → ℕ × ℕ → Bool
+in_range i range = nat_le range.0 i && nat_lt i range.1
 
 -- the sets have one bound and the same indices
 pub record SameIndices (a b : List Bool) : Type 0 where

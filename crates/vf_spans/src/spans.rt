@@ -1,5 +1,6 @@
 ghost use Rattle.std.specs.Prelude.{◌≡◌, ℕ, ◌+◌, ◌-◌, ◌*◌, ◌<◌, ◌≤◌, ◌↔◌, ◌&&◌, ◌||◌, not, nat_le, nat_lt, List, Bool, true, false, Some, IsTrue, IfOk, OnOk, OnErr, length, slice_get, slice_index};
-ghost use Rattle.vf_spans.specs.Members.{has, count_of, ranges_of, SameIndices};
+ghost use Rattle.std.specs.List.{list_any};
+ghost use Rattle.vf_spans.specs.Members.{has, count_of, in_range, ranges_of, SameIndices};
 ghost use Rattle.vf_spans.specs.Edges.{flags_of, AreEdges};
 ghost use Rattle.vf_spans.specs.Merge.{combined};
 
@@ -69,7 +70,9 @@ impl Spans {
 
     /// How many ranges the set has.
     pub fn ranges(&self) -> u32
-        ensures { result ≡ length (ranges_of self.now) }
+        ensures count { result ≡ length (ranges_of self.now) }
+        // The indices of the set are those of its ranges.
+        ensures members { (i : ℕ) → has self.now i ≡ list_any (in_range i) (ranges_of self.now) }
     {
         // There are at most half as many ranges as numbers up to the bound.
         let _bound = self.bound;

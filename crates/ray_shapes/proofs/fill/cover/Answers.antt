@@ -3,7 +3,7 @@ use Rattle.std.proofs.lemmas.Result.{IfOk-weaker}
 use Rattle.std.proofs.lemmas.List.Sorted.{IsNonDecreasingBy-from_sort_by_key, All-permutation, list_any-IsPermutation}
 use Rattle.vf_spans.specs.Members.{has}
 use Rattle.ray_shapes.specs.declared.half_line.Interval.{Interval}
-use Rattle.ray_shapes.specs.Parts.{is_in, covers}
+use Rattle.ray_shapes.specs.Parts.{is_in, covers_some}
 use Rattle.ray_shapes.proofs.fill.cover.Goals as goal
 
 pub join-requires-clause-order : goal.join-requires-clause-order
@@ -14,5 +14,5 @@ join-requires-clause-within c = All-permutation (λ (part : Interval). part.hi �
 
 pub returns-clause-covered : goal.returns-clause-covered
 returns-clause-covered c =
-    IfOk-weaker c.join.result (λ s. (i : ℕ) → has s i ≡ covers c.sort_unstable_by_key.new.self i) (λ s. (i : ℕ) → has s i ≡ covers c.args.parts.now i)
+    IfOk-weaker c.join.result (λ s. (i : ℕ) → has s i ≡ covers_some c.sort_unstable_by_key.new.self i) (λ s. (i : ℕ) → has s i ≡ covers_some c.args.parts.now i)
     (λ s h i. h i ∙ sym (list_any-IsPermutation (is_in i) _ _ c.sort_unstable_by_key.ensures.permutation)) c.join.ensures.covered

@@ -8,5 +8,8 @@ overflow_mul-result c = (node_scaled c.args.self.now.origin c.args.self.now.pitc
 pub overflow_add-result : goal.overflow_add-result
 overflow_add-result c = (node_scaled c.args.self.now.origin c.args.self.now.pitch c.args.self.now.step c.args.self.now.counts c.args.axis c.args.n c.args.self.now.in_range (search rules) c.requires.axis c.requires.node).sum
 
-pub returns : goal.returns
-returns c = (node_scaled c.args.self.now.origin c.args.self.now.pitch c.args.self.now.step c.args.self.now.counts c.args.axis c.args.n c.args.self.now.in_range (search rules) c.requires.axis c.requires.node).value
+pub returns-clause-value : goal.returns-clause-value
+returns-clause-value c = (node_scaled c.args.self.now.origin c.args.self.now.pitch c.args.self.now.step c.args.self.now.counts c.args.axis c.args.n c.args.self.now.in_range (search rules) c.requires.axis c.requires.node).value
+
+pub returns-clause-near : goal.returns-clause-near
+returns-clause-near c = (node_scaled c.args.self.now.origin c.args.self.now.pitch c.args.self.now.step c.args.self.now.counts c.args.axis c.args.n c.args.self.now.in_range (search rules) c.requires.axis c.requires.node).near

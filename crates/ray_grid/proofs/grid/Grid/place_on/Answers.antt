@@ -12,5 +12,8 @@ overflow_mul-result c = (place_scaled c.args.self.now.origin c.args.self.now.pit
 pub overflow_add-result : goal.overflow_add-result
 overflow_add-result c = (place_scaled c.args.self.now.origin c.args.self.now.pitch c.args.self.now.step c.args.self.now.counts c.args.axis c.args.l c.args.self.now.in_range (search rules) c.requires.axis c.requires.point).sum
 
-pub returns : goal.returns
-returns c = (place_scaled c.args.self.now.origin c.args.self.now.pitch c.args.self.now.step c.args.self.now.counts c.args.axis c.args.l c.args.self.now.in_range (search rules) c.requires.axis c.requires.point).value
+pub returns-clause-value : goal.returns-clause-value
+returns-clause-value c = (place_scaled c.args.self.now.origin c.args.self.now.pitch c.args.self.now.step c.args.self.now.counts c.args.axis c.args.l c.args.self.now.in_range (search rules) c.requires.axis c.requires.point).value
+
+pub returns-clause-near : goal.returns-clause-near
+returns-clause-near c = (place_scaled c.args.self.now.origin c.args.self.now.pitch c.args.self.now.step c.args.self.now.counts c.args.axis c.args.l c.args.self.now.in_range (search rules) c.requires.axis c.requires.point).near

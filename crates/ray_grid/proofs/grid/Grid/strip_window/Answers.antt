@@ -1,8 +1,8 @@
-use Rattle.std.proofs.Common.{◌∙◌, ◌↔◌, refl, ap, length, arith, rules, w32, FitsSigned, IsTrue}
+use Rattle.std.proofs.Common.{◌≡◌, ◌∙◌, refl, ap, length, arith, rules, w32, FitsSigned}
 use Rattle.std.proofs.lemmas.Int.{to_z-of_z}
-use Rattle.ray_grid.specs.Ranges.{along}
+use Rattle.space.specs.Vectors.{at}
 use Rattle.ray_grid.specs.Lattice.{nodes_of}
-use Rattle.ray_grid.specs.Reach.{IsNear}
+use Rattle.space.specs.Reach.{is_near}
 use Rattle.ray_grid.proofs.Rows.{length-strip}
 use Rattle.ray_grid.proofs.Windows.{strip_is, strip_far, strip_beside, told_near, told_far}
 use Rattle.ray_grid.proofs.grid.Grid.strip_window.Goals as goal
@@ -12,16 +12,16 @@ returns-then-not-holds-clause-exact c =
     let a = c.first_axis-first.result in
     let reach_fits = c.ranges.reach in
     let fits : FitsSigned w32 c.node.result = search rules in
-    let test : IsTrue c.holds.result ↔ IsNear (along c.args.from a) (along c.args.to a) c.args.reach c.node.result = simp to_z-of_z at c.holds.ensures in
+    let test : c.holds.result ≡ is_near c.args.reach (at c.args.from a) (at c.args.to a) c.node.result = simp to_z-of_z at c.holds.ensures in
     λ n.
     strip_far c.args.self.now c.args.strip c.row-family.result.0 c.row-family.result.1 c.args.from c.args.to c.args.reach a n c.row-family.ensures.rays c.first_axis-first.ensures.axis
-    (told_far c.holds.result _ _ _ _ _ test c.node.ensures c.if-not-holds.true)
+    (told_far c.holds.result (at c.args.from a) (at c.args.to a) c.args.reach c.node.result _ test c.node.ensures.value c.if-not-holds.true)
 
 pub returns-then-start-end-clause-exact : goal.returns-then-start-end-clause-exact
 returns-then-start-end-clause-exact c =
     let reach_fits = c.ranges.reach in
     let fits_step : FitsSigned w32 c.args.self.now.step = search rules in
-    let fits_origin : FitsSigned w32 (along c.args.self.now.origin c.axis-axis.result) = search rules in
+    let fits_origin : FitsSigned w32 (at c.args.self.now.origin c.axis-axis.result) = search rules in
     λ n.
     strip_beside c.args.self.now c.args.strip c.row-family.result.0 c.row-family.result.1 c.args.from c.args.to c.args.reach c.axis-axis.result c.indices-start.result.0 c.indices-start.result.1 c.points.result n
     c.row-family.ensures.rays c.axis-axis.ensures.axis c.points.ensures (λ l. simp to_z-of_z at (c.indices-start.ensures.exact l)) c.if-start-end.true
@@ -39,13 +39,13 @@ returns-clause-exact c =
     let b = c.second_axis-second.result in
     let reach_fits = c.ranges.reach in
     let fits : FitsSigned w32 c.node.result = search rules in
-    let test : IsTrue c.holds.result ↔ IsNear (along c.args.from a) (along c.args.to a) c.args.reach c.node.result = simp to_z-of_z at c.holds.ensures in
+    let test : c.holds.result ≡ is_near c.args.reach (at c.args.from a) (at c.args.to a) c.node.result = simp to_z-of_z at c.holds.ensures in
     let fits_step : FitsSigned w32 c.args.self.now.step = search rules in
     let fits_pitch : FitsSigned w32 c.args.self.now.pitch = search rules in
-    let fits_origin : FitsSigned w32 (along c.args.self.now.origin c.axis-axis.result) = search rules in
-    let fits_second : FitsSigned w32 (along c.args.self.now.origin c.second_axis-second.result) = search rules in
+    let fits_origin : FitsSigned w32 (at c.args.self.now.origin c.axis-axis.result) = search rules in
+    let fits_second : FitsSigned w32 (at c.args.self.now.origin c.second_axis-second.result) = search rules in
     λ n.
     strip_is c.args.self.now c.args.strip c.row-family.result.0 c.row-family.result.1 c.args.from c.args.to c.args.reach a b c.axis-axis.result c.indices-start.result.0 c.indices-start.result.1 c.points.result
     c.indices.result.0 c.indices.result.1 (nodes_of c.args.self.now b) n c.row-family.ensures.rays c.first_axis-first.ensures.axis c.second_axis-second.ensures.axis c.axis-axis.ensures.axis c.points.ensures refl
-    (told_near c.holds.result _ _ _ _ _ test c.node.ensures c.if-not-holds.false) (λ l. simp to_z-of_z at (c.indices-start.ensures.exact l)) c.indices-start.ensures.order c.if-start-end.false
+    (told_near c.holds.result (at c.args.from a) (at c.args.to a) c.args.reach c.node.result _ test c.node.ensures.value c.if-not-holds.false) (λ l. simp to_z-of_z at (c.indices-start.ensures.exact l)) c.indices-start.ensures.order c.if-start-end.false
     (simp to_z-of_z at (c.indices.ensures.exact n))

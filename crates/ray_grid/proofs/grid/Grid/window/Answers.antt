@@ -1,7 +1,7 @@
-use Rattle.std.proofs.Common.{◌↔◌, rules, w32, FitsSigned, IsTrue}
+use Rattle.std.proofs.Common.{◌≡◌, rules, w32, FitsSigned}
 use Rattle.std.proofs.lemmas.Int.{to_z-of_z}
-use Rattle.ray_grid.specs.Ranges.{along}
-use Rattle.ray_grid.specs.Reach.{IsNear}
+use Rattle.space.specs.Vectors.{at}
+use Rattle.space.specs.Reach.{is_near}
 use Rattle.ray_grid.proofs.Windows.{window_is, none_first, none_second, told_near, told_far}
 use Rattle.ray_grid.proofs.grid.Grid.window.Goals as goal
 
@@ -10,20 +10,20 @@ returns-then-not-holds-clause-exact c =
     let a = c.first_axis-first.result in
     let reach_fits = c.ranges.reach in
     let fits : FitsSigned w32 c.node.result = search rules in
-    let test : IsTrue c.holds.result ↔ IsNear (along c.args.from a) (along c.args.to a) c.args.reach c.node.result = simp to_z-of_z at c.holds.ensures in
+    let test : c.holds.result ≡ is_near c.args.reach (at c.args.from a) (at c.args.to a) c.node.result = simp to_z-of_z at c.holds.ensures in
     λ l.
     none_first c.args.self.now c.args.ray.now.family c.args.ray.now.i c.args.ray.now.j c.args.from c.args.to c.args.reach a l c.first_axis-first.ensures.axis
-    (told_far c.holds.result _ _ _ _ _ test c.node.ensures c.if-not-holds.true)
+    (told_far c.holds.result (at c.args.from a) (at c.args.to a) c.args.reach c.node.result _ test c.node.ensures.value c.if-not-holds.true)
 
 pub returns-then-not-holds-2-clause-exact : goal.returns-then-not-holds-2-clause-exact
 returns-then-not-holds-2-clause-exact c =
     let b = c.second_axis-second.result in
     let reach_fits = c.ranges.reach in
     let fits : FitsSigned w32 c.node-2.result = search rules in
-    let test : IsTrue c.holds-2.result ↔ IsNear (along c.args.from b) (along c.args.to b) c.args.reach c.node-2.result = simp to_z-of_z at c.holds-2.ensures in
+    let test : c.holds-2.result ≡ is_near c.args.reach (at c.args.from b) (at c.args.to b) c.node-2.result = simp to_z-of_z at c.holds-2.ensures in
     λ l.
     none_second c.args.self.now c.args.ray.now.family c.args.ray.now.i c.args.ray.now.j c.args.from c.args.to c.args.reach b l c.second_axis-second.ensures.axis
-    (told_far c.holds-2.result _ _ _ _ _ test c.node-2.ensures c.if-not-holds-2.true)
+    (told_far c.holds-2.result (at c.args.from b) (at c.args.to b) c.args.reach c.node-2.result _ test c.node-2.ensures.value c.if-not-holds-2.true)
 
 pub returns-clause-exact : goal.returns-clause-exact
 returns-clause-exact c =
@@ -32,11 +32,11 @@ returns-clause-exact c =
     let reach_fits = c.ranges.reach in
     let fits : FitsSigned w32 c.node.result = search rules in
     let fits_2 : FitsSigned w32 c.node-2.result = search rules in
-    let first : IsTrue c.holds.result ↔ IsNear (along c.args.from a) (along c.args.to a) c.args.reach c.node.result = simp to_z-of_z at c.holds.ensures in
-    let second : IsTrue c.holds-2.result ↔ IsNear (along c.args.from b) (along c.args.to b) c.args.reach c.node-2.result = simp to_z-of_z at c.holds-2.ensures in
+    let first : c.holds.result ≡ is_near c.args.reach (at c.args.from a) (at c.args.to a) c.node.result = simp to_z-of_z at c.holds.ensures in
+    let second : c.holds-2.result ≡ is_near c.args.reach (at c.args.from b) (at c.args.to b) c.node-2.result = simp to_z-of_z at c.holds-2.ensures in
     let fits_step : FitsSigned w32 c.args.self.now.step = search rules in
-    let fits_origin : FitsSigned w32 (along c.args.self.now.origin c.axis-axis.result) = search rules in
+    let fits_origin : FitsSigned w32 (at c.args.self.now.origin c.axis-axis.result) = search rules in
     λ l.
     window_is c.args.self.now c.args.ray.now.family c.args.ray.now.i c.args.ray.now.j c.args.from c.args.to c.args.reach a b c.axis-axis.result c.indices.result.0 c.indices.result.1 c.points.result l
     c.first_axis-first.ensures.axis c.second_axis-second.ensures.axis c.axis-axis.ensures.axis c.points.ensures
-    (told_near c.holds.result _ _ _ _ _ first c.node.ensures c.if-not-holds.false) (told_near c.holds-2.result _ _ _ _ _ second c.node-2.ensures c.if-not-holds-2.false) (simp to_z-of_z at (c.indices.ensures.exact l))
+    (told_near c.holds.result (at c.args.from a) (at c.args.to a) c.args.reach c.node.result _ first c.node.ensures.value c.if-not-holds.false) (told_near c.holds-2.result (at c.args.from b) (at c.args.to b) c.args.reach c.node-2.result _ second c.node-2.ensures.value c.if-not-holds-2.false) (simp to_z-of_z at (c.indices.ensures.exact l))

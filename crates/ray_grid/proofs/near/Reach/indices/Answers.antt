@@ -1,6 +1,6 @@
 use Rattle.std.proofs.Common.{◌≡◌, ◌∙◌, ap, arith, rules, unsigned_abs, min, max, w64, FitsSigned}
 use Rattle.std.proofs.lemmas.Int.{ints, to_z-of_z}
-use Rattle.ray_grid.specs.Ranges.{along}
+use Rattle.space.specs.Vectors.{at}
 use Rattle.ray_grid.proofs.Distances.{indices_exact}
 use Rattle.ray_grid.proofs.near.Reach.indices.Goals as goal
 
@@ -13,5 +13,5 @@ returns-clause-exact c =
     let fits_low : FitsSigned w64 c.to_lowest.result = search rules in
     let fits_high : FitsSigned w64 c.to_highest.result = search rules in
     λ l.
-    indices_exact (along c.args.self.now.from c.args.axis) (along c.args.self.now.to c.args.axis) c.args.self.now.reach c.args.origin c.args.step c.to_lowest.result c.to_highest.result c.from-step.result c.args.count
+    indices_exact (at c.args.self.now.from c.args.axis) (at c.args.self.now.to c.args.axis) c.args.self.now.reach c.args.origin c.args.step c.to_lowest.result c.to_highest.result c.from-step.result c.args.count
     c.steps_up_to.result c.steps_within.result c.min-first.result c.max.result l c.requires.step size (omega (arith, ints)) (omega (arith, ints)) (simp to_z-of_z at (c.steps_up_to.ensures l)) (simp to_z-of_z at (c.steps_within.ensures l)) first last
