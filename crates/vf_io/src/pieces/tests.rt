@@ -1,18 +1,20 @@
 use super::*;
 
+/// A text, its first line, and what stands behind.
+const TEXTS: [(&str, &str, &str); 5] = [
+    ("one\ntwo\n", "one\n", "two\n"),
+    ("one", "one", ""),
+    ("\n", "\n", ""),
+    ("\n\n", "\n", "\n"),
+    ("one\r\ntwo", "one\r\n", "two"),
+];
+
 #[test]
 fn ends_a_line_behind_its_line_feed(rt: HostRuntime) {
-    let rows: [(&[u8], &[u8], &[u8]); 5] = [
-        (b"one\ntwo\n", b"one\n", b"two\n"),
-        (b"one", b"one", b""),
-        (b"\n", b"\n", b""),
-        (b"\n\n", b"\n", b"\n"),
-        (b"one\r\ntwo", b"one\r\n", b"two"),
-    ];
-    for (text, line, behind) in rows {
+    for (text, line, behind) in TEXTS {
         assert!(rt; !text.is_empty());
-        let parts = split_line(text);
-        assert_eq!(rt; parts.0, line, "the line of {text:?}");
-        assert_eq!(rt; parts.1, behind, "what stands behind in {text:?}");
+        let parts = split_line(text.as_bytes());
+        assert_eq!(rt; parts.0, line.as_bytes(), "the line of {text:?}");
+        assert_eq!(rt; parts.1, behind.as_bytes(), "behind it in {text:?}");
     }
 }
