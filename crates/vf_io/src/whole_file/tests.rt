@@ -40,63 +40,66 @@ fn is_same(got: &Result<Vec<u8>, ReadEnd>, bytes: &[u8], end: Option<ReadEnd>) -
     }
 }
 
-/// The name, the limit, and the bytes that are due, or the end.
-const FILES: [(&str, &str, u32, &str, Option<ReadEnd>); 7] = [
-    ("an empty file", "empty", 0, "", None),
-    ("the first of one name", "part", 100, PART, None),
-    ("an absent name", "parts", 100, "", Some(ReadEnd::Failed)),
-    ("an empty name", "", 100, "", Some(ReadEnd::Failed)),
-    ("as long as the limit", "part", 16, PART, None),
-    ("one byte above", "part", 15, "", Some(ReadEnd::TooLong)),
-    ("a limit of none", "part", 0, "", Some(ReadEnd::TooLong)),
+/// Whether a read of a file gives what is due. After a failure no file is open, and the next read of
+/// one that is there gives its bytes.
+fn is_read(
+    alloc: Global,
+    name: &str,
+    limit: u32,
+    failing: u64,
+    bytes: &[u8],
+    end: Option<ReadEnd>,
+) -> Result<bool, Fail> {
+    let mut shelf = shelf_of(alloc, &[failing])?;
+    let got = read_all(alloc, &mut shelf, name, limit);
+    if !is_same(&got, bytes, end) {
+        return Ok(false);
+    }
+    if end != Some(ReadEnd::Failed) || bytes.is_empty() {
+        return Ok(true);
+    }
+    if shelf.next(&mut [0u8; 8]) != Ok(0) {
+        return Ok(false);
+    }
+    let again = read_all(alloc, &mut shelf, name, limit);
+    Ok(is_same(&again, bytes, None))
+}
+
+/// The name, the limit, the bytes of the file, and the end, where it isn't read.
+const FILES: [(&str, u32, &str, Option<ReadEnd>); 7] = [
+    ("empty", 0, "", None),
+    ("part", 100, PART, None),
+    ("parts", 100, "", Some(ReadEnd::Failed)),
+    ("", 100, "", Some(ReadEnd::Failed)),
+    ("part", 16, PART, None),
+    ("part", 15, PART, Some(ReadEnd::TooLong)),
+    ("part", 0, PART, Some(ReadEnd::TooLong)),
+];
+
+/// The limit for the long file, the number of the call that fails, and the end, where it isn't read.
+const LIMITS: [(u32, u64, Option<ReadEnd>); 10] = [
+    (LONG, 9, None),
+    (149_999, 9, Some(ReadEnd::TooLong)),
+    (65_536, 9, Some(ReadEnd::TooLong)),
+    (65_535, 9, Some(ReadEnd::TooLong)),
+    (LONG, 0, Some(ReadEnd::Failed)),
+    (LONG, 1, Some(ReadEnd::Failed)),
+    (LONG, 2, Some(ReadEnd::Failed)),
+    (LONG, 3, Some(ReadEnd::Failed)),
+    (LONG, 4, Some(ReadEnd::Failed)),
+    (LONG, 5, None),
 ];
 
 #[test]
 fn reads_a_file_or_says_why_not(rt: HostRuntime) -> Result<(), Fail> {
-    for (about, name, limit, bytes, end) in FILES {
-        let mut shelf = shelf_of(rt.alloc(), &[])?;
-        let got = read_all(rt.alloc(), &mut shelf, name, limit);
-        assert!(rt; is_same(&got, bytes.as_bytes(), end), "{about}");
+    for (name, limit, text, end) in FILES {
+        let same = is_read(rt.alloc(), name, limit, 99, text.as_bytes(), end)?;
+        assert!(rt; same, "{name} up to {limit}");
     }
-    Ok(())
-}
-
-/// The limit for the long file, the number of the call that fails, and the end, where it isn't read.
-const LIMITS: [(&str, u32, u64, Option<ReadEnd>); 10] = [
-    ("more than a buffer", LONG, 9, None),
-    ("one byte above", 149_999, 9, Some(ReadEnd::TooLong)),
-    (
-        "above in the first piece",
-        65_535,
-        9,
-        Some(ReadEnd::TooLong),
-    ),
-    (
-        "above in the second piece",
-        65_536,
-        9,
-        Some(ReadEnd::TooLong),
-    ),
-    ("open fails", LONG, 0, Some(ReadEnd::Failed)),
-    ("the first read fails", LONG, 1, Some(ReadEnd::Failed)),
-    ("a read in mid-stream fails", LONG, 2, Some(ReadEnd::Failed)),
-    ("the last piece fails", LONG, 3, Some(ReadEnd::Failed)),
-    ("the read at the end fails", LONG, 4, Some(ReadEnd::Failed)),
-    ("a later call would fail", LONG, 5, None),
-];
-
-#[test]
-fn reads_a_long_file_or_says_why_not(rt: HostRuntime) -> Result<(), Fail> {
     let long = long_file(rt.alloc())?;
-    for (about, limit, failing, end) in LIMITS {
-        let mut shelf = shelf_of(rt.alloc(), &[failing])?;
-        let got = read_all(rt.alloc(), &mut shelf, "long", limit);
-        assert!(rt; is_same(&got, &long, end), "{about}");
-        if end == Some(ReadEnd::Failed) {
-            assert_eq!(rt; shelf.next(&mut [0u8; 8]), Ok(0), "closed, {about}");
-            let again = read_all(rt.alloc(), &mut shelf, "long", limit);
-            assert!(rt; is_same(&again, &long, None), "anew, {about}");
-        }
+    for (limit, failing, end) in LIMITS {
+        let same = is_read(rt.alloc(), "long", limit, failing, &long, end)?;
+        assert!(rt; same, "up to {limit}, call {failing} fails");
     }
     Ok(())
 }
@@ -141,23 +144,23 @@ impl Shelf for SlowShelf {
 }
 
 /// The limit, the end, where the bytes aren't read, and the reads that took a byte.
-const STEPS: [(&str, u32, Option<ReadEnd>, u64); 5] = [
-    ("above the length", 17, None, 16),
-    ("as long as the limit", 16, None, 16),
-    ("one byte above", 15, Some(ReadEnd::TooLong), 16),
-    ("far above", 5, Some(ReadEnd::TooLong), 6),
-    ("a limit of none", 0, Some(ReadEnd::TooLong), 1),
+const STEPS: [(u32, Option<ReadEnd>, u64); 5] = [
+    (17, None, 16),
+    (16, None, 16),
+    (15, Some(ReadEnd::TooLong), 16),
+    (5, Some(ReadEnd::TooLong), 6),
+    (0, Some(ReadEnd::TooLong), 1),
 ];
 
 #[test]
 fn reads_byte_after_byte_up_to_the_limit(rt: HostRuntime) {
-    for (about, limit, end, reads) in STEPS {
+    for (limit, end, reads) in STEPS {
         let mut shelf = SlowShelf {
             place: None,
             reads: 0,
         };
         let got = read_all(rt.alloc(), &mut shelf, "part", limit);
-        assert!(rt; is_same(&got, PART.as_bytes(), end), "{about}");
-        assert_eq!(rt; shelf.reads, reads, "reads, {about}");
+        assert!(rt; is_same(&got, PART.as_bytes(), end), "up to {limit}");
+        assert_eq!(rt; shelf.reads, reads, "reads up to {limit}");
     }
 }

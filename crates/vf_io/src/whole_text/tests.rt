@@ -62,25 +62,30 @@ impl Sink for Tally {
     }
 }
 
-/// The number of the put that fails, and the lengths of the puts as digits.
-const PUTS: [(&str, usize, usize); 4] = [
-    ("none fails", 9, 21512),
-    ("the first fails", 0, 2),
-    ("one in the middle fails", 2, 215),
-    ("the last fails", 4, 21512),
+/// A text, the number of the put that fails, and the lengths of the puts as digits.
+const PUTS: [(&str, usize, usize); 9] = [
+    ("a\n\nfour\n\nno", 9, 21512),
+    ("a\n\nfour\n\nno", 0, 2),
+    ("a\n\nfour\n\nno", 2, 215),
+    ("a\n\nfour\n\nno", 4, 21512),
+    ("one", 9, 3),
+    ("\n", 9, 1),
+    ("\n\n", 9, 11),
+    ("one\r\ntwo", 9, 53),
+    ("", 0, 0),
 ];
 
 #[test]
 fn makes_one_put_for_each_line(rt: HostRuntime) {
-    for (about, failing, lengths) in PUTS {
+    for (text, failing, lengths) in PUTS {
         let mut tally = Tally {
             lengths: 0,
             puts: 0,
             failing,
             faults: 0,
         };
-        let answer = put_lines(&mut tally, b"a\n\nfour\n\nno");
-        assert_eq!(rt; answer.is_ok(), failing == 9, "{about}");
-        assert_eq!(rt; tally.lengths, lengths, "lengths, {about}");
+        let answer = put_lines(&mut tally, text.as_bytes());
+        assert_eq!(rt; tally.lengths, lengths, "{text:?}, {failing}");
+        assert_eq!(rt; answer.is_ok(), tally.faults == 0, "{text:?}, {failing}");
     }
 }

@@ -1,7 +1,7 @@
 ghost use Rattle.std.specs.Prelude.{◌≡◌, ◌++◌, IfOk, OnOk};
-ghost use Rattle.clverify.specs.Texts.{list_of, move_lines, move_line, move_head, cutter_text, height};
+ghost use Rattle.report_text.specs.Listing.{list_of, move_lines, move_line, move_head, cutter_text, flank_text, height_text};
 
-use crate::page::Page;
+use vf_text::Page;
 use cl_moves::{CutterText, Move, Program};
 use std::alloc::Global;
 use vf_io::NoMemory;
@@ -71,7 +71,8 @@ fn write_cutter(page: &mut Page, cutter: &Option<CutterText>) -> Result<(), NoMe
     page.space()?;
     page.number(cutter.r)?;
     page.space()?;
-    write_height(page, cutter.h)
+    write_height(page, cutter.h)?;
+    write_flank(page, cutter.flank)
 }
 
 fn write_height(page: &mut Page, h: Option<i32>) -> Result<(), NoMemory>
@@ -81,4 +82,15 @@ fn write_height(page: &mut Page, h: Option<i32>) -> Result<(), NoMemory>
         Some(h) => page.number(h),
         None => page.text(b"-"),
     }
+}
+
+/// Writes the flank of a cutter, where it isn't upright.
+fn write_flank(page: &mut Page, flank: u32) -> Result<(), NoMemory>
+    ensures { OnOk result (page.new ≡ page.old ++ flank_text flank) }
+{
+    if flank == 0 {
+        return Ok(());
+    }
+    page.text(b" flank ")?;
+    page.count(flank as usize)
 }

@@ -1,6 +1,6 @@
 use Rattle.std.proofs.Common.{◌≡◌, ◌+◌, ◌++◌, drop}
-use Rattle.clverify.specs.Texts.{mark_lines}
-use Rattle.clverify.proofs.marking.write_marks.Given as goal
+use Rattle.report_text.specs.Marking.{mark_lines}
+use Rattle.report_text.proofs.marking.write_marks.Given as goal
 
 abbrev pub invariant-loop-before : goal.invariant-loop-before
 invariant-loop-before l =

@@ -1,7 +1,7 @@
 ghost use Rattle.std.specs.Prelude.{◌≡◌, ◌++◌, length, IfOk, OnOk};
-ghost use Rattle.clverify.specs.Texts.{marking_of, mark_line, mark_lines, mark_name};
+ghost use Rattle.report_text.specs.Marking.{marking_of, mark_line, mark_lines, mark_name};
 
-use crate::page::Page;
+use vf_text::Page;
 use axis_cells::Mark;
 use cl_moves::{Move, Program};
 use std::alloc::Global;

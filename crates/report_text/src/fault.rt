@@ -1,7 +1,7 @@
 ghost use Rattle.std.specs.Prelude.{◌≡◌, ◌++◌, IfOk, OnOk};
-ghost use Rattle.clverify.specs.Texts.{refusal_of, fault_text, input_name, refused_word, why_name};
+ghost use Rattle.report_text.specs.Refusals.{refusal_of, fault_text, input_name, refused_word, why_name};
 
-use crate::page::Page;
+use vf_text::Page;
 use cl_lines::{ClFault, ClWhy};
 use std::alloc::Global;
 use vf_io::NoMemory;
