@@ -1,7 +1,7 @@
 -- How an answer ends that no failed write cuts off.
 use Rattle.std.proofs.Common.{◌≡◌, ◌⊎◌, ℕ, List, Option, Some, inr, subst, sym, ⊎_elim}
 use Rattle.clverify.specs.Headline.{Answers, IsComplete, IsDue}
-use Rattle.clverify.specs.Texts.{usage_line}
+use Rattle.clverify.specs.Usage.{usage_line}
 use Rattle.clverify.specs.declared.status.Status.{Status}
 use Rattle.clverify.specs.declared.status.Status.TheVariants.{Usage, WriteFault}
 

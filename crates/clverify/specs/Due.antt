@@ -6,11 +6,14 @@ use Rattle.cl_moves.specs.Program.{program_of}
 use Rattle.cl_moves.specs.declared.program.Program.{Program}
 use Rattle.vf_io.specs.Files.{Files, bytes_of}
 use Rattle.clverify.specs.Marks.{first_low, marks_for}
-use Rattle.clverify.specs.Texts.{usage_line, list_of, marking_of, refusal_of}
+use Rattle.report_text.specs.Listing.{list_of}
+use Rattle.report_text.specs.Marking.{marking_of}
+use Rattle.report_text.specs.Refusals.{refusal_of}
+use Rattle.clverify.specs.Usage.{usage_line}
 use Rattle.clverify.specs.Words.{Command, list_moves, mark_moves}
-use Rattle.clverify.specs.declared.fault.Fault.{Fault}
-use Rattle.clverify.specs.declared.fault.Fault.TheVariants.{TooLong, Cl, CutterHeight}
-use Rattle.clverify.specs.declared.fault.Input.TheVariants as inputs
+use Rattle.report_text.specs.declared.fault.Fault.{Fault}
+use Rattle.report_text.specs.declared.fault.Fault.TheVariants.{TooLong, Cl, CutterHeight}
+use Rattle.report_text.specs.declared.fault.Input.TheVariants as inputs
 use Rattle.clverify.specs.declared.question.Question.{Question}
 use Rattle.clverify.specs.declared.status.Status.{Status}
 use Rattle.clverify.specs.declared.status.Status.TheVariants.{Clean, Usage, Refused}

@@ -6,5 +6,5 @@ pub mod Marks
 pub mod Questions
 pub mod Reading
 pub mod Soundness
-pub mod Texts
+pub mod Usage
 pub mod Words

@@ -1,7 +1,7 @@
 -- What reading a file gave.
 use Rattle.std.specs.Prelude.{◌≡◌, Result, Ok, Err}
 use Rattle.cl_moves.specs.declared.program.Program.{Program}
-use Rattle.clverify.specs.declared.fault.Fault.{Fault}
+use Rattle.report_text.specs.declared.fault.Fault.{Fault}
 use Rattle.clverify.specs.declared.reading.Stopped.{Stopped}
 use Rattle.clverify.specs.declared.reading.Stopped.TheVariants.{Refused}
 

@@ -2,10 +2,6 @@
 #![tactic(auto)]
 
 mod command;
-mod fault;
-mod listing;
-mod marking;
-mod page;
 mod point;
 #[cfg(test)]
 mod point_tests;
@@ -19,6 +15,7 @@ mod top;
 use crate::status::Status;
 use crate::top::run;
 use std::env;
+use std::io;
 use std::io::ErrorKind;
 use std::process::ExitCode;
 use vf_io::{FolderShelf, StdSink};
@@ -37,7 +34,7 @@ fn main(rt: HostRuntime) -> ExitCode {
         Err(_) => Vec::new(alloc),
     };
     let mut shelf = FolderShelf::new(&rt);
-    let Ok(mut sink) = StdSink::new(alloc, &rt) else {
+    let Ok(mut sink) = StdSink::new(alloc, io::writer(&rt)) else {
         return ExitCode::from(Status::NoMemory);
     };
     let status = run(alloc, words.as_slice(), &mut shelf, &mut sink);

@@ -1,8 +1,5 @@
 use crate::command::read_command;
-use crate::marking::point_text;
 use crate::tests::{USAGE, answer};
-use axis_cells::Mark;
-use cl_moves::{Move, Moves, Program};
 use std::alloc::Global;
 use std::test::Fail;
 
@@ -200,41 +197,5 @@ fn words_of_a_point(rt: HostRuntime) -> Result<(), Fail> {
         let found = is_command(rt.alloc(), question)?;
         assert_eq!(rt; found, is_taken, "the words {question:?}");
     }
-    Ok(())
-}
-
-#[test]
-fn text_of_marks(rt: HostRuntime) -> Result<(), Fail> {
-    let mut moves = Moves::new(rt.alloc());
-    for line in [3, 70, 71, 4_000] {
-        let next = Move {
-            line,
-            rapid: true,
-            from: [0, 0, 0],
-            to: [1, -2, 3],
-            axis_from: [0, 0, 100_000],
-            axis_to: [0, 0, 100_000],
-            cutter: None,
-        };
-        if moves.push(next).is_err() {
-            return Err(Fail::from("no memory for a move"));
-        }
-    }
-    let marks = [
-        Some(Mark::Removed),
-        Some(Mark::Possible),
-        None,
-        Some(Mark::Clear),
-    ];
-    let program = Program { moves, passed: 9 };
-    assert!(rt; program.moves.len() == marks.len());
-    let Ok(text) = point_text(rt.alloc(), &program, &marks) else {
-        return Err(Fail::from("no memory for the text"));
-    };
-    assert_eq!(rt;
-        text.as_slice(),
-        b"clverify point 1\nmove 1 line 3 removed\nmove 2 line 70 possible\nmove 3 line 71 nocutter\nmove 4 line 4000 clear\nmoves 4\n".as_slice(),
-        "a line for each move"
-    );
     Ok(())
 }

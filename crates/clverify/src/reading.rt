@@ -5,9 +5,9 @@ ghost use Rattle.cl_moves.specs.Moves.{IsMove};
 ghost use Rattle.clverify.specs.Due.{read_of};
 ghost use Rattle.clverify.specs.Reading.{Gives};
 
-use crate::fault::{Fault, Input};
 use cl_lines::{ClEnd, MAX_BYTES};
 use cl_moves::{Program, read_program};
+use report_text::{Fault, Input};
 use std::alloc::Global;
 use vf_io::{ReadEnd, Shelf, read_all};
 

@@ -1,23 +1,21 @@
 ghost use Rattle.std.specs.Prelude.{◌≡◌, ◌≢◌, ◌⊎◌, None, Some, map, All, IfOk, string_bytes};
 ghost use Rattle.vf_io.specs.Causes.{Rose};
 ghost use Rattle.cl_moves.specs.Moves.{IsMove};
+ghost use Rattle.report_text.specs.Marking.{marking_of};
 ghost use Rattle.clverify.specs.Due.{due, listed, marked, refused};
 ghost use Rattle.clverify.specs.Headline.{Answers, IsComplete, IsWhole};
 ghost use Rattle.clverify.specs.Marks.{first_low, marks_for};
 ghost use Rattle.clverify.specs.Questions.{IsQuestion};
 ghost use Rattle.clverify.specs.Soundness.{IsTrulyMarked, MarksAreTrue};
-ghost use Rattle.clverify.specs.Texts.{marking_of};
 ghost use Rattle.clverify.specs.Words.{command_of, files_of, list_moves, mark_moves};
 
 use crate::command::{Command, read_command};
-use crate::fault::{Fault, refusal_text};
-use crate::listing::list_text;
-use crate::marking::point_text;
 use crate::point::{low_cutter, marks_of};
 use crate::question::Question;
 use crate::reading::{Stopped, read_file};
 use crate::status::Status;
 use cl_moves::Program;
+use report_text::{Fault, list_text, point_text, refusal_text};
 use std::alloc::Global;
 use vf_io::{Failed, NoMemory, Shelf, Sink, put_lines};
 
