@@ -1,5 +1,3 @@
-pub mod Corner
-pub mod Outer
-pub mod Inner
-pub mod Whole
-pub mod Sound
+pub mod Slabs
+pub mod Widening
+pub mod Cones

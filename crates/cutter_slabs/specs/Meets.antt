@@ -1,6 +1,6 @@
 -- What a cutter holds at a time of a move, and what it meets, in two readings: the lower cutter, with its flank's tangent
 -- rounded down to millionths, and the upper one, with the tangent rounded up. The cutter itself lies between them.
-use Rattle.std.specs.Prelude.{ℕ, pos, List}
+use Rattle.std.specs.Prelude.{ℕ, ℤ, pos, List}
 use Rattle.space.specs.Flanks.{lower_tangent, upper_tangent}
 use Rattle.space.specs.Motion.{IsTime, Motion, axis_at, offset_at}
 use Rattle.cutter_slabs.specs.Cutter.{CutterSize}
