@@ -43,6 +43,7 @@ fn push_slab(stack: &mut Vec<Slab>, lo: u32, hi: u32, dia: u32) -> Result<(), No
 
 /// The stacks of a cutter with an upright flank: the corner, up to its upper end r, is cut into at most n slabs, and one slab
 /// with the full diameter reaches from r to h.
+#[tactic(auto, using(crate::proofs::Slabs::slabs_more))]
 fn rounded(alloc: Global, cutter: &Cutter, n: u32) -> Result<Pair, NoMemory>
     requires upright { cutter.now.flank ≡ 0 }
     requires some { 1 ≤ n }
@@ -68,6 +69,7 @@ fn rounded(alloc: Global, cutter: &Cutter, n: u32) -> Result<Pair, NoMemory>
 }
 
 /// The stacks of a cone: it is cut into at most n slabs from the tip to h.
+#[tactic(auto, using(crate::proofs::Slabs::slabs_more))]
 fn conical(alloc: Global, cutter: &Cutter, n: u32) -> Result<Pair, NoMemory>
     requires leaning { 0 < cutter.now.flank }
     requires some { 1 ≤ n }
