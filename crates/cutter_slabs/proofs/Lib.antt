@@ -6,3 +6,8 @@ pub mod Inner
 pub mod Outer
 pub mod Rules
 pub mod Bounds
+pub mod Places
+pub mod Round
+pub mod Conical
+pub mod Whole
+pub mod Sound

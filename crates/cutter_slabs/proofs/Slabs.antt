@@ -83,7 +83,7 @@ pub record Between (z : ℕ → ℕ) (n b u N : ℕ) : Type 0 where
 later : (z : ℕ → ℕ) (n b u N : ℕ) → Between z n b u N → Between z (suc n) b u N
 later z n b u N f = let within = f.within in record { at = f.at; within = omega arith; apart = f.apart; above = f.above; below = f.below }
 
-above_tip : (x b u N : ℕ) → u * u < ((b * x) * (b * x)) * N → 0 < x
+pub above_tip : (x b u N : ℕ) → u * u < ((b * x) * (b * x)) * N → 0 < x
 above_tip zero b u N h = absurd (omega arith)
 above_tip (suc x) b u N h = omega arith
 
