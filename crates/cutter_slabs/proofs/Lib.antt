@@ -11,3 +11,4 @@ pub mod Round
 pub mod Conical
 pub mod Whole
 pub mod Sound
+pub mod Tested

@@ -5,3 +5,4 @@ pub mod Inside
 pub mod Meets
 pub mod Stacks
 pub mod Fields
+pub mod Laws
