@@ -1,5 +1,14 @@
-pub mod Corner
-pub mod Outer
+pub mod Slabs
+pub mod Widening
+pub mod Cones
+pub mod Corners
 pub mod Inner
+pub mod Outer
+pub mod Rules
+pub mod Bounds
+pub mod Places
+pub mod Round
+pub mod Conical
 pub mod Whole
 pub mod Sound
+pub mod Tested
