@@ -1,6 +1,6 @@
-ghost use Rattle.std.specs.Prelude.{◌≡◌, ◌*◌, ◌≤◌, ◌&&◌, ◌*ℤ◌, pos, int_le, unsigned_abs};
+ghost use Rattle.std.specs.Prelude.{◌≡◌, ◌*◌, ◌<◌, ◌≤◌, ◌&&◌, ◌*ℤ◌, pos, int_le, unsigned_abs};
 ghost use Rattle.space.specs.Ranges.{IsWithin};
-ghost use Rattle.space.specs.Vectors.{dot, spread};
+ghost use Rattle.space.specs.Vectors.{at, dot, spread};
 ghost use Rattle.bern_form.specs.Sizes.{axis_limit, offset_limit, scale_limit};
 ghost use Rattle.bern_form.specs.Slab.{covers};
 ghost use Rattle.axis_cells.specs.Exclusion.{covered_by_some};
@@ -9,6 +9,18 @@ use crate::length::scaled_square;
 use crate::pose::Pose;
 use bern_form::Slab;
 
+/// The product of one component of two vectors.
+#[inline]
+fn component_product(p: &[i64; 3], a: &[i64; 3], i: usize) -> i128
+    requires axis { i < 3 }
+    requires p { unsigned_abs (at p.now i) ≤ offset_limit }
+    requires a { unsigned_abs (at a.now i) ≤ offset_limit }
+    ensures value { result ≡ at p.now i *ℤ at a.now i }
+    ensures small { unsigned_abs result ≤ offset_limit * offset_limit }
+{
+    i128::from(p[i]) * i128::from(a[i])
+}
+
 /// The scalar product of two vectors.
 #[inline]
 fn scalar_product(p: &[i64; 3], a: &[i64; 3]) -> i128
@@ -16,11 +28,7 @@ fn scalar_product(p: &[i64; 3], a: &[i64; 3]) -> i128
     requires a { IsWithin offset_limit a.now }
     ensures { result ≡ dot p.now a.now }
 {
-    let [px, py, pz] = *p;
-    let [ax, ay, az] = *a;
-    i128::from(px) * i128::from(ax)
-        + i128::from(py) * i128::from(ay)
-        + i128::from(pz) * i128::from(az)
+    component_product(p, a, 0) + component_product(p, a, 1) + component_product(p, a, 2)
 }
 
 /// Whether a number is between two others, both included.

@@ -1,4 +1,4 @@
-use Rattle.std.proofs.Common.{◌≡◌, ◌+◌, true, false, ℕ, arith, sym, ◌∙◌}
+use Rattle.std.proofs.Common.{◌≡◌, ◌+◌, false, arith, sym, ◌∙◌}
 use borrow.Author.Count.{below_more}
 use Rattle.bern_form.specs.Marks.{some_holds}
 use Rattle.bern_form.proofs.Decided.{found_below, none_below}

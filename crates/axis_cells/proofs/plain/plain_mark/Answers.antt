@@ -1,4 +1,4 @@
-use Rattle.std.proofs.Common.{◌≡◌, Bool, true, false, ◌∙◌, sym}
+use Rattle.std.proofs.Common.{◌≡◌, true, false, ◌∙◌, sym}
 use Rattle.std.proofs.lemmas.Int.{to_z-of_z}
 use Rattle.space.specs.Reach.{is_in_reach}
 use Rattle.bern_form.proofs.Exclusion.{left_nowhere}

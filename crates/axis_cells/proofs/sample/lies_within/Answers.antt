@@ -1,6 +1,5 @@
-use Rattle.std.proofs.Common.{FitsSigned, rules, arith, pos, ◌≤ℤ◌, ◌∙◌}
+use Rattle.std.proofs.Common.{arith, pos, ◌≤ℤ◌, ◌∙◌}
 use Rattle.std.proofs.lemmas.Int.{to_z-of_z, ints}
-use mir.Syntax.{w128}
 use Rattle.space.proofs.Tests.{decides_le}
 use Rattle.axis_cells.proofs.Comparisons.{inner_two}
 use Rattle.axis_cells.proofs.sample.lies_within.Goals as goal
