@@ -1,5 +1,5 @@
 -- The coefficients of a cell's tests stay below 4 * 10^37.
-use Rattle.std.proofs.Common.{◌≡◌, ℕ, ◌+◌, ◌*◌, ◌^◌, ◌≤◌, ◌<◌, [], ◌∷◌, List, ℤ, pos, ◌*ℤ◌, unsigned_abs, arith, subst}
+use Rattle.std.proofs.Common.{◌≡◌, ℕ, ◌+◌, ◌*◌, ◌^◌, ◌≤◌, ◌<◌, [], ◌∷◌, List, ℤ, pos, ◌*ℤ◌, unsigned_abs, arith, subst, sym}
 use Rattle.std.specs.List.{All}
 use Rattle.bern_form.specs.Forms.{IsSmall, difference4, lifted, product11, product22, scaled2, scaled4, sum2}
 use Rattle.space.specs.Vectors.{at}
@@ -7,6 +7,10 @@ use Rattle.space.specs.Ranges.{IsWithin}
 use Rattle.bern_form.specs.Cells.{dot_on_cell, ends}
 use Rattle.bern_form.specs.Sizes.{IsBounded2, IsBounded4, axis_limit, length_limit, offset_limit}
 use Rattle.bern_form.proofs.Sizes.{bounded2_small, bounded4_small, difference4_bounded, lifted_bounded, product11_bounded, product22_bounded, scaled2_bounded, scaled4_bounded, sum2_bounded}
+
+-- a list of coefficients is small where the list that it equals is
+pub small_as : {a b : List ℤ} → a ≡ b → All IsSmall b → All IsSmall a
+small_as e h = subst (All IsSmall) (sym e) h
 
 -- the product of two components
 pub component_bounded : (p q a c : List ℤ) (i m n : ℕ) → unsigned_abs (at p i) ≤ m → unsigned_abs (at q i) ≤ m → unsigned_abs (at a i) ≤ n → unsigned_abs (at c i) ≤ n
@@ -58,6 +62,8 @@ list4 l m h b = bounded4_small (at l 0) (at l 1) (at l 2) (at l 3) (at l 4) m h 
 
 -- the forms that a cell keeps, from those of u, n and d
 pub record CellFits (u n d : List ℤ) : Type 0 where
+  pub ahead : IsBounded2 (3 * (offset_limit * axis_limit)) u
+  pub squares : IsBounded2 (3 * (axis_limit * axis_limit)) n
   pub height : All IsSmall (product22 u u)
   pub both : All IsSmall (product22 d n)
   pub spread : All IsSmall (difference4 (product22 d n) (product22 u u))
@@ -76,6 +82,8 @@ cell_fits u n d hu hn hd =
     let both = subst (λ k. IsBounded4 k (product22 d n)) e2 (product22_bounded d n (3 * (offset_limit * offset_limit)) (3 * (axis_limit * axis_limit)) hd hn) in
     let spread = difference4_bounded (product22 d n) (product22 u u) m m both height in
     let width = subst (λ k. IsBounded4 k (scaled4 (pos 4) (difference4 (product22 d n) (product22 u u)))) e3 (scaled4_bounded (pos 4) (difference4 (product22 d n) (product22 u u)) 4 (m + m) (omega arith) spread) in record {
+      ahead = hu;
+      squares = hn;
       height = list4 (product22 u u) m (omega arith) height;
       both = list4 (product22 d n) m (omega arith) both;
       spread = list4 (difference4 (product22 d n) (product22 u u)) (m + m) (omega arith) spread;
@@ -83,6 +91,13 @@ cell_fits u n d hu hn hd =
       height_small = height;
       width_small = width;
     }
+
+-- the forms of the cell between two poses
+pub between_fits : (P Q A C : List ℤ) → IsWithin offset_limit P → IsWithin offset_limit Q → IsWithin axis_limit A → IsWithin axis_limit C
+    → CellFits (dot_on_cell P Q A C) (dot_on_cell A C A C) (dot_on_cell P Q P Q)
+between_fits P Q A C hP hQ hA hC =
+    cell_fits (dot_on_cell P Q A C) (dot_on_cell A C A C) (dot_on_cell P Q P Q) (cross_bounded P Q A C offset_limit axis_limit hP hQ hA hC)
+    (cross_bounded A C A C axis_limit axis_limit hA hC hA hC) (cross_bounded P Q P Q offset_limit offset_limit hP hQ hP hQ)
 
 -- n times a squared length, raised to degree 4
 pub record SquaredFits (s : ℤ) (n : List ℤ) : Type 0 where
