@@ -1,7 +1,7 @@
 use Rattle.std.proofs.Common.{arith, ◌+◌, ◌*◌, subst, sym, ℕ, length, ◌^◌}
-use Rattle.cl_lines.specs.Numbers.{spelt}
-use Rattle.cl_lines.proofs.DigitLemmas.{SpellsOn, SpellsOn-next, SpellsOn-small}
-use Rattle.cl_lines.proofs.number.spell_short.Goals as goal
+use Rattle.vf_text.specs.Digits.{spelt}
+use Rattle.vf_text.proofs.DigitLemmas.{SpellsOn, SpellsOn-next, SpellsOn-small}
+use Rattle.cl_lines.proofs.decimal.spell_long.Goals as goal
 
 pub overflow_mul-value : goal.overflow_mul-value
 overflow_mul-value c = let small = SpellsOn-small _ _ _ _ _ c.loop-digit.invariant in omega (arith, small, c.requires.fits)

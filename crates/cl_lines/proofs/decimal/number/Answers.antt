@@ -1,7 +1,7 @@
-use Rattle.std.proofs.Common.{arith, ◌≡◌, ◌∙◌, ◌+◌, ◌++◌, nat_le, length, true, Some, sym, ap}
+use Rattle.std.proofs.Common.{arith, ◌≡◌, ◌+◌, nat_le, length, true, Some, sym}
 use Rattle.std.proofs.lemmas.Bool.{le-leb}
 use Rattle.cl_lines.proofs.NumberLemmas.{number_of-parts}
-use Rattle.cl_lines.proofs.number.number.Goals as goal
+use Rattle.cl_lines.proofs.decimal.number.Goals as goal
 
 pub returns-clause-number : goal.returns-clause-number
 returns-clause-number c =
