@@ -76,7 +76,7 @@ fn write_cutter(page: &mut Page, cutter: &Option<CutterText>) -> Result<(), NoMe
 }
 
 fn write_height(page: &mut Page, h: Option<i32>) -> Result<(), NoMemory>
-    ensures { OnOk result (page.new ≡ page.old ++ height h) }
+    ensures { OnOk result (page.new ≡ page.old ++ height_text h) }
 {
     match h {
         Some(h) => page.number(h),

@@ -5,13 +5,13 @@ use cl_moves::{CutterText, Move, Moves, Program};
 use std::alloc::Global;
 use std::test::Fail;
 
-/// Cutters, with a mark for a move of each.
-const CUTTERS: [(Option<CutterText>, Option<Mark>); 5] = [
+/// The height and the flank of a cutter, or none, with a mark for a move of it.
+const MOVES: [(Option<(Option<i32>, u32)>, Option<Mark>); 5] = [
     (None, None),
-    (cutter(None, 0), Some(Mark::Removed)),
-    (cutter(Some(50_000), 0), Some(Mark::Possible)),
-    (cutter(Some(50_000), 3), Some(Mark::Clear)),
-    (cutter(None, 89), None),
+    (Some((None, 0)), Some(Mark::Removed)),
+    (Some((Some(50_000), 0)), Some(Mark::Possible)),
+    (Some((Some(50_000), 3)), Some(Mark::Clear)),
+    (Some((None, 89)), None),
 ];
 
 const LISTING: &str = "clverify list 1
@@ -32,20 +32,25 @@ move 5 line 11 nocutter
 moves 5
 ";
 
-const fn cutter(h: Option<i32>, flank: u32) -> Option<CutterText> {
-    Some(CutterText {
+/// A cutter of ten millimetres with a corner radius of one.
+fn cutter_of(h: Option<i32>, flank: u32) -> CutterText {
+    CutterText {
         d: 10_000,
         r: 1_000,
         h,
         flank,
-    })
+    }
 }
 
 /// A program with a move of each cutter, every second one in rapid traverse, and the marks.
 fn program(alloc: Global) -> Result<(Program, Vec<Option<Mark>>), Fail> {
     let mut moves = Moves::new(alloc);
     let mut marks = Vec::new(alloc);
-    for (number, (cutter, mark)) in CUTTERS.iter().enumerate() {
+    for (number, (sizes, mark)) in MOVES.iter().enumerate() {
+        let cutter = match sizes {
+            Some((h, flank)) => Some(cutter_of(*h, *flank)),
+            None => None,
+        };
         moves.push(Move {
             line: 7 + number as u32,
             rapid: number % 2 == 1,
@@ -53,7 +58,7 @@ fn program(alloc: Global) -> Result<(Program, Vec<Option<Mark>>), Fail> {
             to: [10_000, 0, -20_000],
             axis_from: [0, 0, 100_000],
             axis_to: [0, 17_365, 98_481],
-            cutter: *cutter,
+            cutter,
         })?;
         marks.push(*mark)?;
     }
