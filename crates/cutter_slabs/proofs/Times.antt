@@ -2,7 +2,7 @@
 -- and W has k^2 u, k^2 N and k^4 W.
 use Rattle.std.proofs.Common.{◌≡◌, ℕ, ◌+◌, ◌*◌, ◌-◌, ◌≤◌, ◌<◌, arith, ap, sym, subst}
 use Rattle.std.proofs.Math.Nat.{mul-le-mul, mul-le-mul_left, le_of_mul-le-mul_left}
-use Rattle.cutter_slabs.proofs.Cones.{Cone, ConeBy, InCone}
+use Rattle.cutter_slabs.proofs.Cones.{ConeBy, InCone}
 use Rattle.cutter_slabs.proofs.Corners.{Corner, InCutter}
 
 square_above : (k : ℕ) → 0 < k → 0 < k * k

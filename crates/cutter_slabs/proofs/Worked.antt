@@ -1,7 +1,7 @@
 -- The exact cutter at single places, worked by hand.
-use Rattle.std.proofs.Common.{◌≡◌, ℕ, ◌+◌, ◌*◌, ◌-◌, ◌≤◌, List, [], ◌∷◌, ℤ, pos, negsuc, ◌*ℤ◌, ◌-ℤ◌, ◌≤ℤ◌, arith, refl, inl, inr, ⊎_elim}
+use Rattle.std.proofs.Common.{ℕ, [], ◌∷◌, pos, negsuc, arith, refl, inl, ⊎_elim}
 use Rattle.std.proofs.lemmas.Int.{ints}
-use Rattle.cutter_slabs.specs.Corner.{CornerRule, IsWithinCorner}
+use Rattle.cutter_slabs.specs.Corner.{IsWithinCorner}
 use Rattle.cutter_slabs.specs.Inside.{IsInside}
 use Rattle.cutter_slabs.specs.Laws.{ball, slanted}
 use Rattle.cutter_slabs.proofs.Heights.{own_is_enough}

@@ -1,7 +1,7 @@
 -- A cutter holds a point at a time however the time is written.
-use Rattle.std.proofs.Common.{◌≡◌, ℕ, ◌*◌, ◌<◌, List, [], ◌∷◌, ℤ, pos, negsuc, ◌*ℤ◌, ◌≤ℤ◌, arith, refl, ap, sym, subst, ◌∙◌, inl, inr, ⊎_elim}
+use Rattle.std.proofs.Common.{◌≡◌, ℕ, ◌*◌, ◌<◌, List, [], ◌∷◌, ℤ, pos, negsuc, ◌*ℤ◌, ◌≤ℤ◌, arith, refl, ap, sym, subst, ◌∙◌, ⊎_elim}
 use Rattle.std.proofs.lemmas.Int.{ints}
-use Rattle.std.proofs.Math.Nat.{mul-le-mul, mul-le-mul_left}
+use Rattle.std.proofs.Math.Nat.{mul-le-mul}
 use Rattle.space.specs.Motion.{Motion, axis_at, between, offset, offset_at}
 use Rattle.space.specs.Vectors.{at, dot, spread}
 use Rattle.space.proofs.Solver.{Term, add, mul, ring, var}
