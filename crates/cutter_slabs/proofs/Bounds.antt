@@ -1,5 +1,5 @@
 -- The bounds of the slabs: from the tip to the corner's upper end, or to the cone's.
-use Rattle.std.proofs.Common.{◌≡◌, ℕ, ◌+◌, ◌*◌, ◌/◌, ◌≤◌, ◌<◌, arith, ap, ◌∙◌}
+use Rattle.std.proofs.Common.{◌≡◌, ℕ, ◌*◌, ◌/◌, ◌≤◌, ◌<◌, arith, ap, ◌∙◌}
 use Rattle.std.proofs.Math.Nat.{mul-le-mul, mul-le-mul_left, mul-div_left, div-eq_of_lt, div-le_of_le-mul}
 use Rattle.std.proofs.lemmas.Nat.{mul-lt}
 use Rattle.cutter_slabs.specs.Stacks.{bound_of, level_of}

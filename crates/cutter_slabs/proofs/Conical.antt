@@ -1,6 +1,6 @@
 -- The stacks of a cone: each place of an inner slab is in the lower cutter, and each place of the upper cutter in an outer slab.
-use Rattle.std.proofs.Common.{◌≡◌, ℕ, ◌+◌, ◌*◌, ◌≤◌, ◌<◌, List, pos, arith, refl, ap, sym, subst}
-use Rattle.std.specs.List.{All, Contains}
+use Rattle.std.proofs.Common.{◌≡◌, ℕ, ◌+◌, ◌*◌, ◌≤◌, ◌<◌, List, pos, arith, sym, subst}
+use Rattle.std.specs.List.{All}
 use Rattle.std.proofs.Math.Nat.{mul-le-mul, mul-le-mul_left, mul-le-mul_right}
 use Rattle.space.specs.Flanks.{least_widening, lower_tangent, most_widening, upper_tangent}
 use Rattle.bern_form.specs.Slab.{SlabSize}
@@ -8,7 +8,7 @@ use Rattle.bern_form.proofs.Relations.{Covers}
 use Rattle.cutter_slabs.specs.Cutter.{CutterSize, IsCutter}
 use Rattle.cutter_slabs.specs.Stacks.{inner_cone_slab, level_of, outer_cone_slab, slab_of, slabs_between}
 use Rattle.cutter_slabs.proofs.Bounds.{level_of-first, level_of-last, level_of-within}
-use Rattle.cutter_slabs.proofs.Cones.{Cone, InCone, cone_of_slab, slab_of_cone}
+use Rattle.cutter_slabs.proofs.Cones.{InCone, cone_of_slab, slab_of_cone}
 use Rattle.cutter_slabs.proofs.Corners.{InSlab}
 use Rattle.cutter_slabs.proofs.Places.{Found, covers_down, covers_up}
 use Rattle.cutter_slabs.proofs.Slabs.{among_slabs, between, each_slab}
@@ -40,7 +40,7 @@ cone_slab_inside c b lo hi u N W k inside =
     let below = inside.below in record {
       height = omega arith;
       cone = cone_of_slab 1000000 t (b * c.d) (b * s) (b * lo) u N W (scaled b s 1000000 lo t (least_within c.flank lo)) inside.above
-      (subst (λ k. 4 * W ≤ (k * k) * N) (twice b c.d s) inside.near);
+          (subst (λ k. 4 * W ≤ (k * k) * N) (twice b c.d s) inside.near);
     }
 
 -- what the upper cutter holds between two heights is in the outer slab
@@ -51,7 +51,7 @@ cone_slab_holds c b lo hi u N W inside low high =
       above = low;
       below = high;
       near = subst (λ k. 4 * W ≤ (k * k) * N) (sym (twice b c.d s))
-      (slab_of_cone 1000000 t (b * c.d) (b * s) (b * hi) u N W (omega arith) inside.cone (swapped b s 1000000 hi t (most_reaches c.flank hi)) high);
+          (slab_of_cone 1000000 t (b * c.d) (b * s) (b * hi) u N W (omega arith) inside.cone (swapped b s 1000000 hi t (most_reaches c.flank hi)) high);
     }
 
 -- a place that a slab of the inner stack covers is in the lower cutter

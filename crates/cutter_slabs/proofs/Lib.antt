@@ -12,3 +12,9 @@ pub mod Conical
 pub mod Whole
 pub mod Sound
 pub mod Tested
+pub mod Times
+pub mod Writings
+pub mod Heights
+pub mod Plain
+pub mod Straight
+pub mod Worked

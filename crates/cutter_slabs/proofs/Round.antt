@@ -1,7 +1,7 @@
 -- The stacks under an upright flank: each place of an inner slab is in the cutter, and each place of the cutter in an outer slab.
-use Rattle.std.proofs.Common.{◌≡◌, ℕ, ◌+◌, ◌*◌, ◌-◌, ◌≤◌, ◌<◌, List, [], ◌∷◌, ◌++◌, pos, arith, refl, ap, sym, subst, ⊎_elim}
-use Rattle.std.specs.List.{All, Contains}
-use Rattle.std.proofs.Math.Nat.{mul-le-mul, mul-le-mul_left, mul-le-mul_right}
+use Rattle.std.proofs.Common.{◌≡◌, ℕ, ◌+◌, ◌*◌, ◌-◌, ◌≤◌, ◌<◌, List, [], ◌∷◌, ◌++◌, pos, arith, ap, sym, subst, ⊎_elim}
+use Rattle.std.specs.List.{All}
+use Rattle.std.proofs.Math.Nat.{mul-le-mul_left, mul-le-mul_right}
 use Rattle.std.proofs.lemmas.Bool.{cases_lt}
 use Rattle.std.proofs.lemmas.List.Elements.{All-push, Contains-append_left, Contains-push}
 use Rattle.bern_form.specs.Roots.{ceil_root, floor_root}
@@ -77,7 +77,7 @@ corner_found c b n u N W valid some inside low =
       slab,
       Contains-append_left (slabs_between (outer_slab c) z n) (top_slab c ∷ []) slab (among_slabs dia z n j within f.apart),
       covers_up b (z j) (z (j + 1)) (dia (z j) (z (j + 1))) u N W
-      (slab_holds b c.r (flat_of c) (z j) (z (j + 1)) u N W inside.corner (bound_of-within c.r n (j + 1) some (omega arith)) f.above f.below),
+          (slab_holds b c.r (flat_of c) (z j) (z (j + 1)) u N W inside.corner (bound_of-within c.r n (j + 1) some (omega arith)) f.above f.below),
     )
 
 -- a place of the cutter is in a slab of the outer stack

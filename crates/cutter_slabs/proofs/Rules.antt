@@ -2,7 +2,7 @@
 use Rattle.std.proofs.Common.{◌≡◌, ℕ, ◌+◌, ◌*◌, ◌-◌, ◌≤◌, ℤ, pos, negsuc, ◌*ℤ◌, ◌-ℤ◌, ◌≤ℤ◌, arith, sym, subst, ◌⊎◌, inl, inr, ⊎_elim}
 use Rattle.std.proofs.lemmas.Int.{ints}
 use Rattle.std.proofs.Math.Nat.{mul-le-mul_right}
-use Rattle.cutter_slabs.specs.Corner.{CornerRule}
+use Rattle.cutter_slabs.specs.Corner.{CornerRule, IsWithinCorner}
 use Rattle.cutter_slabs.proofs.Corners.{Corner}
 
 gap_is : (g x y : ℕ) → g + y ≡ x → pos g ≡ pos x -ℤ pos y
@@ -12,12 +12,20 @@ c_is : (E q N W g m : ℕ) → E * E * (q * q) * N + 4 * g * N + m ≡ 4 * (q * 
     → pos m ≡ pos (4 * (q * q)) *ℤ pos W -ℤ pos (E * E * (q * q)) *ℤ pos N -ℤ pos 4 *ℤ (pos g *ℤ pos N)
 c_is E q N W g m e = omega (arith, ints)
 
-pub corner_down : (r E U N W : ℕ) → CornerRule r E (pos U) (pos N) (pos W) → Corner r E U N W
-corner_down r E U N W c = λ p q g m one top low e f.
+-- the rule at the height p / q over natural numbers
+abbrev pub WithinAt : ℕ → ℕ → ℕ → ℕ → ℕ → ℕ → Type 0
+WithinAt r E N W p q =
+    (g m : ℕ) → g + p * p ≡ 2 * r * p * q → E * E * (q * q) * N + 4 * g * N + m ≡ 4 * (q * q) * W → m * m ≤ 16 * (E * E) * (q * q) * g * (N * N)
+
+pub within_down : (r E N W p q : ℕ) → IsWithinCorner r E (pos N) (pos W) p q → WithinAt r E N W p q
+within_down r E N W p q rule = λ g m e f.
     ⊎_elim
     (λ l. let z : m ≡ 0 = omega (arith, ints) in subst (λ x. x * x ≤ 16 * (E * E) * (q * q) * g * (N * N)) (sym z) (omega arith))
     (λ s. omega (arith, ints, s))
-    (c p q one top (omega (arith, ints, low)) (pos g) (pos m) (gap_is g (2 * r * p * q) (p * p) e) (c_is E q N W g m f))
+    (rule (pos g) (pos m) (gap_is g (2 * r * p * q) (p * p) e) (c_is E q N W g m f))
+
+pub corner_down : (r E U N W : ℕ) → CornerRule r E (pos U) (pos N) (pos W) → Corner r E U N W
+corner_down r E U N W c = λ p q g m one top low e f. within_down r E N W p q (c p q one top (omega (arith, ints, low))) g m e f
 
 g_is : (r p q : ℕ) (g : ℤ) → p * p ≤ 2 * r * p * q → g ≡ pos (2 * r * p * q) -ℤ pos (p * p) → g ≡ pos (2 * r * p * q - p * p)
 g_is r p q g h e = omega (arith, ints)

@@ -1,8 +1,8 @@
 -- The slabs between neighbours of the bounds: the step of a loop, what each of them is, and which of them holds a height.
-use Rattle.std.proofs.Common.{◌≡◌, ℕ, zero, suc, ◌+◌, ◌*◌, ◌≤◌, ◌<◌, List, [], ◌∷◌, ◌++◌, if◌then◌else◌, nat_lt, int_lt, ltb, pos, map, length, arith, refl, ap, sym, Bool, true, false, cond, subst, ◌∙◌, zero-add, add-one, ⊎_elim}
+use Rattle.std.proofs.Common.{◌≡◌, ℕ, zero, suc, ◌+◌, ◌*◌, ◌≤◌, ◌<◌, List, [], ◌∷◌, ◌++◌, if◌then◌else◌, nat_lt, int_lt, pos, map, length, arith, refl, ap, sym, Bool, true, false, cond, subst, ◌∙◌, zero-add, add-one, ⊎_elim}
 use Rattle.std.specs.List.{All, Contains, filter, range_with_len}
 use Rattle.std.proofs.Math.Nat.{mul-le-mul, mul-le-mul_left, mul-le-mul_right}
-use Rattle.std.proofs.lemmas.Bool.{cases_lt, cond_both, cond-true, lt-ltb}
+use Rattle.std.proofs.lemmas.Bool.{cases_lt, cond-true, lt-ltb}
 use Rattle.std.proofs.lemmas.List.Elements.{All-cons, All-nil, All-filter, Contains-append_left, Contains-push}
 use Rattle.std.proofs.lemmas.List.FromFn.{filter_of_map_range_with_len_more}
 use Rattle.bern_form.specs.Slab.{SlabSize}

@@ -1,14 +1,10 @@
 -- What the stacks say of the cutter at the rational times of a move.
-use Rattle.std.proofs.Common.{◌≡◌, ℕ, ◌+◌, ◌-◌, ◌*◌, ◌≤◌, ◌<◌, ◌==◌, List, ℤ, pos, ◌*ℤ◌, ◌≤ℤ◌, arith, refl, subst, sym, ap, ◌∙◌, ◌⊎◌, inl, inr, ⊎_elim, length, length-append}
-use Rattle.std.specs.List.{Contains}
+use Rattle.std.proofs.Common.{◌≡◌, ℕ, ◌+◌, ◌-◌, ◌*◌, ◌≤◌, ◌<◌, ◌==◌, List, ℤ, pos, arith, refl, subst, sym, ap, ◌∙◌, ◌⊎◌, inl, inr, ⊎_elim, length, length-append}
 use Rattle.std.proofs.lemmas.Bool.{cases_lt, cond-true, cond-false, eq-eqb, ne_eqb}
-use Rattle.std.proofs.lemmas.Int.{ints}
 use Rattle.std.proofs.lemmas.List.Elements.{All-contains}
 use Rattle.space.specs.Flanks.{least_widening, lower_tangent, most_widening, upper_tangent}
 use Rattle.space.specs.Motion.{IsSweep, IsTime, Motion, axis_at, offset_at}
-use Rattle.space.specs.Vectors.{dot, spread}
 use Rattle.space.proofs.ReachLemmas.{InReach}
-use Rattle.bern_form.specs.Slab.{SlabSize}
 use Rattle.bern_form.proofs.Exclusion.{cell_of, excluded_not_held}
 use Rattle.bern_form.proofs.Reach.{held_within}
 use Rattle.bern_form.proofs.Relations.{Covers, HeldAtSample, HoldsAt, IsPossible, SomeHolds}
@@ -16,12 +12,12 @@ use Rattle.bern_form.specs.Roots.{ceil_root, floor_root}
 use Rattle.cutter_slabs.specs.Cutter.{CutterSize, IsCutter, flat_of, top_diameter}
 use Rattle.cutter_slabs.specs.Inside.{IsInside}
 use Rattle.cutter_slabs.specs.Meets.{InLowerAt, InUpperAt, MeetsLower, MeetsUpper}
-use Rattle.cutter_slabs.specs.Stacks.{bound_of, inner_stack, level_of, outer_stack, reach_of, slab_of, top_slab}
+use Rattle.cutter_slabs.specs.Stacks.{bound_of, inner_stack, level_of, outer_stack, reach_of, slab_of}
 use Rattle.cutter_slabs.proofs.Cones.{InCone, cone_more}
 use Rattle.cutter_slabs.proofs.Conical.{cone_found, cone_inner, cone_inside, cone_outer, cone_slab_holds}
 use Rattle.cutter_slabs.proofs.Places.{Place, covers_up, found_holds, from_naturals, place_of, to_naturals}
 use Rattle.cutter_slabs.proofs.Round.{InRound, full, round_found, round_inner, round_inside, round_outer}
-use Rattle.cutter_slabs.proofs.Slabs.{as_many_slabs, slabs_by}
+use Rattle.cutter_slabs.proofs.Slabs.{as_many_slabs}
 use Rattle.cutter_slabs.proofs.Whole.{leaning_down, leaning_up, round_down, round_up}
 use Rattle.cutter_slabs.proofs.Widening.{tangents, upright_top}
 

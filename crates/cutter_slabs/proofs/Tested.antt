@@ -1,5 +1,5 @@
 -- What the stacks say of the cutter, by the tests of points and marks, for the two lists that a value holds.
-use Rattle.std.proofs.Common.{◌≡◌, ℕ, ◌<◌, List, ℤ, pos, Bool, true, false, length, ap, sym, subst, ◌∙◌}
+use Rattle.std.proofs.Common.{◌≡◌, ℕ, ◌<◌, List, ℤ, pos, true, false, length, ap, sym, subst, ◌∙◌}
 use Rattle.std.proofs.lemmas.Bool.Decides.{not_from_Decides}
 use Rattle.space.specs.Motion.{IsSweep, IsTime, Motion}
 use Rattle.space.specs.Reach.{is_in_reach}
@@ -8,7 +8,6 @@ use Rattle.bern_form.specs.Marks.{held_at_sample, is_possible, some_holds}
 use Rattle.bern_form.specs.Slab.{SlabSize}
 use Rattle.bern_form.proofs.Decided.{decides_held, decides_possible, decides_some_holds}
 use Rattle.bern_form.proofs.Relations.{HeldAtSample, IsPossible, SomeHolds}
-use Rattle.cutter_slabs.specs.Cutter.{IsCutter}
 use Rattle.cutter_slabs.specs.Meets.{InLowerAt, InUpperAt, MeetsLower, MeetsUpper}
 use Rattle.cutter_slabs.specs.Stacks.{AreStacks, StacksOf, inner_stack, outer_stack, reach_of}
 use Rattle.cutter_slabs.proofs.Sound.{as_many, held_inside, held_outer, inside_held, inside_in_reach, met_possible, met_upper, sample_met}

@@ -1,5 +1,5 @@
 -- The exact cutter over whole numbers is that over natural ones, since n and w are not below 0.
-use Rattle.std.proofs.Common.{◌≡◌, ℕ, ◌+◌, ◌*◌, ◌≤◌, ◌<◌, List, ℤ, pos, ◌*ℤ◌, ◌≤ℤ◌, arith, sym, subst, inl, inr}
+use Rattle.std.proofs.Common.{◌≡◌, ℕ, ◌*◌, ◌≤◌, ◌<◌, List, ℤ, pos, ◌*ℤ◌, ◌≤ℤ◌, arith, sym, subst, inl, inr}
 use Rattle.std.proofs.lemmas.Int.{ints}
 use Rattle.space.specs.Vectors.{dot, spread}
 use Rattle.cutter_slabs.specs.Cone.{ConeRule}
@@ -7,7 +7,6 @@ use Rattle.cutter_slabs.specs.Corner.{CornerRule}
 use Rattle.cutter_slabs.specs.Cutter.{CutterSize, IsCutter, flat_of}
 use Rattle.cutter_slabs.specs.Inside.{IsInside, IsWithinCone, IsWithinRound}
 use Rattle.cutter_slabs.proofs.Cones.{InCone, cone_down, cone_up}
-use Rattle.cutter_slabs.proofs.Corners.{InCutter}
 use Rattle.cutter_slabs.proofs.Places.{Place, from_naturals, to_naturals}
 use Rattle.cutter_slabs.proofs.Round.{InRound, full}
 use Rattle.cutter_slabs.proofs.Rules.{corner_down, corner_up}

@@ -11,5 +11,4 @@ pub fn cutter_laws()
     ensures straight { ConeIsStraight }
     ensures ball { BallPlaces }
     ensures cone { ConePlaces }
-{
-}
+{}

@@ -1,9 +1,8 @@
 ghost use Rattle.std.specs.Prelude.{◌≡◌, ◌<◌, ◌≤◌, ◌++◌, [], ◌∷◌, nat_lt, if◌then◌else◌, IfOk, OnOk};
 ghost use Rattle.cutter_slabs.specs.Stacks.{inner_stack, outer_stack, slab_of};
 
-use crate::cone;
 use crate::cutter::Cutter;
-use crate::profile;
+use crate::{cone, profile};
 use bern_form::Slab;
 use std::alloc::Global;
 use vf_io::NoMemory;
@@ -58,8 +57,18 @@ fn rounded(alloc: Global, cutter: &Cutter, n: u32) -> Result<Pair, NoMemory>
     let mut lo = 0;
     for j in 0..n {
         let hi = profile::bound(radius, n, j + 1);
-        push_slab(&mut inner, lo, hi, profile::inner_diameter(flat, radius, lo))?;
-        push_slab(&mut outer, lo, hi, profile::outer_diameter(flat, radius, hi))?;
+        push_slab(
+            &mut inner,
+            lo,
+            hi,
+            profile::inner_diameter(flat, radius, lo),
+        )?;
+        push_slab(
+            &mut outer,
+            lo,
+            hi,
+            profile::outer_diameter(flat, radius, hi),
+        )?;
         lo = hi;
     }
     let top = slab_between(radius, cutter.height(), cutter.diameter());
