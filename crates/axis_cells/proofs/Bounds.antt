@@ -1,5 +1,5 @@
 -- The coefficients of a cell's tests stay below 4 * 10^37.
-use Rattle.std.proofs.Common.{◌≡◌, ℕ, ◌+◌, ◌*◌, ◌^◌, ◌≤◌, ◌<◌, [], ◌∷◌, List, ℤ, pos, ◌*ℤ◌, unsigned_abs, arith, subst, sym}
+use Rattle.std.proofs.Common.{◌≡◌, ℕ, ◌+◌, ◌*◌, ◌^◌, ◌≤◌, ◌<◌, [], ◌∷◌, List, ℤ, pos, ◌*ℤ◌, unsigned_abs, arith, subst}
 use Rattle.std.specs.List.{All}
 use Rattle.bern_form.specs.Forms.{IsSmall, difference4, lifted, product11, product22, scaled2, scaled4, sum2}
 use Rattle.space.specs.Vectors.{at}
@@ -7,10 +7,6 @@ use Rattle.space.specs.Ranges.{IsWithin}
 use Rattle.bern_form.specs.Cells.{dot_on_cell, ends}
 use Rattle.bern_form.specs.Sizes.{IsBounded2, IsBounded4, axis_limit, length_limit, offset_limit}
 use Rattle.bern_form.proofs.Sizes.{bounded2_small, bounded4_small, difference4_bounded, lifted_bounded, product11_bounded, product22_bounded, scaled2_bounded, scaled4_bounded, sum2_bounded}
-
--- a list of coefficients is small where the list that it equals is
-pub small_as : {a b : List ℤ} → a ≡ b → All IsSmall b → All IsSmall a
-small_as e h = subst (All IsSmall) (sym e) h
 
 -- the product of two components
 pub component_bounded : (p q a c : List ℤ) (i m n : ℕ) → unsigned_abs (at p i) ≤ m → unsigned_abs (at q i) ≤ m → unsigned_abs (at a i) ≤ n → unsigned_abs (at c i) ≤ n

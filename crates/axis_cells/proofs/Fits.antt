@@ -1,23 +1,13 @@
 -- Numbers that fit their types.
-use Rattle.std.proofs.Common.{◌≡◌, to_z, of_z, ℕ, ◌*◌, ◌^◌, ◌≤◌, ◌<◌, List, ℤ, pos, ◌+ℤ◌, ◌*ℤ◌, ◌-ℤ◌, unsigned_abs, FitsSigned, arith, subst, sym, ◌∙◌}
-use Rattle.std.proofs.lemmas.Int.{fits_signed_from_abs, to_z-of_z}
-use mir.Syntax.{w64, w128}
-use Rattle.space.specs.Vectors.{at, dot, spread}
+use Rattle.std.proofs.Common.{◌≡◌, to_z, of_z, ◌*◌, ◌≤◌, List, ℤ, pos, ◌*ℤ◌, unsigned_abs, FitsSigned, arith}
+use Rattle.std.proofs.lemmas.Int.{to_z-of_z}
+use mir.Syntax.{w128}
+use Rattle.space.specs.Vectors.{dot, spread}
 use Rattle.space.specs.Ranges.{IsWithin}
-use Rattle.space.specs.Motion.{between, offset}
 use Rattle.bern_form.specs.Sizes.{axis_limit, length_limit, offset_limit, scale_limit}
-use Rattle.bern_form.proofs.Sizes.{after_small, before_small, between_small, dot_small, offset_small}
-use Rattle.space.proofs.Naturals.{abs_add, abs_mul, abs_sub}
-
-pub fits64 : (z : ℤ) (n : ℕ) → unsigned_abs z ≤ n → n < 2 ^ 63 → FitsSigned w64 z
-fits64 z n h l = fits_signed_from_abs w64 z (omega arith)
-
-pub fits128 : (z : ℤ) (n : ℕ) → unsigned_abs z ≤ n → n < 2 ^ 127 → FitsSigned w128 z
-fits128 z n h l = fits_signed_from_abs w128 z (omega arith)
-
--- the bits of an answer are bounded as what it equals
-pub bounded_as : {r z : ℤ} {n : ℕ} → FitsSigned w64 r → r ≡ z → unsigned_abs z ≤ n → unsigned_abs (to_z w64 (of_z w64 r)) ≤ n
-bounded_as {r} {z} {n} fits same small = subst (λ y. unsigned_abs y ≤ n) (sym (to_z-of_z w64 r fits ∙ same)) small
+use Rattle.bern_form.proofs.Sizes.{dot_small}
+use Rattle.space.proofs.Facts.{fits128}
+use Rattle.space.proofs.Naturals.{abs_mul, abs_sub}
 
 -- the square of a scaled length
 pub scaled_small : (scale length : ℤ) → unsigned_abs scale ≤ scale_limit → unsigned_abs length ≤ 300000 → unsigned_abs (scale *ℤ length) ≤ length_limit
@@ -26,10 +16,6 @@ scaled_small scale length h k = let x = abs_mul scale length 1024 300000 h k in 
 pub scaled_square_small : (scale length : ℤ) → unsigned_abs scale ≤ scale_limit → unsigned_abs length ≤ 300000
     → unsigned_abs ((scale *ℤ length) *ℤ (scale *ℤ length)) ≤ length_limit * length_limit
 scaled_square_small scale length h k = let x = scaled_small scale length h k in abs_mul (scale *ℤ length) (scale *ℤ length) length_limit length_limit x x
-
--- an axis is within the limit of an offset
-pub axis_in_offset : (a : List ℤ) → IsWithin axis_limit a → IsWithin offset_limit a
-axis_in_offset a h = let x = h.0 in let y = h.1 in let z = h.2 in (omega arith, omega arith, omega arith)
 
 -- the steps of a sample: its numbers, whose bits give them back, and the products
 pub record SampleFits (p a : List ℤ) : Type 0 where

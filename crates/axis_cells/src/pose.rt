@@ -42,7 +42,14 @@ fn place_between(k: u32, scale: u32, from: &[i32; 3], to: &[i32; 3], i: usize) -
 
 /// `scale` times a component of a point's offset from the place between two ends at the time `k / scale`.
 #[inline]
-fn offset_from(k: u32, scale: u32, point: &[i32; 3], from: &[i32; 3], to: &[i32; 3], i: usize) -> i64
+fn offset_from(
+    k: u32,
+    scale: u32,
+    point: &[i32; 3],
+    from: &[i32; 3],
+    to: &[i32; 3],
+    i: usize,
+) -> i64
     requires axis { i < 3 }
     requires within { k ≤ scale }
     requires scale { scale ≤ scale_limit }

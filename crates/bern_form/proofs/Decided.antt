@@ -12,7 +12,7 @@ use Rattle.space.specs.Reach.{is_in_reach}
 use Rattle.space.proofs.ReachLemmas.{InReach, decides_in_reach}
 use Rattle.space.proofs.Tests.{decides_le, decides_lt}
 use Rattle.bern_form.specs.Forms.{all_negative, all_positive}
-use Rattle.bern_form.specs.Slab.{SlabSize, covers, holds, holds_at}
+use Rattle.bern_form.specs.Slab.{SlabSize, covers, holds_at}
 use Rattle.bern_form.specs.Cells.{across_list, along_list, is_excluded, u_list}
 use Rattle.bern_form.specs.Marks.{NeverHeld, some_below, some_holds, held_at_sample, is_left_on, is_left_on_cell, is_possible}
 use Rattle.bern_form.proofs.Relations.{AllExcluded, AllNegative, AllPositive, Covers, Excluded, HeldAtSample, HoldsAt as SlabHoldsAt, IsNotPossible, IsPossible, LeftOn, LeftOnCell, SomeHolds}

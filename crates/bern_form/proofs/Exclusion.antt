@@ -10,7 +10,7 @@ use Rattle.space.specs.Vectors.{dot, spread}
 use Rattle.bern_form.specs.Slab.{SlabSize, holds_at}
 use Rattle.bern_form.specs.Cells.{IsInCell, is_excluded, u_list, along_list, across_list}
 use Rattle.bern_form.specs.Marks.{NeverHeld, is_left_on_cell}
-use Rattle.bern_form.proofs.Relations.{AllExcluded, Excluded, HoldsAt, SomeHolds}
+use Rattle.bern_form.proofs.Relations.{AllExcluded, Excluded, HoldsAt}
 use Rattle.bern_form.proofs.Decided.{decides_covers, decides_excluded, decides_left, excluded_unless_left, never_held, says_no}
 use Rattle.bern_form.proofs.Places.{late, early, u_place, along_place, across_place}
 use Rattle.bern_form.proofs.Signs.{negative2, negative4, positive4}

@@ -1,6 +1,6 @@
 use Rattle.std.proofs.Common.{ap₂, ◌∙◌}
 use Rattle.bern_form.specs.Forms.{product11}
-use Rattle.axis_cells.proofs.Bounds.{small_as}
+use Rattle.bern_form.proofs.Sizes.{small_as}
 use Rattle.axis_cells.proofs.cell.component_product.Goals as goal
 
 pub times11-requires : goal.times11-requires

@@ -1,6 +1,7 @@
 use Rattle.std.proofs.Common.{ap₂, ◌∙◌}
 use Rattle.bern_form.specs.Forms.{sum2}
-use Rattle.axis_cells.proofs.Bounds.{cross_fits, small_as}
+use Rattle.bern_form.proofs.Sizes.{small_as}
+use Rattle.axis_cells.proofs.Bounds.{cross_fits}
 use Rattle.axis_cells.proofs.cell.scalar_product_on_cell.Goals as goal
 
 pub component_product-x-requires-clause-small : goal.component_product-x-requires-clause-small

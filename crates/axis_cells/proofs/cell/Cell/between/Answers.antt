@@ -3,7 +3,8 @@ use Rattle.std.proofs.lemmas.Int.{to_z-of_z}
 use mir.Syntax.{w128}
 use Rattle.bern_form.specs.Forms.{all_negative, difference4, product22, scaled4}
 use Rattle.bern_form.specs.Sizes.{IsBounded2, IsBounded4, axis_limit, offset_limit}
-use Rattle.axis_cells.proofs.Bounds.{between_fits, small_as}
+use Rattle.bern_form.proofs.Sizes.{small_as}
+use Rattle.axis_cells.proofs.Bounds.{between_fits}
 use Rattle.axis_cells.proofs.cell.Cell.between.Goals as goal
 
 pub times22-height-requires : goal.times22-height-requires

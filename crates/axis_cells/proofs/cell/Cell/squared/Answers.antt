@@ -3,7 +3,8 @@ use Rattle.std.proofs.lemmas.Int.{to_z-of_z}
 use mir.Syntax.{w128}
 use Rattle.bern_form.specs.Forms.{lifted, scaled2}
 use Rattle.bern_form.specs.Sizes.{IsBounded4, axis_limit, length_limit}
-use Rattle.axis_cells.proofs.Bounds.{small_as, squared_fits}
+use Rattle.bern_form.proofs.Sizes.{small_as}
+use Rattle.axis_cells.proofs.Bounds.{squared_fits}
 use Rattle.axis_cells.proofs.cell.Cell.squared.Goals as goal
 
 pub scale2-requires : goal.scale2-requires

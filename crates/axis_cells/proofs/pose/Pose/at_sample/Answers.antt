@@ -1,7 +1,7 @@
 use Rattle.std.proofs.Common.{FitsSigned, rules}
 use mir.Syntax.{w64}
 use Rattle.bern_form.proofs.Sizes.{axis_within, offset_within}
-use Rattle.axis_cells.proofs.Fits.{bounded_as}
+use Rattle.space.proofs.Facts.{bounded_as}
 use Rattle.axis_cells.proofs.pose.Pose.at_sample.Goals as goal
 
 pub invariant_of-result : goal.invariant_of-result
