@@ -127,6 +127,26 @@ fn points_and_windows(rt: HostRuntime) {
 }
 
 #[test]
+fn points_of_the_lattice(rt: HostRuntime) {
+    // 9 z rays of 4 points, 6 x rays and 6 y rays of 6 points.
+    assert_eq!(rt; small().lattice_len(), 108);
+    assert_eq!(rt; greatest().lattice_len(), 192_000_000_000);
+    assert_eq!(rt; coarse().lattice_len(), 9);
+    let grid = small();
+    for (family, i, j, l, has) in [
+        (Family::Z, 2, 2, 3, true),
+        (Family::Z, 2, 2, 4, false),
+        (Family::Z, 3, 0, 0, false),
+        (Family::X, 2, 1, 5, true),
+        (Family::X, 0, 2, 0, false),
+        (Family::Y, 0, 0, 6, false),
+    ] {
+        let ray = Ray { family, i, j };
+        assert_eq!(rt; grid.has_point(&ray, l), has, "ray {i} {j} point {l}");
+    }
+}
+
+#[test]
 fn extreme_windows(rt: HostRuntime) {
     let grid = greatest();
     assert_eq!(rt; grid.strips(), 1200);

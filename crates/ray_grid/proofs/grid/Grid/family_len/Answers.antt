@@ -1,4 +1,4 @@
-use Rattle.std.proofs.Common.{◌≤◌, arith, rules, slice_index}
+use Rattle.std.proofs.Common.{◌≤◌, arith}
 use Rattle.std.proofs.Math.Nat.{mul-le-mul}
 use Rattle.ray_grid.proofs.Sizes.{few_nodes}
 use Rattle.ray_grid.proofs.Counted.{few_points}
