@@ -1,10 +1,10 @@
 ghost use Rattle.std.specs.Prelude.{◌≡◌, ◌++◌, IfOk, OnOk};
 ghost use Rattle.report_text.specs.Refusals.{refusal_of, fault_text, input_name, refused_word, why_name};
 
-use vf_text::Page;
 use cl_lines::{ClFault, ClWhy};
 use std::alloc::Global;
 use vf_io::NoMemory;
+use vf_text::Page;
 
 /// The files that are read.
 #[derive(Clone, Copy, Debug, PartialEq, Eq)]

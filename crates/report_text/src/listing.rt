@@ -1,10 +1,10 @@
 ghost use Rattle.std.specs.Prelude.{◌≡◌, ◌++◌, IfOk, OnOk};
 ghost use Rattle.report_text.specs.Listing.{list_of, move_lines, move_line, move_head, cutter_text, flank_text, height_text};
 
-use vf_text::Page;
 use cl_moves::{CutterText, Move, Program};
 use std::alloc::Global;
 use vf_io::NoMemory;
+use vf_text::Page;
 
 /// The most bytes of a move's line, or some more: room for all lines is taken once, and what isn't filled costs nothing.
 const LONGEST_LINE: usize = 192;

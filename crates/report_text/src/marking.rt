@@ -1,11 +1,11 @@
 ghost use Rattle.std.specs.Prelude.{◌≡◌, ◌++◌, length, IfOk, OnOk};
 ghost use Rattle.report_text.specs.Marking.{marking_of, mark_line, mark_lines, mark_name};
 
-use vf_text::Page;
 use axis_cells::Mark;
 use cl_moves::{Move, Program};
 use std::alloc::Global;
 use vf_io::NoMemory;
+use vf_text::Page;
 
 /// The marks of a program's moves: a line for each move, and one with their count.
 pub fn point_text(
