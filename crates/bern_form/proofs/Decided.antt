@@ -1,5 +1,5 @@
 -- Each test of slabs, cells and marks says yes exactly where its relation holds.
-use Rattle.std.proofs.Common.{◌≡◌, ℕ, ◌+◌, ◌<◌, ℤ, pos, ◌≤ℤ◌, ◌<ℤ◌, ◌*ℤ◌, int_lt, Bool, true, false, not, List, [], ◌∷◌, get_or, zero-add, length, refl, sym, subst, arith, inl, inr, ⊎_elim, ◌∙◌}
+use Rattle.std.proofs.Common.{◌≡◌, ℕ, ◌+◌, ◌<◌, ℤ, pos, ◌≤ℤ◌, ◌<ℤ◌, ◌*ℤ◌, int_lt, Bool, true, false, not, List, [], ◌∷◌, get_or, zero-add, length, refl, sym, subst, arith, ⊎_elim, ◌∙◌}
 use Rattle.std.specs.Bool.{Decides}
 use Rattle.std.specs.List.{Contains, HoldsAt, list_all, list_any, range_with_len}
 use Rattle.std.proofs.lemmas.Bool.{cases_Bool}
@@ -8,14 +8,13 @@ use Rattle.std.proofs.lemmas.List.{get_or_default}
 use Rattle.std.proofs.lemmas.List.FromFn.{length-range_with_len, get_or-range_with_len}
 use Rattle.space.specs.Vectors.{dot, spread}
 use Rattle.space.specs.Motion.{Motion, IsTime, axis_at, offset_at}
-use Rattle.space.specs.Reach.{is_in_reach}
 use Rattle.space.proofs.ReachLemmas.{InReach, decides_in_reach}
 use Rattle.space.proofs.Tests.{decides_le, decides_lt}
 use Rattle.bern_form.specs.Forms.{all_negative, all_positive}
 use Rattle.bern_form.specs.Slab.{SlabSize, covers, holds_at}
 use Rattle.bern_form.specs.Cells.{across_list, along_list, is_excluded, u_list}
 use Rattle.bern_form.specs.Marks.{NeverHeld, some_below, some_holds, held_at_sample, is_left_on, is_left_on_cell, is_possible}
-use Rattle.bern_form.proofs.Relations.{AllExcluded, AllNegative, AllPositive, Covers, Excluded, HeldAtSample, HoldsAt as SlabHoldsAt, IsNotPossible, IsPossible, LeftOn, LeftOnCell, SomeHolds}
+use Rattle.bern_form.proofs.Relations.{AllExcluded, AllNegative, AllPositive, Covers, Excluded, HeldAtSample, HoldsAt as SlabHoldsAt, IsPossible, LeftOn, LeftOnCell, SomeHolds}
 
 -- a test of the numbers below n
 pub decides_below : (p : ℕ → Bool) (P : ℕ → Type 0) (n : ℕ) → ((k : ℕ) → Decides (p k) (P k)) → Decides (some_below p n) ((k : ℕ) × (k < n) × P k)
@@ -119,24 +118,12 @@ decides_possible outer reach m p S =
     (λ (h : IsPossible outer reach m p S). (h.in_reach, h.left))
     (Decides-and _ _ (decides_in_reach reach m.from m.to p) (decides_left outer m p S))
 
--- what is not possible is no yes of the test
-pub not_possible : (outer : List SlabSize) (reach : ℤ) (m : Motion) (p : List ℤ) (S : ℕ) → IsNotPossible outer reach m p S → IsPossible outer reach m p S → ⊥
-not_possible outer reach m p S out possible =
-    ⊎_elim (λ far. far possible.in_reach) (λ all. possible.left.left.left (all possible.left.left.slab possible.left.cell possible.left.left.among possible.left.within)) out
-
 -- a slab that is left on no cell is excluded on each
 pub excluded_unless_left : (outer : List SlabSize) (m : Motion) (p : List ℤ) (S : ℕ) → ¬ LeftOnCell outer m p S → AllExcluded outer m p S
 excluded_unless_left outer m p S none = λ s k among l.
     ⊎_elim (λ yes. (decides_excluded s m p k S).0 yes)
     (λ no. absurd (none record { cell = k; within = l; left = record { slab = s; among = among; left = not_from_Decides (is_excluded s m p k S) (decides_excluded s m p k S) no } }))
     (cases_Bool (is_excluded s m p k S))
-
--- what the test does not find possible is not possible
-pub not_found_possible : (outer : List SlabSize) (reach : ℤ) (m : Motion) (p : List ℤ) (S : ℕ) → ¬ IsPossible outer reach m p S → IsNotPossible outer reach m p S
-not_found_possible outer reach m p S none =
-    ⊎_elim (λ near. inr (excluded_unless_left outer m p S (λ left. none record { in_reach = (decides_in_reach reach m.from m.to p).0 near; left = left })))
-    (λ far. inl (not_from_Decides (is_in_reach reach m.from m.to p) (decides_in_reach reach m.from m.to p) far))
-    (cases_Bool (is_in_reach reach m.from m.to p))
 
 -- slabs of which none holds the point at a time never hold it
 pub never_held : (slabs : List SlabSize) (m : Motion) (p : List ℤ) → ((a b : ℕ) → IsTime a b → ¬ SomeHolds slabs m p a b) → NeverHeld slabs m p
