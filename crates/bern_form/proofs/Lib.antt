@@ -1,5 +1,7 @@
 pub mod FormTerms
 pub mod Forms
+pub mod Relations
+pub mod Decided
 pub mod Signs
 pub mod Roots
 pub mod Places

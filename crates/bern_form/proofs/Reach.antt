@@ -5,8 +5,9 @@ use Rattle.std.proofs.Math.Nat.{le_of_mul-le-mul_left}
 use borrow.Author.Differences.{abs_is}
 use Rattle.space.specs.Vectors.{at, dot, spread}
 use Rattle.space.specs.Motion.{Motion, IsSweep, IsTime, offset, offset_at, axis_at}
-use Rattle.bern_form.specs.Slab.{SlabSize, HoldsAt}
-use Rattle.bern_form.specs.Marks.{IsNear, InReach}
+use Rattle.bern_form.specs.Slab.{SlabSize}
+use Rattle.bern_form.proofs.Relations.{HoldsAt}
+use Rattle.space.proofs.ReachLemmas.{InReach, IsNear, IsNearEither, near_both}
 use Rattle.space.proofs.Naturals.{square_not_negative, natural, dot_natural, spread_natural}
 use Rattle.space.proofs.Axis.{axis_not_zero, rest_is}
 use Rattle.bern_form.proofs.Roots.{root_le}
@@ -79,7 +80,7 @@ not_below a b R p f t h k s =
     (order (t -ℤ pos R) p ((t -ℤ pos R) -ℤ p) refl))
     (order (f -ℤ pos R) p ((f -ℤ pos R) -ℤ p) refl)
 
-pub near_of : (a b R : ℕ) (p f t : ℤ) → 0 < b → a ≤ b → unsigned_abs (offset (pos a) (pos b) p f t) ≤ b * R → IsNear (pos R) p f t
+pub near_of : (a b R : ℕ) (p f t : ℤ) → 0 < b → a ≤ b → unsigned_abs (offset (pos a) (pos b) p f t) ≤ b * R → IsNearEither (pos R) f t p
 near_of a b R p f t h k s = (not_below a b R p f t h k s, not_above a b R p f t h k s)
 
 spread_is : (D N U W : ℕ) → pos D *ℤ pos N -ℤ pos U *ℤ pos U ≡ pos W → D * N ≡ W + U * U
@@ -91,7 +92,7 @@ positive (suc n) h = omega arith
 
 -- The place that a slab covers is no further from the tip than hi + dia
 pub held_within : (s : SlabSize) (hi dia : ℕ) (m : Motion) (p : List ℤ) (a b : ℕ) → s.hi ≡ pos hi → s.dia ≡ pos dia → IsSweep m → IsTime a b → HoldsAt s m p a b
-    → InReach (pos (hi + dia)) m p
+    → InReach (pos (hi + dia)) m.from m.to p
 held_within s hi dia m p a b eh ed sweep time c =
     let P = offset_at m p (pos a) (pos b) in let A = axis_at m (pos a) (pos b) in
     let u = natural (dot P A) c.forward in
@@ -110,19 +111,18 @@ held_within s hi dia m p a b eh ed sweep time c =
     let R = hi + dia in
     let big : d.0 ≤ b * R * (b * R) = let g = radius (b * hi) (b * dia) d.0 n.0 w.0 u.0 some e (omega (arith, ints, side3)) (omega (arith, ints, low3)) in omega arith in
     let q = part_of (at P 0) (at P 1) (at P 2) d.0 d.1 in record {
-      x = near_of a b R (at p 0) (at m.from 0) (at m.to 0) time.0 time.1 (size_of (at P 0) d.0 (b * R) q.0 big);
-      y = near_of a b R (at p 1) (at m.from 1) (at m.to 1) time.0 time.1 (size_of (at P 1) d.0 (b * R) q.1 big);
-      z = near_of a b R (at p 2) (at m.from 2) (at m.to 2) time.0 time.1 (size_of (at P 2) d.0 (b * R) q.2 big);
+      x = near_both (pos R) (at m.from 0) (at m.to 0) (at p 0) (near_of a b R (at p 0) (at m.from 0) (at m.to 0) time.0 time.1 (size_of (at P 0) d.0 (b * R) q.0 big));
+      y = near_both (pos R) (at m.from 1) (at m.to 1) (at p 1) (near_of a b R (at p 1) (at m.from 1) (at m.to 1) time.0 time.1 (size_of (at P 1) d.0 (b * R) q.1 big));
+      z = near_both (pos R) (at m.from 2) (at m.to 2) (at p 2) (near_of a b R (at p 2) (at m.from 2) (at m.to 2) time.0 time.1 (size_of (at P 2) d.0 (b * R) q.2 big));
     }
 
 -- a point in reach is in any greater reach
-near_more : (r s p f t : ℤ) → r ≤ℤ s → IsNear r p f t → IsNear s p f t
-near_more r s p f t h n =
-    (⊎_elim (λ l. inl (omega (arith, ints))) (λ l. inr (omega (arith, ints))) n.0, ⊎_elim (λ l. inl (omega (arith, ints))) (λ l. inr (omega (arith, ints))) n.1)
+near_more : (r s f t p : ℤ) → r ≤ℤ s → IsNear r f t p → IsNear s f t p
+near_more r s f t p h n = record { above = let a = n.above in omega (arith, ints); below = let b = n.below in omega (arith, ints) }
 
-pub reach_more : (r s : ℤ) (m : Motion) (p : List ℤ) → r ≤ℤ s → InReach r m p → InReach s m p
-reach_more r s m p h n = record {
-  x = near_more r s (at p 0) (at m.from 0) (at m.to 0) h n.x;
-  y = near_more r s (at p 1) (at m.from 1) (at m.to 1) h n.y;
-  z = near_more r s (at p 2) (at m.from 2) (at m.to 2) h n.z;
+pub reach_more : (r s : ℤ) (from to p : List ℤ) → r ≤ℤ s → InReach r from to p → InReach s from to p
+reach_more r s from to p h n = record {
+  x = near_more r s (at from 0) (at to 0) (at p 0) h n.x;
+  y = near_more r s (at from 1) (at to 1) (at p 1) h n.y;
+  z = near_more r s (at from 2) (at to 2) (at p 2) h n.z;
 }

@@ -2,7 +2,7 @@
 use Rattle.std.proofs.Common.{ℕ, ◌≤◌, ◌<◌, List, ℤ, pos, ◌*ℤ◌, ◌≤ℤ◌, ◌<ℤ◌, ◌⊎◌}
 use Rattle.std.specs.List.{All, Contains}
 use Rattle.space.specs.Vectors.{dot, spread}
-use Rattle.space.specs.Motion.{Motion, IsTime, axis_at, offset_at}
+use Rattle.space.specs.Motion.{Motion, axis_at, offset_at}
 use Rattle.space.proofs.ReachLemmas.{InReach}
 use Rattle.bern_form.specs.Slab.{SlabSize}
 use Rattle.bern_form.specs.Cells.{across_list, along_list, u_list}
@@ -67,7 +67,3 @@ AllExcluded slabs m p S = (slab : SlabSize) (k : ℕ) → Contains slabs slab �
 pub record IsPossible (outer : List SlabSize) (reach : ℤ) (m : Motion) (p : List ℤ) (S : ℕ) : Type 0 where
   pub in_reach : InReach reach m.from m.to p
   pub left : LeftOnCell outer m p S
-
--- out of reach, or all outer slabs excluded on all cells
-abbrev pub IsNotPossible : List SlabSize → ℤ → Motion → List ℤ → ℕ → Type 0
-IsNotPossible outer reach m p S = (¬ InReach reach m.from m.to p) ⊎ AllExcluded outer m p S

@@ -1,7 +1,9 @@
 -- The sign of a form whose coefficients share a strict sign.
-use Rattle.std.proofs.Common.{◌≡◌, ℕ, zero, suc, ◌+◌, ◌*◌, ◌<◌, ◌≤◌, [], ◌∷◌, List, length, ℤ, pos, negsuc, ◌+ℤ◌, ◌*ℤ◌, neg_ℤ, ◌<ℤ◌, ◌≤ℤ◌, arith, refl}
+use Rattle.std.proofs.Common.{◌≡◌, ℕ, zero, suc, ◌+◌, ◌*◌, ◌<◌, ◌≤◌, [], ◌∷◌, List, length, true, ℤ, pos, negsuc, ◌+ℤ◌, ◌*ℤ◌, neg_ℤ, ◌<ℤ◌, ◌≤ℤ◌, arith, refl}
 use Rattle.std.proofs.lemmas.Int.{ints}
-use Rattle.bern_form.specs.Forms.{AllNegative, AllPositive, IsPlace, value2, value4}
+use Rattle.bern_form.specs.Forms.{IsPlace, all_negative, all_positive, value2, value4}
+use Rattle.bern_form.proofs.Decided.{decides_negative, decides_positive}
+use Rattle.bern_form.proofs.Relations.{AllNegative, AllPositive}
 use Rattle.space.specs.Vectors.{at}
 use Rattle.space.proofs.Solver.{var, neg, ring}
 use Rattle.bern_form.proofs.FormTerms.{form2, form4}
@@ -87,3 +89,16 @@ negative4 c x y n p h =
     (above_sum5 (neg_ℤ (at c 0)) (neg_ℤ (at c 1)) (neg_ℤ (at c 2)) (neg_ℤ (at c 3)) (neg_ℤ (at c 4)) (y * y * (y * y)) (x * y * (y * y)) (x * x * (y * y)) (x * x * (x * y)) (x * x * (x * x))
     (turned (at c 0) (p 0 (pos 0) (omega arith))) (turned (at c 1) (p 1 (pos 0) (omega arith))) (turned (at c 2) (p 2 (pos 0) (omega arith))) (turned (at c 3) (p 3 (pos 0) (omega arith)))
     (turned (at c 4) (p 4 (pos 0) (omega arith))) (ends4 x y h))
+
+-- the same, by the tests
+pub tested_positive2 : (c : List ℤ) (x y : ℕ) → 3 ≤ length c → all_positive c ≡ true → IsPlace x y → pos 0 <ℤ value2 c (pos x) (pos y)
+tested_positive2 c x y long test place = positive2 c x y long ((decides_positive c).0 test) place
+
+pub tested_negative2 : (c : List ℤ) (x y : ℕ) → 3 ≤ length c → all_negative c ≡ true → IsPlace x y → value2 c (pos x) (pos y) <ℤ pos 0
+tested_negative2 c x y long test place = negative2 c x y long ((decides_negative c).0 test) place
+
+pub tested_positive4 : (c : List ℤ) (x y : ℕ) → 5 ≤ length c → all_positive c ≡ true → IsPlace x y → pos 0 <ℤ value4 c (pos x) (pos y)
+tested_positive4 c x y long test place = positive4 c x y long ((decides_positive c).0 test) place
+
+pub tested_negative4 : (c : List ℤ) (x y : ℕ) → 5 ≤ length c → all_negative c ≡ true → IsPlace x y → value4 c (pos x) (pos y) <ℤ pos 0
+tested_negative4 c x y long test place = negative4 c x y long ((decides_negative c).0 test) place

@@ -1,5 +1,5 @@
-ghost use Rattle.std.specs.Prelude.{ℕ, ◌↔◌, pos, ◌<ℤ◌, IsTrue};
-ghost use Rattle.bern_form.specs.Forms.{AllNegative, AllPositive, IsPlace, value2, value4};
+ghost use Rattle.std.specs.Prelude.{◌≡◌, ℕ, pos, ◌<ℤ◌, IsTrue};
+ghost use Rattle.bern_form.specs.Forms.{IsPlace, all_negative, all_positive, value2, value4};
 
 use crate::form::{Form2, Form4};
 
@@ -9,7 +9,7 @@ use crate::form::{Form2, Form4};
 /// Whether every number is above 0.
 #[inline]
 fn each_above(numbers: &[i128]) -> bool
-    ensures { IsTrue result ↔ AllPositive numbers.now }
+    ensures { result ≡ all_positive numbers.now }
 {
     numbers.iter().all(|c| *c > 0)
 }
@@ -17,7 +17,7 @@ fn each_above(numbers: &[i128]) -> bool
 /// Whether every number is below 0.
 #[inline]
 fn each_below(numbers: &[i128]) -> bool
-    ensures { IsTrue result ↔ AllNegative numbers.now }
+    ensures { result ≡ all_negative numbers.now }
 {
     numbers.iter().all(|c| *c < 0)
 }
@@ -25,9 +25,9 @@ fn each_below(numbers: &[i128]) -> bool
 impl Form2 {
     /// Whether every coefficient is above 0.
     #[inline]
-    #[tactic(auto, using(crate::proofs::Signs::positive2))]
+    #[tactic(auto, using(crate::proofs::Signs::tested_positive2))]
     pub fn all_positive(&self) -> bool
-        ensures exact { IsTrue result ↔ AllPositive self.now.c }
+        ensures exact { result ≡ all_positive self.now.c }
         ensures interval { IsTrue result → (x y : ℕ) → IsPlace x y → pos 0 <ℤ value2 self.now.c (pos x) (pos y) }
     {
         each_above(&self.c)
@@ -35,9 +35,9 @@ impl Form2 {
 
     /// Whether every coefficient is below 0.
     #[inline]
-    #[tactic(auto, using(crate::proofs::Signs::negative2))]
+    #[tactic(auto, using(crate::proofs::Signs::tested_negative2))]
     pub fn all_negative(&self) -> bool
-        ensures exact { IsTrue result ↔ AllNegative self.now.c }
+        ensures exact { result ≡ all_negative self.now.c }
         ensures interval { IsTrue result → (x y : ℕ) → IsPlace x y → value2 self.now.c (pos x) (pos y) <ℤ pos 0 }
     {
         each_below(&self.c)
@@ -47,9 +47,9 @@ impl Form2 {
 impl Form4 {
     /// Whether every coefficient is above 0.
     #[inline]
-    #[tactic(auto, using(crate::proofs::Signs::positive4))]
+    #[tactic(auto, using(crate::proofs::Signs::tested_positive4))]
     pub fn all_positive(&self) -> bool
-        ensures exact { IsTrue result ↔ AllPositive self.now.c }
+        ensures exact { result ≡ all_positive self.now.c }
         ensures interval { IsTrue result → (x y : ℕ) → IsPlace x y → pos 0 <ℤ value4 self.now.c (pos x) (pos y) }
     {
         each_above(&self.c)
@@ -57,9 +57,9 @@ impl Form4 {
 
     /// Whether every coefficient is below 0.
     #[inline]
-    #[tactic(auto, using(crate::proofs::Signs::negative4))]
+    #[tactic(auto, using(crate::proofs::Signs::tested_negative4))]
     pub fn all_negative(&self) -> bool
-        ensures exact { IsTrue result ↔ AllNegative self.now.c }
+        ensures exact { result ≡ all_negative self.now.c }
         ensures interval { IsTrue result → (x y : ℕ) → IsPlace x y → value4 self.now.c (pos x) (pos y) <ℤ pos 0 }
     {
         each_below(&self.c)

@@ -1,6 +1,6 @@
 use Rattle.std.proofs.Common.{rules}
-use Rattle.bern_form.proofs.Signs.{negative4}
+use Rattle.bern_form.proofs.Signs.{tested_negative4}
 use Rattle.bern_form.proofs.form.Form4.all_negative.Goals as goal
 
 pub returns-clause-interval : goal.returns-clause-interval
-returns-clause-interval c = λ h x y place. negative4 c.args.self.now.c x y (search rules) (search rules) place
+returns-clause-interval c = λ h x y place. tested_negative4 c.args.self.now.c x y (search rules) (search rules) place
