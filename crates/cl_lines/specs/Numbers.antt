@@ -59,8 +59,11 @@ number_of bytes =
     let whole = digits_of sign.1 in
     let fraction = fraction_of whole.1 in
     let count = length whole.0 + length fraction.0 in
+    let digits = spelt 0 (whole.0 ++ fraction.0) in
     if nat_le 1 count && nat_le count most_digits
-    then option_map (λ power. record { negative = sign.0; digits = spelt 0 (whole.0 ++ fraction.0); up = power.0; down = length fraction.0 + power.1 }) (exponent_of fraction.1)
+    then option_map
+    (λ power. record { negative = sign.0; digits = digits; up = power.0; down = length fraction.0 + power.1 })
+    (exponent_of fraction.1)
     else None
 
 -- the micrometres of a millimetre and of an inch

@@ -31,7 +31,10 @@ pub(crate) fn join_lines<'a>(
 ) -> Result<Joined<'a>, JoinEnd>
     requires some { 0 < length bytes.now }
     requires small { line + length bytes.now ≤ most_bytes + 1 }
-    ensures joined { MatchResult result (λ j. joined_from line (lines_of bytes.now) ≡ record { line = line; bytes = room.new.items; dangling = j.dangling } ∷ joined_from j.line (lines_of j.behind.now)) (JoinEnds (joined_from line (lines_of bytes.now))) }
+    ensures joined { MatchResult result
+        (λ j. joined_from line (lines_of bytes.now)
+        ≡ record { line = line; bytes = room.new.items; dangling = j.dangling } ∷ joined_from j.line (lines_of j.behind.now))
+        (JoinEnds (joined_from line (lines_of bytes.now))) }
     ensures short { IfOk result (λ j. vec_len room.new ≤ most_text) }
     ensures small { IfOk result (λ j. j.line + length j.behind.now ≤ most_bytes + 1) }
     ensures less { IfOk result (λ j. length j.behind.now < length bytes.now) }

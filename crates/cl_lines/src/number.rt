@@ -72,7 +72,9 @@ fn rounded_size(number: Decimal, base: u128, power: u32) -> Option<u128>
     requires up { number.up < 100 }
     requires base { base ≤ 1000 }
     requires power { power ≤ 5 }
-    ensures { MatchOption result (LARGEST_SIZE < scaled number.digits (base * 10 ^ power) number.up number.down) (λ r. (r ≡ scaled number.digits (base * 10 ^ power) number.up number.down) × (r ≤ LARGEST_SIZE)) }
+    ensures { MatchOption result
+        (LARGEST_SIZE < scaled number.digits (base * 10 ^ power) number.up number.down)
+        (λ r. (r ≡ scaled number.digits (base * 10 ^ power) number.up number.down) × (r ≤ LARGEST_SIZE)) }
 {
     rounded(
         number.digits,

@@ -77,7 +77,9 @@ impl<'a> Lines<'a> {
 
     /// The next record text that has more than blanks. It changes nothing where it gives none.
     pub fn next_text(&mut self) -> Result<Option<Text>, ClEnd>
-        ensures { MatchResult result (λ t. next_of self.old ≡ Ok (option_map (λ x. (x.line, x.bytes.items)) t, self.new)) (Ends self.old self.new) }
+        ensures { MatchResult result
+            (λ t. next_of self.old ≡ Ok (option_map (λ x. (x.line, x.bytes.items)) t, self.new))
+            (Ends self.old self.new) }
     {
         let mut bytes = Vec::new(self.alloc);
         match self.next_into(&mut bytes)? {
@@ -89,7 +91,9 @@ impl<'a> Lines<'a> {
     /// The next record text that has more than blanks goes in place of what `room` holds; the answer
     /// is its line. The reader is unchanged where it gives none.
     pub fn next_into(&mut self, room: &mut Vec<u8>) -> Result<Option<u32>, ClEnd>
-        ensures { MatchResult result (λ n. next_of self.old ≡ Ok (option_map (λ line. (line, room.new.items)) n, self.new)) (Ends self.old self.new) }
+        ensures { MatchResult result
+            (λ n. next_of self.old ≡ Ok (option_map (λ line. (line, room.new.items)) n, self.new))
+            (Ends self.old self.new) }
     {
         while !self.rest.is_empty() {
             let number = self.line;

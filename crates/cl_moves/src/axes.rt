@@ -39,7 +39,9 @@ fn scalar_product(f: &[i32; 3], t: &[i32; 3]) -> i64
 fn are_parallel(f: &[i32; 3], t: &[i32; 3]) -> bool
     requires first { IsWithin axis_unit f.now }
     requires last { IsWithin axis_unit t.now }
-    ensures { result ≡ (int_eq (at f.now 1 *ℤ at t.now 2) (at f.now 2 *ℤ at t.now 1) && (int_eq (at f.now 2 *ℤ at t.now 0) (at f.now 0 *ℤ at t.now 2) && int_eq (at f.now 0 *ℤ at t.now 1) (at f.now 1 *ℤ at t.now 0))) }
+    ensures { result ≡ (int_eq (at f.now 1 *ℤ at t.now 2) (at f.now 2 *ℤ at t.now 1)
+        && (int_eq (at f.now 2 *ℤ at t.now 0) (at f.now 0 *ℤ at t.now 2)
+        && int_eq (at f.now 0 *ℤ at t.now 1) (at f.now 1 *ℤ at t.now 0))) }
 {
     are_equal(f[1], t[2], f[2], t[1])
         && are_equal(f[2], t[0], f[0], t[2])

@@ -68,7 +68,9 @@ impl Fold {
     fn go_to(&mut self, line: u32, tip: [i32; 3], axis: [i32; 3]) -> Result<(), ClEnd>
         requires before { IsToolAxis self.old.axis }
         requires after { IsToolAxis axis }
-        ensures { MatchResult result (λ _. gone_to line tip axis self.old.position self.old ≡ Ok self.new) (StepEnds line (gone_to line tip axis self.old.position self.old)) }
+        ensures { MatchResult result
+            (λ _. gone_to line tip axis self.old.position self.old ≡ Ok self.new)
+            (StepEnds line (gone_to line tip axis self.old.position self.old)) }
     {
         match self.position {
             Some(from) => self.make_move(line, from, tip, axis),
@@ -83,7 +85,9 @@ impl Fold {
     fn go_by(&mut self, line: u32, by: [i32; 3]) -> Result<(), ClEnd>
         requires sound { IsFold self.old }
         requires distance { IsWithin longest_distance by }
-        ensures { MatchResult result (λ _. gone_by line by self.old.position self.old ≡ Ok self.new) (StepEnds line (gone_by line by self.old.position self.old)) }
+        ensures { MatchResult result
+            (λ _. gone_by line by self.old.position self.old ≡ Ok self.new)
+            (StepEnds line (gone_by line by self.old.position self.old)) }
     {
         let Some(from) = self.position else {
             return Err(ClEnd::refused(line, ClWhy::NoPosition));
@@ -105,7 +109,9 @@ impl Fold {
     ) -> Result<(), ClEnd>
         requires before { IsToolAxis self.old.axis }
         requires after { IsToolAxis axis }
-        ensures { MatchResult result (λ _. moved line from tip axis self.old ≡ Ok self.new) (StepEnds line (moved line from tip axis self.old)) }
+        ensures { MatchResult result
+            (λ _. moved line from tip axis self.old ≡ Ok self.new)
+            (StepEnds line (moved line from tip axis self.old)) }
     {
         if are_opposite(&self.axis, &axis) {
             return Err(ClEnd::refused(line, ClWhy::AxisFlip));

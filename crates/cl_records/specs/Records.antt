@@ -71,7 +71,8 @@ delta_in unit parameters =
 abbrev pub cutter_in : Unit → List (List ℕ) → Result Record ClWhy
 cutter_in unit parameters =
     if nat_le fewest_sizes (length parameters) && nat_le (length parameters) most_sizes
-    then and_then (values_of (reads_of unit cutter_kinds parameters)) (λ sizes. and_then (cutter_of sizes) (λ cutter. Ok (records.Cutter cutter)))
+    then and_then (values_of (reads_of unit cutter_kinds parameters))
+    (λ sizes. and_then (cutter_of sizes) (λ cutter. Ok (records.Cutter cutter)))
     else Err ParamCount
 
 abbrev pub multax_of : List ℕ → Result Record ClWhy
@@ -97,8 +98,10 @@ units_in (Some word) = units_of word
 
 -- the record of a word with its parameters, or its first fault
 abbrev pub with_parameters : Unit → Keyword → List (List ℕ) → Result Record ClWhy
-with_parameters unit keywords.Goto parameters = and_then (position_in unit parameters) (λ position. Ok (records.Goto position.tip position.axis))
-with_parameters unit keywords.From parameters = and_then (position_in unit parameters) (λ position. Ok (records.From position.tip position.axis))
+with_parameters unit keywords.Goto parameters =
+    and_then (position_in unit parameters) (λ position. Ok (records.Goto position.tip position.axis))
+with_parameters unit keywords.From parameters =
+    and_then (position_in unit parameters) (λ position. Ok (records.From position.tip position.axis))
 with_parameters unit keywords.Godlta parameters = delta_in unit parameters
 with_parameters unit keywords.Cutter parameters = cutter_in unit parameters
 with_parameters unit keywords.Multax parameters = multax_in parameters
@@ -166,4 +169,5 @@ behind_record unit (Ok record_) rest = if is_fini record_ then [] else rest (uni
 abbrev pub records_of : Unit → List (Numbered (List ℕ)) → List (Numbered Record)
 records_of unit [] = []
 records_of unit ((line, Err why) ∷ texts) = (line, Err why) ∷ []
-records_of unit ((line, Ok text) ∷ texts) = (line, record_of unit text) ∷ behind_record unit (record_of unit text) (λ next. records_of next texts)
+records_of unit ((line, Ok text) ∷ texts) =
+    (line, record_of unit text) ∷ behind_record unit (record_of unit text) (λ next. records_of next texts)

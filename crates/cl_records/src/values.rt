@@ -64,7 +64,9 @@ pub(crate) fn read_values(
     parameters: Parameters<'_>,
 ) -> Result<Values, ClWhy>
     requires { length kinds.now ≤ most_sizes }
-    ensures values { MatchResult result (λ v. values_of (reads_of unit kinds.now parameters.entry) ≡ Ok v) (λ why. values_of (reads_of unit kinds.now parameters.entry) ≡ Err why) }
+    ensures values { MatchResult result
+        (λ v. values_of (reads_of unit kinds.now parameters.entry) ≡ Ok v)
+        (λ why. values_of (reads_of unit kinds.now parameters.entry) ≡ Err why) }
     ensures kinds { IfOk result (AreKinds kinds.now) }
 {
     let mut values = Values::new();
