@@ -1,6 +1,6 @@
 -- What a call that counts its failure tells.
-use Rattle.std.proofs.Common.{◌≡◌, ℕ, ◌≤◌, Result, Ok, Err, is_err, arith, refl}
-use Rattle.vf_io.specs.Causes.{HasCause, Rose}
+use Rattle.std.proofs.Common.{◌≡◌, ℕ, ◌≤◌, Result, Ok, Err, is_err, arith}
+use Rattle.vf_io.specs.Causes.{HasCause}
 use Rattle.vf_io.specs.Memory.{faults_behind}
 
 -- a count that stands still at an answer, and rises at a failure, has a cause

@@ -1,5 +1,5 @@
 -- When a call may answer a fault: the count of faults of the object that it was handed rose.
-use Rattle.std.specs.Prelude.{◌≡◌, ℕ, ◌+◌, ◌-◌, ◌^◌, ◌≤◌, min, nat_lt, Option, Some, None, option_and_then, Result, OnErr, if◌then◌else◌}
+use Rattle.std.specs.Prelude.{ℕ, ◌+◌, ◌-◌, ◌^◌, ◌≤◌, min, nat_lt, Option, Some, None, option_and_then, Result, OnErr, if◌then◌else◌}
 
 -- the greatest count, at which a count stands still
 abbrev pub most_faults : ℕ

@@ -1,4 +1,4 @@
-use Rattle.std.proofs.Common.{◌++◌, ℕ, List, take, ap, subst, sym, ◌∙◌}
+use Rattle.std.proofs.Common.{◌++◌, ℕ, take, ap, subst, sym, ◌∙◌}
 use Rattle.std.proofs.KnownBytes.{Appends-trans, Appends-kept, Keeps-refl}
 use Rattle.std.specs.Io.KnownBytes.{Appends}
 use Rattle.vf_io.proofs.FrontLemmas.{Keeps-from_nil, AppendsFront-done, split_later}
