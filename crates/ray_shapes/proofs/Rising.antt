@@ -1,7 +1,6 @@
 -- A value that rises or falls by the slope with each index, and where it is at most a limit.
-use Rattle.std.proofs.Common.{◌≡◌, ◌↔◌, ℕ, suc, zero, ◌+◌, ◌-◌, ◌*◌, ◌/◌, ◌<◌, ◌≤◌, ℤ, pos, negsuc, ◌+ℤ◌, ◌-ℤ◌, ◌*ℤ◌, ◌≤ℤ◌, unsigned_abs, true, false, FitsSigned, w64, arith, refl, sym, ap, ◌∙◌, subst}
+use Rattle.std.proofs.Common.{◌≡◌, ◌↔◌, ℕ, suc, zero, ◌+◌, ◌-◌, ◌*◌, ◌/◌, ◌<◌, ◌≤◌, ℤ, pos, negsuc, ◌+ℤ◌, ◌-ℤ◌, ◌*ℤ◌, ◌≤ℤ◌, unsigned_abs, Bool, IsTrue, false, FitsSigned, w64, arith, refl, sym, ap, ◌∙◌, subst}
 use Rattle.std.proofs.lemmas.Int.{ints, by_lt_z}
-use lib.Signed.{le_z}
 use Rattle.space.specs.Ranges.{IsBetween}
 use Rattle.std.proofs.Math.IntN.{pos-*ℤ-pos, negsuc-*ℤ-pos}
 use native.Mathlib.Decide.{dec_le}
@@ -86,12 +85,9 @@ falls start (negsuc k) limit a b steps ab first last =
 falls start (pos k) limit a b steps ab first last =
     absurd (first (let rise = up k a (b - a) in let z = ap (λ n. pos k *ℤ pos n) (let same : a + (b - a) ≡ b = omega arith in same) in omega (arith, ints)))
 
--- what the tests of the code tell
-pub told_within : (x y : ℤ) → le_z x y ≡ true → x ≤ℤ y
-told_within x y t = grind (arith, ints)
-
-pub told_beyond : (x y : ℤ) → le_z x y ≡ false → ¬ (x ≤ℤ y)
-told_beyond x y t h = grind (arith, ints)
+-- what a test that says no tells
+pub told_not : {P : Type 0} (r : Bool) → IsTrue r ↔ P → r ≡ false → ¬ P
+told_not r test other h = let yes = test.1 h in cc
 
 pub small_sum : (start rise : ℤ) → IsTerm start → IsTerm rise → IsBetween (negsuc 36028797018963967) (pos 36028797018963968) (start +ℤ rise)
 small_sum start rise s r =

@@ -1,4 +1,4 @@
-ghost use Rattle.std.specs.Prelude.{◌≡◌, ℕ, ◌*◌, ◌<◌, ◌≤◌, ◌↔◌, pos, ◌≤ℤ◌, ◌+ℤ◌, ◌-ℤ◌, ◌*ℤ◌, unsigned_abs, FitsSigned};
+ghost use Rattle.std.specs.Prelude.{◌≡◌, ℕ, ◌+◌, ◌*◌, ◌<◌, ◌≤◌, ◌↔◌, IsTrue, pos, ◌≤ℤ◌, ◌+ℤ◌, ◌-ℤ◌, ◌*ℤ◌, unsigned_abs, FitsSigned};
 ghost use Rattle.std.specs.Int.{w64};
 ghost use Rattle.ray_grid.specs.Selects.{Selects};
 ghost use Rattle.ray_shapes.specs.Sizes.{IsTerm};
@@ -10,59 +10,109 @@ pub struct Interval {
     pub hi: u32,
 }
 
-/// The part of an interval where `start + slope * l` is at most the limit, found by one division.
-///
-/// The value rises or falls with the index l by the slope, so it is at most the limit on a half-line
-/// of indices. Where both ends of the interval are alike, all of it is. Else the whole steps that fit
-/// between the limit and the value at the end that is within it are counted from that end, so the
-/// quotient is rounded down for a slope of either sign.
-pub fn half_line(start: i64, slope: i64, limit: i64, part: Interval) -> Interval
-    requires some { part.lo < part.hi }
-    requires small_start { IsTerm start }
-    requires small_rise { (l : ℕ) → l < part.hi → IsTerm (slope *ℤ pos l) }
-    ensures order { result.lo ≤ result.hi }
-    ensures within { result.hi ≤ part.hi }
-    ensures exact { Selects result.lo result.hi (λ l. (part.lo ≤ l) × (l < part.hi) × ((start +ℤ (slope *ℤ pos l)) ≤ℤ limit)) }
-{
-    let first = value_at(start, slope, part.lo);
-    let last = value_at(start, slope, part.hi - 1);
-    if first <= limit {
-        if last <= limit {
-            return part;
+/// A value that rises with the index l, `start + slope * l`, and a limit.
+#[derive(Clone, Copy)]
+pub struct Ramp {
+    pub start: i64,
+    pub slope: i64,
+    pub limit: i64,
+}
+
+impl Ramp {
+    /// The part of an interval where the value is at most the limit, found by one division.
+    ///
+    /// The value rises or falls with the index by the slope, so it is at most the limit on a half-line
+    /// of indices. Where both ends of the interval are alike, all of it is. Else the whole steps that fit
+    /// between the limit and the value at the end that is within it are counted from that end, so the
+    /// quotient is rounded down for a slope of either sign.
+    pub fn half_line(&self, part: Interval) -> Interval
+        requires some { part.lo < part.hi }
+        requires start { IsTerm self.now.start }
+        requires rise { (l : ℕ) → l < part.hi → IsTerm (self.now.slope *ℤ pos l) }
+        ensures order { result.lo ≤ result.hi }
+        ensures within { result.hi ≤ part.hi }
+        ensures exact { Selects result.lo result.hi (λ l. (part.lo ≤ l) × (l < part.hi)
+            × ((self.now.start +ℤ (self.now.slope *ℤ pos l)) ≤ℤ self.now.limit)) }
+    {
+        let last = part.hi - 1;
+        if self.is_within(part.lo) {
+            if self.is_within(last) {
+                return part;
+            }
+            return Interval {
+                lo: part.lo,
+                hi: part.lo + self.steps_up(part.lo, last) + 1,
+            };
         }
-        let steps = whole_steps(first, limit, slope) as u32;
-        return Interval {
+        if self.is_within(last) {
+            return Interval {
+                lo: last - self.steps_down(part.lo, last),
+                hi: part.hi,
+            };
+        }
+        Interval {
             lo: part.lo,
-            hi: part.lo + steps + 1,
-        };
+            hi: part.lo,
+        }
     }
-    if last <= limit {
-        let steps = whole_steps(last, limit, slope) as u32;
-        return Interval {
-            lo: part.hi - 1 - steps,
-            hi: part.hi,
-        };
-    }
-    Interval {
-        lo: part.lo,
-        hi: part.lo,
-    }
-}
 
-fn value_at(start: i64, slope: i64, l: u32) -> i64
-    requires start { IsTerm start }
-    requires rise { IsTerm (slope *ℤ pos l) }
-    ensures { result ≡ start +ℤ (slope *ℤ pos l) }
-{
-    start + slope * i64::from(l)
-}
+    /// The value at an index.
+    #[inline]
+    fn value_at(&self, l: u32) -> i64
+        requires start { IsTerm self.now.start }
+        requires rise { IsTerm (self.now.slope *ℤ pos l) }
+        ensures { result ≡ self.now.start +ℤ (self.now.slope *ℤ pos l) }
+    {
+        self.start + self.slope * i64::from(l)
+    }
 
-/// How many whole steps of the slope's size lie between a value and the limit above it.
-fn whole_steps(value: i64, limit: i64, slope: i64) -> u64
-    requires below { value ≤ℤ limit }
-    requires small { FitsSigned w64 (limit -ℤ value) }
-    requires slope { 0 < unsigned_abs slope }
-    ensures { (n : ℕ) → (n ≤ result) ↔ ((value +ℤ pos (n * unsigned_abs slope)) ≤ℤ limit) }
-{
-    (limit - value).unsigned_abs() / slope.unsigned_abs()
+    /// Whether the value at an index is at most the limit.
+    #[inline]
+    fn is_within(&self, l: u32) -> bool
+        requires start { IsTerm self.now.start }
+        requires rise { IsTerm (self.now.slope *ℤ pos l) }
+        ensures { IsTrue result ↔ ((self.now.start +ℤ (self.now.slope *ℤ pos l)) ≤ℤ self.now.limit) }
+    {
+        self.value_at(l) <= self.limit
+    }
+
+    /// How many whole steps the value takes from the index `lo` within the limit, where it is beyond it at `last`.
+    fn steps_up(&self, lo: u32, last: u32) -> u32
+        requires order { lo ≤ last }
+        requires start { IsTerm self.now.start }
+        requires first_rise { IsTerm (self.now.slope *ℤ pos lo) }
+        requires last_rise { IsTerm (self.now.slope *ℤ pos last) }
+        requires first { (self.now.start +ℤ (self.now.slope *ℤ pos lo)) ≤ℤ self.now.limit }
+        requires beyond { ¬ ((self.now.start +ℤ (self.now.slope *ℤ pos last)) ≤ℤ self.now.limit) }
+        ensures inside { lo + result < last }
+        ensures exact { (l : ℕ) → lo ≤ l
+            → (l ≤ lo + result) ↔ ((self.now.start +ℤ (self.now.slope *ℤ pos l)) ≤ℤ self.now.limit) }
+    {
+        self.whole_steps(self.value_at(lo)) as u32
+    }
+
+    /// How many whole steps back the value takes from the index `last` within the limit, where it is beyond it at `lo`.
+    fn steps_down(&self, lo: u32, last: u32) -> u32
+        requires order { lo ≤ last }
+        requires start { IsTerm self.now.start }
+        requires first_rise { IsTerm (self.now.slope *ℤ pos lo) }
+        requires last_rise { IsTerm (self.now.slope *ℤ pos last) }
+        requires beyond { ¬ ((self.now.start +ℤ (self.now.slope *ℤ pos lo)) ≤ℤ self.now.limit) }
+        requires last { (self.now.start +ℤ (self.now.slope *ℤ pos last)) ≤ℤ self.now.limit }
+        ensures inside { lo + result < last }
+        ensures exact { (l : ℕ) → l ≤ last
+            → (last ≤ l + result) ↔ ((self.now.start +ℤ (self.now.slope *ℤ pos l)) ≤ℤ self.now.limit) }
+    {
+        self.whole_steps(self.value_at(last)) as u32
+    }
+
+    /// How many whole steps of the slope's size lie between a value and the limit above it.
+    fn whole_steps(&self, value: i64) -> u64
+        requires below { value ≤ℤ self.now.limit }
+        requires small { FitsSigned w64 (self.now.limit -ℤ value) }
+        requires slope { 0 < unsigned_abs self.now.slope }
+        ensures { (n : ℕ) → (n ≤ result) ↔ ((value +ℤ pos (n * unsigned_abs self.now.slope)) ≤ℤ self.now.limit) }
+    {
+        (self.limit - value).unsigned_abs() / self.slope.unsigned_abs()
+    }
 }

@@ -1,8 +1,10 @@
-ghost use Rattle.std.specs.Prelude.{◌≡◌, ℕ, ◌<◌, ◌≤◌, ◌↔◌, IsTrue, pos, ◌≤ℤ◌, ◌+ℤ◌, ◌*ℤ◌};
+ghost use Rattle.std.specs.Prelude.{◌≡◌, ℕ, ◌<◌, ◌≤◌, IsTrue, pos, negsuc, ◌+ℤ◌, ◌*ℤ◌, unsigned_abs};
+ghost use Rattle.space.specs.Ranges.{IsBetween, IsPoint, metre};
+ghost use Rattle.space.specs.Vectors.{at};
 ghost use Rattle.ray_grid.specs.Selects.{Selects};
 ghost use Rattle.ray_shapes.specs.Sizes.{IsTerm};
 
-use crate::half_line::{Interval, half_line};
+use crate::half_line::{Interval, Ramp};
 use crate::line::Line;
 use ray_grid::Family;
 
@@ -13,14 +15,6 @@ pub struct Plane {
     pub b: i32,
     pub c: i32,
     pub d: i64,
-}
-
-/// The left side of a plane along a line: its value at the first point, and its rise from each
-/// point to the next.
-#[derive(Clone, Copy)]
-pub struct Rise {
-    pub start: i64,
-    pub slope: i64,
 }
 
 impl Plane {
@@ -35,23 +29,39 @@ impl Plane {
         ensures within { result.hi ≤ part.hi }
         ensures exact { Selects result.lo result.hi (λ l. (part.lo ≤ l) × (l < part.hi) × IsTrue (plane_holds self.now (point_on line.now l))) }
     {
-        let rise = self.rise(line);
-        half_line(rise.start, rise.slope, self.d, part)
+        self.ramp(line).half_line(part)
     }
 
-    /// The left side along a line. A line runs along one axis, so the left side rises by that axis'
-    /// coefficient times the step.
-    fn rise(&self, line: &Line) -> Rise
+    /// The left side along a line, with the right side as its limit. A line runs along one axis, so the left side rises by
+    /// that axis' coefficient times the step.
+    fn ramp(&self, line: &Line) -> Ramp
         ensures start { IsTerm result.start }
         ensures rise { (l : ℕ) → l < line.now.points → IsTerm (result.slope *ℤ pos l) }
+        ensures limit { result.limit ≡ self.now.d }
         ensures value { (l : ℕ) → value_at self.now (point_on line.now l) ≡ result.start +ℤ (result.slope *ℤ pos l) }
     {
-        let [x, y, z] = line.first;
-        let start = product(self.a, x) + product(self.b, y) + product(self.c, z);
-        Rise {
-            start,
-            slope: product(self.coefficient(line.family), line.step),
+        Ramp {
+            start: self.value_on(&line.first),
+            slope: self.rise(line),
+            limit: self.d,
         }
+    }
+
+    /// The left side at a point within a metre of the origin.
+    fn value_on(&self, point: &[i32; 3]) -> i64
+        requires { IsPoint point.now }
+        ensures value { result ≡ value_at self.now point.now }
+        ensures small { IsTerm result }
+    {
+        term(&self.a, point, 0) + term(&self.b, point, 1) + term(&self.c, point, 2)
+    }
+
+    /// How much the left side rises from each point of a line to the next.
+    fn rise(&self, line: &Line) -> i64
+        ensures value { result ≡ coefficient_of self.now line.now.family *ℤ line.now.step }
+        ensures small { (l : ℕ) → l < line.now.points → IsTerm (result *ℤ pos l) }
+    {
+        i64::from(self.coefficient(line.family)) * i64::from(line.step)
     }
 
     /// The coefficient of the axis along which a family's rays run.
@@ -66,8 +76,13 @@ impl Plane {
     }
 }
 
-fn product(a: i32, x: i32) -> i64
-    ensures { result ≡ a *ℤ x }
+/// A coefficient times a coordinate.
+#[inline]
+fn term(coefficient: &i32, point: &[i32; 3], axis: usize) -> i64
+    requires axis { axis < 3 }
+    requires near { unsigned_abs (at point.now axis) ≤ metre }
+    ensures value { result ≡ coefficient.now *ℤ at point.now axis }
+    ensures small { IsBetween (negsuc 2147483647999999) (pos 2147483648000000) result }
 {
-    i64::from(a) * i64::from(x)
+    i64::from(*coefficient) * i64::from(point[axis])
 }
