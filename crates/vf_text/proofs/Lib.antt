@@ -1,0 +1,4 @@
+pub mod BlankLemmas
+pub mod DigitLemmas
+pub mod LineLemmas
+pub mod PowerLemmas
