@@ -1,3 +1,3 @@
-pub mod Ends
+pub mod Endings
 pub mod Shapes
 pub mod Truths

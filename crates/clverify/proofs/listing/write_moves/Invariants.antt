@@ -1,6 +1,0 @@
-use Rattle.std.proofs.Common.{◌≡◌, ◌+◌, ◌++◌, drop}
-use Rattle.clverify.specs.Texts.{move_lines}
-use Rattle.clverify.proofs.listing.write_moves.Given as goal
-
-abbrev pub invariant-loop-before : goal.invariant-loop-before
-invariant-loop-before l = l.page ++ move_lines (l.before + 1) (drop l.before l.moves) ≡ l.fn.page ++ move_lines 1 l.moves

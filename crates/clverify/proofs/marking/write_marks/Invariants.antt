@@ -1,7 +1,0 @@
-use Rattle.std.proofs.Common.{◌≡◌, ◌+◌, ◌++◌, drop}
-use Rattle.clverify.specs.Texts.{mark_lines}
-use Rattle.clverify.proofs.marking.write_marks.Given as goal
-
-abbrev pub invariant-loop-before : goal.invariant-loop-before
-invariant-loop-before l =
-    l.page ++ mark_lines (l.before + 1) (drop l.before l.moves) (drop l.before l.marks) ≡ l.fn.page ++ mark_lines 1 l.moves l.marks
