@@ -3,9 +3,9 @@ use Rattle.std.proofs.Common.{◌≡◌, ℕ, zero, suc, ◌+◌, ◌<◌, ◌++
 use Rattle.std.proofs.lemmas.Bool.{false_from_ne_true, eqb-true}
 use Rattle.std.proofs.lemmas.List.{take_more}
 use Rattle.memchr.specs.Find.{Nowhere, Passes, is_byte}
-use Rattle.cl_lines.specs.Blanks.{is_blank, unless_last_blank, without_last_blanks}
+use Rattle.vf_text.specs.Blanks.{is_blank, unless_last_blank, without_last_blanks}
 use Rattle.cl_lines.specs.Comments.{without_comment, ends_with, is_continued, record_part}
-use Rattle.cl_lines.proofs.LineLemmas.{without_last-push}
+use Rattle.vf_text.proofs.LineLemmas.{without_last-push}
 
 both : (a b : Bool) → (a && b) ≡ true → (a ≡ true) × (b ≡ true)
 both true b holds = (refl, holds)

@@ -1,10 +1,10 @@
 -- There are no more texts than bytes.
-use Rattle.std.proofs.Common.{◌≡◌, ℕ, ◌+◌, ◌≤◌, ◌++◌, List, [], ◌∷◌, Bool, true, false, eqb, nat_lt, cond, map, flat_map, length, length-append, Ok, Err, arith}
+use Rattle.std.proofs.Common.{ℕ, ◌+◌, ◌≤◌, List, [], ◌∷◌, Bool, true, false, eqb, nat_lt, cond, map, flat_map, length, length-append, Ok, Err, arith}
 use Rattle.vf_io.specs.Pieces.{lead, pieces_of}
-use Rattle.cl_lines.specs.Blanks.{is_blank_text}
+use Rattle.vf_text.specs.Blanks.{is_blank_text}
 use Rattle.cl_lines.specs.Comments.{without_comment, is_continued, record_part}
-use Rattle.cl_lines.specs.Lines.{line_of, lines_of}
-use Rattle.cl_lines.specs.Texts.{Joined, Numbered, lead_text, joined_from, text_of, texts_from, texts_of}
+use Rattle.vf_text.specs.Lines.{line_of, lines_of}
+use Rattle.cl_lines.specs.Texts.{Joined, Numbered, lead_text, joined_from, text_of, texts_of}
 use Rattle.cl_lines.specs.declared.fault.ClWhy.TheVariants.{LineLong, DanglingDollar}
 
 few-lead : (b : ℕ) (pieces : List (List ℕ)) → length (lead b pieces) ≤ 1 + length pieces

@@ -1,8 +1,8 @@
 -- Lines joined one by one.
-use Rattle.std.proofs.Common.{◌≡◌, ℕ, ◌+◌, ◌≤◌, ◌<◌, ◌++◌, List, [], ◌∷◌, length, eqb, cond, Err, flat_map, map, true, false, refl, sym, ap, ◌∙◌, append_assoc, length-append, arith}
+use Rattle.std.proofs.Common.{◌≡◌, ℕ, ◌+◌, ◌<◌, ◌++◌, List, [], ◌∷◌, length, eqb, cond, Err, flat_map, map, true, false, refl, sym, ap, append_assoc, length-append, arith}
 use Rattle.std.proofs.lemmas.Bool.{lt-ltb}
 use Rattle.vf_io.specs.Pieces.{lead, pieces_of}
-use Rattle.cl_lines.specs.Lines.{line_of, lines_of}
+use Rattle.vf_text.specs.Lines.{line_of, lines_of}
 use Rattle.cl_lines.specs.Next.{next_of}
 use Rattle.cl_lines.specs.Texts.{Joined, lead_text, joined_from, text_of, texts_from, IsTooLong}
 use Rattle.cl_lines.specs.declared.fault.ClWhy.TheVariants.{LineLong}

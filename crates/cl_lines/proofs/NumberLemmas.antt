@@ -1,7 +1,8 @@
 -- A number by its parts, as they are cut off one by one.
 use Rattle.std.proofs.Common.{◌≡◌, ℕ, ◌+◌, ◌&&◌, ◌++◌, nat_le, List, Bool, Option, None, length, refl, if◌then◌else◌}
 use Rattle.std.specs.Option.{option_map}
-use Rattle.cl_lines.specs.Numbers.{signed, digits_of, fraction_of, spelt, exponent_of, number_of}
+use Rattle.vf_text.specs.Digits.{digits_of, spelt}
+use Rattle.cl_lines.specs.Numbers.{signed, fraction_of, exponent_of, number_of}
 
 pub number_of-parts : (text rest whole after fraction behind : List ℕ) (negative : Bool) (power : Option (ℕ × ℕ))
     → negative ≡ (signed text).0 → rest ≡ (signed text).1 → whole ≡ (digits_of rest).0 → after ≡ (digits_of rest).1

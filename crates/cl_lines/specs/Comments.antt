@@ -1,7 +1,7 @@
 -- What stands in a line beside a record's text: a comment, and the dollar sign that continues the record.
-use Rattle.std.specs.Prelude.{◌≡◌, ℕ, ◌==◌, ◌&&◌, Bool, false, List, [], ◌∷◌, if◌then◌else◌}
-use Rattle.cl_lines.specs.Blanks.{without_last_blanks}
-use Rattle.cl_lines.specs.Lines.{without_last}
+use Rattle.std.specs.Prelude.{ℕ, ◌==◌, ◌&&◌, Bool, false, List, [], ◌∷◌, if◌then◌else◌}
+use Rattle.vf_text.specs.Blanks.{without_last_blanks}
+use Rattle.vf_text.specs.Lines.{without_last}
 
 -- the byte that continues a record, and twice begins a comment
 abbrev pub dollar : ℕ

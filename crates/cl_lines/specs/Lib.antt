@@ -1,6 +1,4 @@
-pub mod Blanks
 pub mod Comments
-pub mod Lines
 pub mod Next
 pub mod Numbers
 pub mod Rounding

@@ -1,13 +1,20 @@
 -- The numbered record texts that lines stand for, each whole or with what is wrong with it.
 use Rattle.std.specs.Prelude.{ℕ, ◌+◌, ◌<◌, nat_lt, Bool, true, false, List, [], ◌∷◌, ◌++◌, length, flat_map, Result, Ok, Err, if◌then◌else◌}
-use Rattle.cl_lines.specs.Blanks.{is_blank_text}
+use Rattle.vf_text.specs.Blanks.{is_blank_text}
 use Rattle.cl_lines.specs.Comments.{without_comment, is_continued, record_part}
-use Rattle.cl_lines.specs.Lines.{lines_of}
+use Rattle.vf_text.specs.Lines.{lines_of}
 use Rattle.cl_lines.specs.declared.fault.ClWhy.{ClWhy}
 use Rattle.cl_lines.specs.declared.fault.ClWhy.TheVariants.{LineLong, DanglingDollar}
 use Rattle.cl_lines.specs.declared.join.JoinEnd.{JoinEnd}
 use Rattle.cl_lines.specs.declared.join.JoinEnd.TheVariants.{TooLong, NoMemory}
-use Rattle.cl_lines.specs.declared.text.TheConstants.{MAX_TEXT}
+
+-- the most bytes of a record text
+abbrev pub most_text : ℕ
+most_text = 4096
+
+-- the most bytes of a cutter location text
+abbrev pub most_bytes : ℕ
+most_bytes = 67108864
 
 -- a line's number with what begins there, or with the fault that stands in its place
 abbrev pub Numbered : Type 0 → Type 0
@@ -35,7 +42,7 @@ joined_from number (line ∷ lines) =
 -- what joined lines stand for: nothing where they have only blanks, unless they are too long or dangling
 abbrev pub text_of : Joined → List (Numbered (List ℕ))
 text_of text =
-    if nat_lt MAX_TEXT (length text.bytes) then (text.line, Err LineLong) ∷ []
+    if nat_lt most_text (length text.bytes) then (text.line, Err LineLong) ∷ []
     else (if text.dangling then (text.line, Err DanglingDollar) ∷ []
     else (if is_blank_text text.bytes then [] else (text.line, Ok text.bytes) ∷ []))
 
@@ -50,7 +57,7 @@ texts_of bytes = texts_from 1 (lines_of bytes)
 -- the first of the texts is too long; want of memory is free
 abbrev pub IsTooLong : List Joined → Type 0
 IsTooLong [] = ⊥
-IsTooLong (text ∷ texts) = MAX_TEXT < length text.bytes
+IsTooLong (text ∷ texts) = most_text < length text.bytes
 
 abbrev pub JoinEnds : List Joined → JoinEnd → Type 0
 JoinEnds texts TooLong = IsTooLong texts

@@ -1,8 +1,8 @@
 ghost use Rattle.std.specs.Prelude.{◌≡◌, ◌≤◌, length};
 ghost use Rattle.cl_lines.specs.Comments.{without_comment, is_continued, record_part};
 
-use crate::line::trim_end;
 use memchr::memchr;
+use vf_text::trim_end;
 
 /// The part of a line that belongs to its record, and whether the next line goes on with it. A line without a dollar sign is
 /// all of its record.

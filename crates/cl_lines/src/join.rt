@@ -1,11 +1,11 @@
 ghost use Rattle.std.specs.Prelude.{◌≡◌, ◌+◌, ◌<◌, ◌≤◌, ◌∷◌, length, vec_len, IfOk, MatchResult};
-ghost use Rattle.cl_lines.specs.Lines.{lines_of};
-ghost use Rattle.cl_lines.specs.Texts.{joined_from, JoinEnds};
+ghost use Rattle.vf_text.specs.Lines.{lines_of};
+ghost use Rattle.cl_lines.specs.Texts.{joined_from, most_bytes, most_text, JoinEnds};
 
 use crate::comment::split_line_part;
-use crate::line::trim_line_end;
 use crate::text::MAX_TEXT;
 use vf_io::split_line;
+use vf_text::trim_line_end;
 
 /// What stands behind a record's lines: the bytes, the number of their first line, and whether the last
 /// line of the record is continued by none.
@@ -30,10 +30,10 @@ pub(crate) fn join_lines<'a>(
     room: &mut Vec<u8>,
 ) -> Result<Joined<'a>, JoinEnd>
     requires some { 0 < length bytes.now }
-    requires small { line + length bytes.now ≤ 67108865 }
+    requires small { line + length bytes.now ≤ most_bytes + 1 }
     ensures joined { MatchResult result (λ j. joined_from line (lines_of bytes.now) ≡ record { line = line; bytes = room.new.items; dangling = j.dangling } ∷ joined_from j.line (lines_of j.behind.now)) (JoinEnds (joined_from line (lines_of bytes.now))) }
-    ensures short { IfOk result (λ j. vec_len room.new ≤ MAX_TEXT) }
-    ensures small { IfOk result (λ j. j.line + length j.behind.now ≤ 67108865) }
+    ensures short { IfOk result (λ j. vec_len room.new ≤ most_text) }
+    ensures small { IfOk result (λ j. j.line + length j.behind.now ≤ most_bytes + 1) }
     ensures less { IfOk result (λ j. length j.behind.now < length bytes.now) }
 {
     room.clear();

@@ -2,18 +2,17 @@
 #![tactic(auto)]
 
 mod comment;
+mod decimal;
 mod fault;
 mod join;
-mod line;
 mod number;
 mod rounding;
 mod text;
 mod word;
 
 pub use fault::{ClEnd, ClFault, ClWhy};
-pub use line::{has_only_blanks, is_blank_byte, trim_end};
 pub use number::{NumberFault, Unit, read_length, read_scaled};
-pub use text::{Lines, MAX_BYTES, MAX_TEXT, Text};
+pub use text::{Lines, MAX_BYTES, MAX_TEXT, Text, fits};
 pub use word::Word;
 
 #[cfg(test)]

@@ -116,7 +116,7 @@ fn read(
     texts: &[(u32, &[u8])],
     fault: Option<(u32, ClWhy)>,
 ) -> Result<(), Fail> {
-    assert!(rt; bytes.len() <= MAX_BYTES);
+    assert!(rt; fits(bytes));
     let mut lines = Lines::new(alloc, bytes);
     for (line, due) in texts {
         let text = lines.next_text()?.ok_or("a text is left")?;
@@ -194,7 +194,7 @@ fn longest_texts(rt: HostRuntime) -> Result<(), Fail> {
             bytes.push(b'B')?;
         }
         bytes.extend_from_slice(end)?;
-        assert!(rt; bytes.len() <= MAX_BYTES);
+        assert!(rt; fits(&bytes));
         let mut lines = Lines::new(rt.alloc(), &bytes);
         lines.next_text()?;
         let read = lines.next_text();

@@ -1,19 +1,26 @@
-ghost use Rattle.std.specs.Prelude.{◌≡◌, ◌+◌, ◌≤◌, ◌∷◌, length, MatchResult, option_map, Ok};
-ghost use Rattle.cl_lines.specs.Lines.{lines_of};
+ghost use Rattle.std.specs.Prelude.{◌≡◌, ◌≤◌, length, nat_le, MatchResult, option_map, Ok};
+ghost use Rattle.vf_text.specs.Lines.{lines_of};
 ghost use Rattle.cl_lines.specs.Next.{next_of, Ends};
-ghost use Rattle.cl_lines.specs.Texts.{texts_of};
+ghost use Rattle.cl_lines.specs.Texts.{most_bytes, texts_of};
 
 use crate::fault::{ClEnd, ClWhy};
 use crate::join::{JoinEnd, join_lines};
-use crate::line::has_only_blanks;
 use std::alloc::Global;
 use std::marker::Model;
+use vf_text::has_only_blanks;
 
 /// The most bytes of a record text.
 pub const MAX_TEXT: usize = 4096;
 
 /// The most bytes of a cutter location text.
 pub const MAX_BYTES: usize = 67_108_864;
+
+/// Whether a text has no more bytes than a cutter location text may have.
+pub fn fits(bytes: &[u8]) -> bool
+    ensures { result ≡ nat_le (length bytes.now) most_bytes }
+{
+    bytes.len() <= MAX_BYTES
+}
 
 /// A record text with the number of the line where it begins.
 #[derive(Drop)]
@@ -32,21 +39,21 @@ pub struct Lines<'a> {
 
 impl<'a> Model for Lines<'a> {
     ghost use Rattle.std.specs.Prelude.{◌+◌, ◌≤◌, List, length};
-    ghost use Rattle.cl_lines.specs.Lines.{lines_of};
-    ghost use Rattle.cl_lines.specs.Texts.{Numbered, texts_from};
+    ghost use Rattle.vf_text.specs.Lines.{lines_of};
+    ghost use Rattle.cl_lines.specs.Texts.{Numbered, most_bytes, texts_from};
     ghost use Rattle.std.specs.Prelude.{ℕ};
 
     ghost Value = { List (Numbered (List ℕ)) };
 
     ghost view = { λ r. texts_from r.line (lines_of r.rest.now) };
 
-    ghost invariant = { λ r. r.line + length r.rest.now ≤ 67108865 };
+    ghost invariant = { λ r. r.line + length r.rest.now ≤ most_bytes + 1 };
 }
 
 impl<'a> Lines<'a> {
     /// A reader at the front of the bytes.
     pub fn new(alloc: Global, bytes: &'a [u8]) -> Lines<'a>
-        requires { length bytes.now ≤ MAX_BYTES }
+        requires { length bytes.now ≤ most_bytes }
         ensures texts { result ≡ texts_of bytes.now }
         ensures few { length result ≤ length bytes.now }
     {

@@ -1,28 +1,21 @@
 -- What one record does keeps the tool's state sound.
-use Rattle.std.specs.Prelude.{◌≡◌, ℕ, ℤ, pos, neg_ℤ, ◌≤◌, ◌+ℤ◌, ◌+◌, int_lt, ◌&&◌, not, Bool, true, false, List, [], ◌∷◌, ◌++◌, length, unsigned_abs, Option, Some, None, Result, Ok, Err, unwrap_or, IfSome, All, nat_lt, if◌then◌else◌, refl}
+use Rattle.std.specs.Prelude.{◌≡◌, ℕ, ℤ, ◌≤◌, ◌+ℤ◌, ◌+◌, ◌&&◌, Bool, true, false, List, [], ◌∷◌, ◌++◌, length, unsigned_abs, Option, Some, None, Result, Ok, Err, unwrap_or, IfSome, All, nat_lt, if◌then◌else◌, refl}
 use Rattle.std.specs.List.{list_all}
 use Rattle.std.proofs.Common.{arith, subst, sym}
-use Rattle.std.proofs.lemmas.Int.{ints, by_lt_z}
+use Rattle.std.proofs.lemmas.Bool.{leb-true}
 use Rattle.std.proofs.lemmas.List.Elements.{All-append, All-cons}
-use Rattle.space.specs.Vectors.{at}
-use Rattle.space.specs.Ranges.{IsWithin}
+use Rattle.space.specs.Ranges.{IsPoint, is_coordinate, metre}
+use Rattle.space.specs.Vectors.{are_opposite, at}
 use Rattle.cl_lines.specs.declared.fault.ClWhy.{ClWhy}
 use Rattle.cl_lines.specs.declared.fault.ClWhy.TheVariants.{NumberRange, AxisFlip, TooManyMoves}
-use Rattle.cl_records.specs.Ranges.{IsAxis, IsRecord}
+use Rattle.cl_records.specs.Ranges.{IsRecord, IsToolAxis}
 use Rattle.cl_records.specs.declared.statement.Record.{Record}
 use Rattle.cl_records.specs.declared.statement.Record.TheVariants.{Goto, From, Delta, Cutter, Multax, Units, Rapid, Fini, Passed}
-use Rattle.cl_moves.specs.Axes.{are_opposite}
 use Rattle.cl_moves.specs.Fold.{IsFold}
 use Rattle.cl_moves.specs.Moves.{IsMove}
-use Rattle.cl_moves.specs.Program.{arrived, gone_by, gone_to, is_coordinate, move_to, moved, multaxed, placed, step, sum}
+use Rattle.cl_moves.specs.Program.{arrived, gone_by, displaced, gone_to, most_moves, move_to, moved, multaxed, placed, step}
 use Rattle.cl_moves.specs.declared.fold.Fold.{Fold}
-use Rattle.cl_moves.specs.declared.moves.TheConstants.{MAX_MOVES}
-use Rattle.cl_moves.proofs.AxisLemmas.{int_lt_true, opposite_found, upright_axis}
-
-both_true : (a b : Bool) → (not a && not b) ≡ true → (a ≡ false) × (b ≡ false)
-both_true true b e = cc
-both_true false true e = cc
-both_true false false e = (refl, refl)
+use Rattle.cl_moves.proofs.AxisLemmas.{upright_axis}
 
 three_true : (a b c : Bool) → (a && (b && (c && true))) ≡ true → (a ≡ true) × (b ≡ true) × (c ≡ true)
 three_true true true true e = (refl, refl, refl)
@@ -30,18 +23,15 @@ three_true true true false e = cc
 three_true true false c e = cc
 three_true false b c e = cc
 
-given_or_kept : (axis : Option (List ℤ)) (kept : List ℤ) → IfSome axis IsAxis → IsAxis kept → IsAxis (unwrap_or axis kept)
+given_or_kept : (axis : Option (List ℤ)) (kept : List ℤ) → IfSome axis IsToolAxis → IsToolAxis kept → IsToolAxis (unwrap_or axis kept)
 given_or_kept None kept given h = h
 given_or_kept (Some axis) kept given h = given
 
-coordinate_within : (z : ℤ) → is_coordinate z ≡ true → unsigned_abs z ≤ 1000000
-coordinate_within z h =
-    let both = both_true (int_lt z (neg_ℤ (pos 1000000))) (int_lt (pos 1000000) z) h in
-    by_lt_z z (neg_ℤ (pos 1000000)) (λ low. let due = int_lt_true z (neg_ℤ (pos 1000000)) low in cc)
-    (λ low. by_lt_z (pos 1000000) z (λ high. let due = int_lt_true (pos 1000000) z high in cc) (λ high. omega (arith, ints)))
+coordinate_within : (z : ℤ) → is_coordinate z ≡ true → unsigned_abs z ≤ metre
+coordinate_within z h = leb-true (unsigned_abs z) metre h
 
-sum_within : (from by : List ℤ) → list_all is_coordinate (sum from by) ≡ true → IsWithin 1000000 (sum from by)
-sum_within from by h =
+displaced_within : (from by : List ℤ) → list_all is_coordinate (displaced from by) ≡ true → IsPoint (displaced from by)
+displaced_within from by h =
     let x = at from 0 +ℤ at by 0 in
     let y = at from 1 +ℤ at by 1 in
     let z = at from 2 +ℤ at by 2 in
@@ -56,10 +46,10 @@ given : (made next : Fold) → done made ≡ done next → IsFold made → IsFol
 given made next e h = let same : made ≡ next = cc in subst IsFold same h
 
 -- the move of a sound state to a sound position is a valid sweep
-move_sound : (line : ℕ) (from tip axis : List ℤ) (fold : Fold) → IsFold fold → IsWithin 1000000 from → IsWithin 1000000 tip → IsAxis axis
+move_sound : (line : ℕ) (from tip axis : List ℤ) (fold : Fold) → IsFold fold → IsPoint from → IsPoint tip → IsToolAxis axis
     → are_opposite fold.axis axis ≡ false → IsMove (move_to line from tip axis fold)
 move_sound line from tip axis fold h f t a o = record {
-  sweep = record { from = f; to = t; axis_from = h.axis.0; axis_to = a.0; first_axis = h.axis.1; last_axis = a.1; apart = opposite_found fold.axis axis o };
+  sweep = record { from = f; to = t; axis_from = h.axis.within; axis_to = a.within; first_axis = h.axis.some; last_axis = a.some; apart = o };
   cutter = h.cutter;
 }
 
@@ -73,11 +63,11 @@ made_is true room made next e = cc
 made_is false true made next e = (refl, cc)
 made_is false false made next e = cc
 
-moved_sound : (line : ℕ) (from tip axis : List ℤ) (fold next : Fold) → IsFold fold → IsWithin 1000000 from → IsWithin 1000000 tip → IsAxis axis
+moved_sound : (line : ℕ) (from tip axis : List ℤ) (fold next : Fold) → IsFold fold → IsPoint from → IsPoint tip → IsToolAxis axis
     → moved line from tip axis fold ≡ Ok next → IsFold next
 moved_sound line from tip axis fold next h f t a e =
     let move = move_to line from tip axis fold in
-    let made = made_is (are_opposite fold.axis axis) (nat_lt (length fold.moves) MAX_MOVES)
+    let made = made_is (are_opposite fold.axis axis) (nat_lt (length fold.moves) most_moves)
     (record (arrived tip axis fold) { moves = fold.moves ++ move ∷ [] }) next e in
     subst IsFold made.1 record {
       position = t;
@@ -86,22 +76,22 @@ moved_sound line from tip axis fold next h f t a e =
       moves = All-append IsMove fold.moves (move ∷ []) h.moves (All-cons IsMove move [] (move_sound line from tip axis fold h f t a made.0) no_moves);
     }
 
-gone_to_sound : (line : ℕ) (tip axis : List ℤ) (position : Option (List ℤ)) (fold next : Fold) → IsFold fold → IfSome position (IsWithin 1000000)
-    → IsWithin 1000000 tip → IsAxis axis → gone_to line tip axis position fold ≡ Ok next → IsFold next
+gone_to_sound : (line : ℕ) (tip axis : List ℤ) (position : Option (List ℤ)) (fold next : Fold) → IsFold fold → IfSome position IsPoint
+    → IsPoint tip → IsToolAxis axis → gone_to line tip axis position fold ≡ Ok next → IsFold next
 gone_to_sound line tip axis None fold next h p t a e =
     given (arrived tip axis fold) next e record { position = t; axis = a; cutter = h.cutter; moves = h.moves }
 gone_to_sound line tip axis (Some from) fold next h p t a e = moved_sound line from tip axis fold next h p t a e
 
-summed_sound : (inside : Bool) (line : ℕ) (by from : List ℤ) (fold next : Fold) → IsFold fold → IsWithin 1000000 from
-    → inside ≡ list_all is_coordinate (sum from by)
-    → (if inside then moved line from (sum from by) fold.axis fold else Err NumberRange) ≡ Ok next → IsFold next
-summed_sound true line by from fold next h f i e = moved_sound line from (sum from by) fold.axis fold next h f (sum_within from by (sym i)) h.axis e
+summed_sound : (inside : Bool) (line : ℕ) (by from : List ℤ) (fold next : Fold) → IsFold fold → IsPoint from
+    → inside ≡ list_all is_coordinate (displaced from by)
+    → (if inside then moved line from (displaced from by) fold.axis fold else Err NumberRange) ≡ Ok next → IsFold next
+summed_sound true line by from fold next h f i e = moved_sound line from (displaced from by) fold.axis fold next h f (displaced_within from by (sym i)) h.axis e
 summed_sound false line by from fold next h f i e = cc
 
-gone_by_sound : (line : ℕ) (by : List ℤ) (position : Option (List ℤ)) (fold next : Fold) → IsFold fold → IfSome position (IsWithin 1000000)
+gone_by_sound : (line : ℕ) (by : List ℤ) (position : Option (List ℤ)) (fold next : Fold) → IsFold fold → IfSome position IsPoint
     → gone_by line by position fold ≡ Ok next → IsFold next
 gone_by_sound line by None fold next h p e = cc
-gone_by_sound line by (Some from) fold next h p e = summed_sound (list_all is_coordinate (sum from by)) line by from fold next h p refl e
+gone_by_sound line by (Some from) fold next h p e = summed_sound (list_all is_coordinate (displaced from by)) line by from fold next h p refl e
 
 multaxed_sound : (on : Bool) (fold : Fold) → IsFold fold → IsFold (multaxed on fold)
 multaxed_sound true fold h = h

@@ -1,7 +1,9 @@
 -- One record counts for at most one that is passed over, and is one of those that are left.
 use Rattle.std.specs.Prelude.{◌≡◌, ℕ, ◌≤◌, ◌+◌, Bool, true, false, List, [], ◌∷◌, ◌++◌, length, ℤ, Option, Some, None, Result, Ok, Err, unwrap_or, nat_lt, if◌then◌else◌, refl}
 use Rattle.std.specs.List.{list_all}
-use Rattle.std.proofs.Common.{arith, ap}
+use Rattle.std.proofs.Common.{arith, ap, subst, sym, ◌∙◌}
+use Rattle.space.specs.Ranges.{is_coordinate}
+use Rattle.space.specs.Vectors.{are_opposite}
 use Rattle.cl_lines.specs.Next.{next_of}
 use Rattle.cl_lines.specs.Texts.{Numbered}
 use Rattle.cl_lines.specs.declared.fault.ClFault.{ClFault}
@@ -9,10 +11,8 @@ use Rattle.cl_lines.specs.declared.fault.ClWhy.{ClWhy}
 use Rattle.cl_lines.specs.declared.fault.ClWhy.TheVariants.{NumberRange, AxisFlip, TooManyMoves}
 use Rattle.cl_records.specs.declared.statement.Record.{Record}
 use Rattle.cl_records.specs.declared.statement.Record.TheVariants.{Goto, From, Delta, Cutter, Multax, Units, Rapid, Fini, Passed}
-use Rattle.cl_moves.specs.Axes.{are_opposite}
-use Rattle.cl_moves.specs.Program.{arrived, gone_by, gone_to, is_coordinate, move_to, moved, multaxed, placed, start, step, sum}
+use Rattle.cl_moves.specs.Program.{arrived, continued, displaced, folded, gone_by, gone_to, most_moves, move_to, moved, multaxed, placed, start, step}
 use Rattle.cl_moves.specs.declared.fold.Fold.{Fold}
-use Rattle.cl_moves.specs.declared.moves.TheConstants.{MAX_MOVES}
 
 -- the state that a record made is the one that it gives
 abbrev done : Fold → Result Fold ClWhy
@@ -29,7 +29,7 @@ made_passed false false made next e = cc
 
 moved_passed : (line : ℕ) (from tip axis : List ℤ) (fold next : Fold) → moved line from tip axis fold ≡ Ok next → fold.passed ≡ next.passed
 moved_passed line from tip axis fold next e =
-    made_passed (are_opposite fold.axis axis) (nat_lt (length fold.moves) MAX_MOVES)
+    made_passed (are_opposite fold.axis axis) (nat_lt (length fold.moves) most_moves)
     (record (arrived tip axis fold) { moves = fold.moves ++ move_to line from tip axis fold ∷ [] }) next e
 
 gone_to_passed : (line : ℕ) (tip axis : List ℤ) (position : Option (List ℤ)) (fold next : Fold)
@@ -38,14 +38,14 @@ gone_to_passed line tip axis None fold next e = same_passed (arrived tip axis fo
 gone_to_passed line tip axis (Some from) fold next e = moved_passed line from tip axis fold next e
 
 summed_passed : (inside : Bool) (line : ℕ) (by from : List ℤ) (fold next : Fold)
-    → (if inside then moved line from (sum from by) fold.axis fold else Err NumberRange) ≡ Ok next → fold.passed ≡ next.passed
-summed_passed true line by from fold next e = moved_passed line from (sum from by) fold.axis fold next e
+    → (if inside then moved line from (displaced from by) fold.axis fold else Err NumberRange) ≡ Ok next → fold.passed ≡ next.passed
+summed_passed true line by from fold next e = moved_passed line from (displaced from by) fold.axis fold next e
 summed_passed false line by from fold next e = cc
 
 gone_by_passed : (line : ℕ) (by : List ℤ) (position : Option (List ℤ)) (fold next : Fold)
     → gone_by line by position fold ≡ Ok next → fold.passed ≡ next.passed
 gone_by_passed line by None fold next e = cc
-gone_by_passed line by (Some from) fold next e = summed_passed (list_all is_coordinate (sum from by)) line by from fold next e
+gone_by_passed line by (Some from) fold next e = summed_passed (list_all is_coordinate (displaced from by)) line by from fold next e
 
 multaxed_passed : (on : Bool) (fold : Fold) → fold.passed ≡ (multaxed on fold).passed
 multaxed_passed true fold = refl
@@ -85,3 +85,19 @@ pub next_shorter : {A : Type 0} (old new : List (Numbered A)) (first : ℕ × A)
 next_shorter [] new first e = let none : false ≡ true = ap gives e in cc
 next_shorter ((number, Ok item) ∷ items) new first e = let same : items ≡ new = ap left e in omega (arith, ap length same)
 next_shorter ((number, Err why) ∷ items) new first e = cc
+
+-- the item that comes
+abbrev item_of : {A : Type 0} → ℕ × A → Result (Option (ℕ × A) × List (Numbered A)) ClFault → ℕ × A
+item_of none (Ok (Some item, items)) = item
+item_of none _ = none
+
+-- what is left behind a record that was done folds as all did that was left ahead of it
+pub folded_on : (old new : List (Numbered Record)) (first : ℕ × Record) (fold next : Fold)
+    → next_of old ≡ Ok (Some first, new) → step first.0 first.1 fold ≡ Ok next → folded new next ≡ folded old fold
+folded_on [] new first fold next e done = let none : false ≡ true = ap gives e in cc
+folded_on ((number, Ok item) ∷ items) new first fold next e done =
+    let same : items ≡ new = ap left e in
+    let here : (number, item) ≡ first = ap (item_of first) e in
+    let went : step number item fold ≡ Ok next = subst (λ (x : ℕ × Record). step x.0 x.1 fold ≡ Ok next) (sym here) done in
+    sym (ap (λ r. continued number r (folded items)) went ∙ ap (λ rest. folded rest next) same)
+folded_on ((number, Err why) ∷ items) new first fold next e done = cc

@@ -1,4 +1,4 @@
--- What every move of a program is: a valid sweep, with a cutter whose sizes make sense where it has one.
+-- What every move of a program is: a valid sweep, with a cutter that was read where it has one.
 use Rattle.std.specs.Prelude.{IfSome}
 use Rattle.space.specs.Motion.{Motion, IsSweep}
 use Rattle.cl_records.specs.Ranges.{IsCutterText}

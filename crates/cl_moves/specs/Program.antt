@@ -1,7 +1,8 @@
 -- The program that a cutter location text stands for: its records folded into moves, or its first fault.
-use Rattle.std.specs.Prelude.{◌≡◌, ℕ, ◌+◌, ℤ, pos, neg_ℤ, ◌+ℤ◌, int_lt, nat_lt, ◌&&◌, not, Bool, true, false, List, [], ◌∷◌, ◌++◌, length, unwrap_or, Option, Some, None, Result, Ok, Err, if◌then◌else◌}
+use Rattle.std.specs.Prelude.{◌≡◌, ℕ, ◌+◌, ℤ, ◌+ℤ◌, nat_lt, Bool, true, false, List, [], ◌∷◌, ◌++◌, length, unwrap_or, Option, Some, None, Result, Ok, Err, if◌then◌else◌}
 use Rattle.std.specs.List.{list_all}
-use Rattle.space.specs.Vectors.{at}
+use Rattle.space.specs.Ranges.{is_coordinate}
+use Rattle.space.specs.Vectors.{are_opposite, at}
 use Rattle.cl_lines.specs.Texts.{Numbered, texts_of}
 use Rattle.cl_lines.specs.declared.fault.ClFault.{ClFault}
 use Rattle.cl_lines.specs.declared.fault.ClEnd.{ClEnd}
@@ -12,11 +13,10 @@ use Rattle.cl_lines.specs.declared.number.Unit.TheVariants.{Mm}
 use Rattle.cl_records.specs.Records.{records_of}
 use Rattle.cl_records.specs.declared.statement.Record.{Record}
 use Rattle.cl_records.specs.declared.statement.Record.TheVariants.{Goto, From, Delta, Cutter, Multax, Units, Rapid, Fini, Passed}
-use Rattle.cl_moves.specs.Axes.{upright, are_opposite}
+use Rattle.cl_moves.specs.Axes.{upright}
 use Rattle.cl_moves.specs.declared.moves.Move.{Move}
 use Rattle.cl_moves.specs.declared.program.Program.{Program}
 use Rattle.cl_moves.specs.declared.fold.Fold.{Fold}
-use Rattle.cl_moves.specs.declared.moves.TheConstants.{MAX_MOVES}
 
 -- at the start no position is known, the axis is along z, there is no cutter, no RAPID waits, and nothing was made or passed over
 abbrev pub start : Fold
@@ -35,11 +35,15 @@ abbrev pub move_to : ℕ → List ℤ → List ℤ → List ℤ → Fold → Mov
 move_to line from tip axis fold =
     record { line = line; rapid = fold.rapid; from = from; to = tip; axis_from = fold.axis; axis_to = axis; cutter = fold.cutter }
 
+-- the most moves of a program
+abbrev pub most_moves : ℕ
+most_moves = 50000
+
 -- that move is made, unless its axes are opposite or there are as many moves as may be
 abbrev pub moved : ℕ → List ℤ → List ℤ → List ℤ → Fold → Result Fold ClWhy
 moved line from tip axis fold =
     if are_opposite fold.axis axis then Err AxisFlip
-    else (if nat_lt (length fold.moves) MAX_MOVES
+    else (if nat_lt (length fold.moves) most_moves
     then Ok (record (arrived tip axis fold) { moves = fold.moves ++ move_to line from tip axis fold ∷ [] })
     else Err TooManyMoves)
 
@@ -49,18 +53,14 @@ gone_to line tip axis None fold = Ok (arrived tip axis fold)
 gone_to line tip axis (Some from) fold = moved line from tip axis fold
 
 -- the position at a distance from another
-abbrev pub sum : List ℤ → List ℤ → List ℤ
-sum from by = (at from 0 +ℤ at by 0) ∷ (at from 1 +ℤ at by 1) ∷ (at from 2 +ℤ at by 2) ∷ []
-
--- a coordinate within a metre of the origin
-abbrev pub is_coordinate : ℤ → Bool
-is_coordinate z = not (int_lt z (neg_ℤ (pos 1000000))) && not (int_lt (pos 1000000) z)
+abbrev pub displaced : List ℤ → List ℤ → List ℤ
+displaced from by = (at from 0 +ℤ at by 0) ∷ (at from 1 +ℤ at by 1) ∷ (at from 2 +ℤ at by 2) ∷ []
 
 -- GODLTA moves by a distance from a known position, with the axis kept
 abbrev pub gone_by : ℕ → List ℤ → Option (List ℤ) → Fold → Result Fold ClWhy
 gone_by line by None fold = Err NoPosition
 gone_by line by (Some from) fold =
-    if list_all is_coordinate (sum from by) then moved line from (sum from by) fold.axis fold else Err NumberRange
+    if list_all is_coordinate (displaced from by) then moved line from (displaced from by) fold.axis fold else Err NumberRange
 
 -- MULTAX/OFF sets the axis upright and makes no move
 abbrev pub multaxed : Bool → Fold → Fold

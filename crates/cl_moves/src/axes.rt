@@ -1,8 +1,7 @@
-ghost use Rattle.std.specs.Prelude.{◌≡◌, ◌≤◌, pos, ◌*ℤ◌, int_lt, unsigned_abs, ◌&&◌};
+ghost use Rattle.std.specs.Prelude.{◌≡◌, ◌*◌, ◌≤◌, pos, ◌*ℤ◌, int_lt, unsigned_abs, ◌&&◌};
 ghost use Rattle.std.specs.Ordering.{int_eq};
-ghost use Rattle.space.specs.Vectors.{at, dot};
-ghost use Rattle.space.specs.Ranges.{IsWithin};
-ghost use Rattle.cl_moves.specs.Axes.{are_opposite};
+ghost use Rattle.space.specs.Ranges.{IsWithin, axis_unit};
+ghost use Rattle.space.specs.Vectors.{are_opposite, at, dot};
 
 /// The tool axis at the start, along z.
 pub(crate) const UPRIGHT: [i32; 3] = [0, 0, 100_000];
@@ -11,8 +10,8 @@ pub(crate) const UPRIGHT: [i32; 3] = [0, 0, 100_000];
 /// other are mostly near each other, so the scalar product is judged first.
 #[tactic(auto, using(crate::proofs::AxisLemmas::last_first))]
 pub(crate) fn are_opposite(f: &[i32; 3], t: &[i32; 3]) -> bool
-    requires first { IsWithin 100000 f.now }
-    requires last { IsWithin 100000 t.now }
+    requires first { IsWithin axis_unit f.now }
+    requires last { IsWithin axis_unit t.now }
     ensures { result ≡ are_opposite f.now t.now }
 {
     is_obtuse(f, t) && are_parallel(f, t)
@@ -20,8 +19,8 @@ pub(crate) fn are_opposite(f: &[i32; 3], t: &[i32; 3]) -> bool
 
 /// Whether the scalar product of two axes is negative.
 fn is_obtuse(f: &[i32; 3], t: &[i32; 3]) -> bool
-    requires first { IsWithin 100000 f.now }
-    requires last { IsWithin 100000 t.now }
+    requires first { IsWithin axis_unit f.now }
+    requires last { IsWithin axis_unit t.now }
     ensures { result ≡ int_lt (dot f.now t.now) (pos 0) }
 {
     scalar_product(f, t) < 0
@@ -29,8 +28,8 @@ fn is_obtuse(f: &[i32; 3], t: &[i32; 3]) -> bool
 
 /// The scalar product of two axes.
 fn scalar_product(f: &[i32; 3], t: &[i32; 3]) -> i64
-    requires first { IsWithin 100000 f.now }
-    requires last { IsWithin 100000 t.now }
+    requires first { IsWithin axis_unit f.now }
+    requires last { IsWithin axis_unit t.now }
     ensures { result ≡ dot f.now t.now }
 {
     product(f[0], t[0]) + product(f[1], t[1]) + product(f[2], t[2])
@@ -38,8 +37,8 @@ fn scalar_product(f: &[i32; 3], t: &[i32; 3]) -> i64
 
 /// Whether the cross product of two axes is zero.
 fn are_parallel(f: &[i32; 3], t: &[i32; 3]) -> bool
-    requires first { IsWithin 100000 f.now }
-    requires last { IsWithin 100000 t.now }
+    requires first { IsWithin axis_unit f.now }
+    requires last { IsWithin axis_unit t.now }
     ensures { result ≡ (int_eq (at f.now 1 *ℤ at t.now 2) (at f.now 2 *ℤ at t.now 1) && (int_eq (at f.now 2 *ℤ at t.now 0) (at f.now 0 *ℤ at t.now 2) && int_eq (at f.now 0 *ℤ at t.now 1) (at f.now 1 *ℤ at t.now 0))) }
 {
     are_equal(f[1], t[2], f[2], t[1])
@@ -49,10 +48,10 @@ fn are_parallel(f: &[i32; 3], t: &[i32; 3]) -> bool
 
 /// Whether a * b and c * d are equal.
 fn are_equal(a: i32, b: i32, c: i32, d: i32) -> bool
-    requires a { unsigned_abs a ≤ 100000 }
-    requires b { unsigned_abs b ≤ 100000 }
-    requires c { unsigned_abs c ≤ 100000 }
-    requires d { unsigned_abs d ≤ 100000 }
+    requires a { unsigned_abs a ≤ axis_unit }
+    requires b { unsigned_abs b ≤ axis_unit }
+    requires c { unsigned_abs c ≤ axis_unit }
+    requires d { unsigned_abs d ≤ axis_unit }
     ensures { result ≡ int_eq (a *ℤ b) (c *ℤ d) }
 {
     product(a, b) == product(c, d)
@@ -60,10 +59,10 @@ fn are_equal(a: i32, b: i32, c: i32, d: i32) -> bool
 
 /// The product of two components of an axis.
 fn product(a: i32, b: i32) -> i64
-    requires first { unsigned_abs a ≤ 100000 }
-    requires last { unsigned_abs b ≤ 100000 }
+    requires first { unsigned_abs a ≤ axis_unit }
+    requires last { unsigned_abs b ≤ axis_unit }
     ensures exact { result ≡ a *ℤ b }
-    ensures small { unsigned_abs result ≤ 10000000000 }
+    ensures small { unsigned_abs result ≤ axis_unit * axis_unit }
 {
     a as i64 * b as i64
 }

@@ -1,12 +1,13 @@
 ghost use Rattle.std.specs.Prelude.{◌≡◌, ◌<◌, Ok, Err, IfOk, OnOk, MatchResult};
 ghost use Rattle.space.specs.Ranges.{IsWithin};
-ghost use Rattle.cl_records.specs.Ranges.{IsAxis, IsRecord};
+ghost use Rattle.cl_records.specs.Kinds.{longest_distance};
+ghost use Rattle.cl_records.specs.Ranges.{IsRecord, IsToolAxis};
 ghost use Rattle.cl_moves.specs.Fold.{IsFold};
 ghost use Rattle.cl_moves.specs.Program.{start, placed, arrived, move_to, moved, gone_to, gone_by, multaxed, step, finished, StepEnds};
 
 use crate::axes::{UPRIGHT, are_opposite};
 use crate::moves::{MAX_MOVES, Move, Moves};
-use crate::positions::{are_within, sum};
+use crate::positions::{are_within, displaced};
 use crate::program::Program;
 use cl_lines::{ClEnd, ClWhy};
 use cl_records::{CutterText, Record};
@@ -65,8 +66,8 @@ impl Fold {
 
     /// Makes a move to a position and an axis, where a position is known, and sets both.
     fn go_to(&mut self, line: u32, tip: [i32; 3], axis: [i32; 3]) -> Result<(), ClEnd>
-        requires before { IsAxis self.old.axis }
-        requires after { IsAxis axis }
+        requires before { IsToolAxis self.old.axis }
+        requires after { IsToolAxis axis }
         ensures { MatchResult result (λ _. gone_to line tip axis self.old.position self.old ≡ Ok self.new) (StepEnds line (gone_to line tip axis self.old.position self.old)) }
     {
         match self.position {
@@ -81,13 +82,13 @@ impl Fold {
     /// Makes a move by a distance from the known position, with the axis kept.
     fn go_by(&mut self, line: u32, by: [i32; 3]) -> Result<(), ClEnd>
         requires sound { IsFold self.old }
-        requires distance { IsWithin 2000000 by }
+        requires distance { IsWithin longest_distance by }
         ensures { MatchResult result (λ _. gone_by line by self.old.position self.old ≡ Ok self.new) (StepEnds line (gone_by line by self.old.position self.old)) }
     {
         let Some(from) = self.position else {
             return Err(ClEnd::refused(line, ClWhy::NoPosition));
         };
-        let to = sum(&from, &by);
+        let to = displaced(&from, &by);
         if !are_within(&to) {
             return Err(ClEnd::refused(line, ClWhy::NumberRange));
         }
@@ -102,8 +103,8 @@ impl Fold {
         tip: [i32; 3],
         axis: [i32; 3],
     ) -> Result<(), ClEnd>
-        requires before { IsAxis self.old.axis }
-        requires after { IsAxis axis }
+        requires before { IsToolAxis self.old.axis }
+        requires after { IsToolAxis axis }
         ensures { MatchResult result (λ _. moved line from tip axis self.old ≡ Ok self.new) (StepEnds line (moved line from tip axis self.old)) }
     {
         if are_opposite(&self.axis, &axis) {

@@ -1,16 +1,17 @@
 ghost use Rattle.std.specs.Prelude.{◌≡◌, ◌≤◌, ◌+ℤ◌, unsigned_abs};
 ghost use Rattle.std.specs.List.{list_all};
-ghost use Rattle.space.specs.Ranges.{IsWithin};
-ghost use Rattle.cl_moves.specs.Program.{is_coordinate, sum};
+ghost use Rattle.space.specs.Ranges.{IsPoint, IsWithin, is_coordinate, metre};
+ghost use Rattle.cl_records.specs.Kinds.{longest_distance};
+ghost use Rattle.cl_moves.specs.Program.{displaced};
 
 /// The furthest coordinate of a position: a metre from the origin.
-const MOST: i32 = 1_000_000;
+const MOST: u32 = 1_000_000;
 
 /// The position at a distance from another.
-pub(crate) fn sum(from: &[i32; 3], by: &[i32; 3]) -> [i32; 3]
-    requires position { IsWithin 1000000 from.now }
-    requires distance { IsWithin 2000000 by.now }
-    ensures { result ≡ sum from.now by.now }
+pub(crate) fn displaced(from: &[i32; 3], by: &[i32; 3]) -> [i32; 3]
+    requires position { IsPoint from.now }
+    requires distance { IsWithin longest_distance by.now }
+    ensures { result ≡ displaced from.now by.now }
 {
     [
         plus(from[0], by[0]),
@@ -21,8 +22,8 @@ pub(crate) fn sum(from: &[i32; 3], by: &[i32; 3]) -> [i32; 3]
 
 /// A coordinate at a distance from another.
 fn plus(z: i32, by: i32) -> i32
-    requires position { unsigned_abs z ≤ 1000000 }
-    requires distance { unsigned_abs by ≤ 2000000 }
+    requires position { unsigned_abs z ≤ metre }
+    requires distance { unsigned_abs by ≤ longest_distance }
     ensures { result ≡ z +ℤ by }
 {
     z + by
@@ -39,5 +40,5 @@ pub(crate) fn are_within(p: &[i32; 3]) -> bool
 fn is_within(z: i32) -> bool
     ensures { result ≡ is_coordinate z }
 {
-    -MOST <= z && z <= MOST
+    z.unsigned_abs() <= MOST
 }

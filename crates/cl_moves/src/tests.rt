@@ -1,5 +1,5 @@
 use super::*;
-use cl_lines::{ClEnd, ClFault, ClWhy, MAX_BYTES};
+use cl_lines::{ClEnd, ClFault, ClWhy, fits};
 use std::alloc::{AllocError, Global};
 use std::test::*;
 
@@ -38,7 +38,16 @@ fn turned(line: u32, from: [i32; 3], to: [i32; 3], axis_from: [i32; 3], axis_to:
 /// The same with a cutter.
 fn cut_with(line: u32, from: [i32; 3], to: [i32; 3], d: i32, r: i32, h: Option<i32>) -> Move {
     let mut next = cut(line, from, to);
-    next.cutter = Some(CutterText { d, r, h });
+    let flank = 0;
+    next.cutter = Some(CutterText { d, r, h, flank });
+    next
+}
+
+/// The same with a conical cutter.
+fn cut_with_cone(line: u32, from: [i32; 3], to: [i32; 3], d: i32, h: i32, flank: u32) -> Move {
+    let mut next = cut(line, from, to);
+    let h = Some(h);
+    next.cutter = Some(CutterText { d, r: 0, h, flank });
     next
 }
 
@@ -47,7 +56,7 @@ fn what_each_record_does(rt: HostRuntime) -> Result<(), Fail> {
     let start = [0, 0, 0];
     let one = [1000, 0, 0];
     let two = [2000, 0, 0];
-    let rows: [(&str, &str, &[Move], u32); 29] = [
+    let rows: [(&str, &str, &[Move], u32); 30] = [
         ("no record", "", &[], 0),
         (
             "GOTO with a known position makes a move on its own line",
@@ -184,6 +193,12 @@ fn what_each_record_does(rt: HostRuntime) -> Result<(), Fail> {
             0,
         ),
         (
+            "a conical cutter, ahead of the first position",
+            "CUTTER/2,0,1,0,0,45,5\nFROM/1,0,0\nGOTO/1,0,0",
+            &[cut_with_cone(3, one, one, 2000, 5000, 45)],
+            0,
+        ),
+        (
             "MULTAX/OFF sets the axis along z and makes no move",
             "FROM/0,0,0,1,0,0\nMULTAX/OFF\nGOTO/1,0,0",
             &[cut(3, start, one)],
@@ -254,7 +269,7 @@ fn what_each_record_does(rt: HostRuntime) -> Result<(), Fail> {
         ),
     ];
     for (what, text, due, passed) in rows {
-        assert!(rt; text.len() <= MAX_BYTES);
+        assert!(rt; fits(text.as_bytes()));
         let program = read_program(rt.alloc(), text.as_bytes())?;
         assert_eq!(rt; program.moves.as_slice(), due, "{what}");
         assert_eq!(rt; program.passed, passed, "the count: {what}");
@@ -369,7 +384,7 @@ fn first_faults(rt: HostRuntime) {
         ),
     ];
     for (what, text, line, why) in rows {
-        assert!(rt; text.len() <= MAX_BYTES);
+        assert!(rt; fits(text.as_bytes()));
         let end = read_program(rt.alloc(), text.as_bytes()).err();
         assert_eq!(rt; end, Some(ClEnd::Refused(ClFault { line, why })), "{what}");
     }
@@ -389,7 +404,7 @@ fn text_of_moves(alloc: Global, count: u32, last: &str) -> Result<Vec<u8>, Alloc
 fn most_moves(rt: HostRuntime) -> Result<(), Fail> {
     for last in ["GOTO/0,0,0", "GODLTA/0,0,0"] {
         let text = text_of_moves(rt.alloc(), 49_999, last)?;
-        assert!(rt; text.len() <= MAX_BYTES);
+        assert!(rt; fits(text.as_slice()));
         let program = read_program(rt.alloc(), text.as_slice())?;
         assert_eq!(rt;
             program.moves.len(),
@@ -409,7 +424,7 @@ fn most_moves(rt: HostRuntime) -> Result<(), Fail> {
         ("GOTO/0,0,0,0,0,-1", ClWhy::AxisFlip),
     ] {
         let text = text_of_moves(rt.alloc(), 50_000, last)?;
-        assert!(rt; text.len() <= MAX_BYTES);
+        assert!(rt; fits(text.as_slice()));
         assert_eq!(rt;
             read_program(rt.alloc(), text.as_slice()).err(),
             Some(ClEnd::Refused(ClFault { line: 50_002, why })),
@@ -417,7 +432,7 @@ fn most_moves(rt: HostRuntime) -> Result<(), Fail> {
         );
     }
     let text = text_of_moves(rt.alloc(), 50_000, "FROM/1,1,1\nMULTAX\nEND\n")?;
-    assert!(rt; text.len() <= MAX_BYTES);
+    assert!(rt; fits(text.as_slice()));
     let program = read_program(rt.alloc(), text.as_slice())?;
     assert_eq!(rt;
         (program.moves.len(), program.passed),

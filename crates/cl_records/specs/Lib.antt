@@ -1,4 +1,5 @@
 pub mod Cutters
+pub mod Kinds
 pub mod Parameters
 pub mod Ranges
 pub mod Records

@@ -1,12 +1,19 @@
 -- What follows the major word: a slash and parameters between commas.
 use Rattle.std.specs.Prelude.{ℕ, ◌==◌, List, [], ◌∷◌, map, Option, Some, None, if◌then◌else◌}
 use Rattle.vf_io.specs.Pieces.{lead}
-use Rattle.cl_lines.specs.Blanks.{is_blank_text, behind_blanks, without_last_blanks}
+use Rattle.vf_text.specs.Blanks.{is_blank_text, behind_blanks, without_last_blanks}
+
+-- the byte ahead of the parameters, and the one between them
+abbrev pub slash : ℕ
+slash = 47
+
+abbrev pub comma : ℕ
+comma = 44
 
 -- the fields between the commas: one where there is no comma
 abbrev pub fields_of : List ℕ → List (List ℕ)
 fields_of [] = [] ∷ []
-fields_of (b ∷ bytes) = if b == 44 then [] ∷ fields_of bytes else lead b (fields_of bytes)
+fields_of (b ∷ bytes) = if b == comma then [] ∷ fields_of bytes else lead b (fields_of bytes)
 
 -- a field without the blanks at both its ends
 abbrev pub trimmed : List ℕ → List ℕ
@@ -19,7 +26,7 @@ split_parameters bytes = if is_blank_text bytes then [] else map trimmed (fields
 -- what stands where a slash is due: nothing, or a slash, or something else
 abbrev pub behind_slash : List ℕ → Option (List (List ℕ))
 behind_slash [] = Some []
-behind_slash (b ∷ bytes) = if b == 47 then Some (split_parameters bytes) else None
+behind_slash (b ∷ bytes) = if b == slash then Some (split_parameters bytes) else None
 
 -- the parameters of a record, by what follows its word; not known where something else than a slash follows
 abbrev pub parameters_of : List ℕ → Option (List (List ℕ))

@@ -1,8 +1,9 @@
 -- The ranges of what a record gives. Lengths are micrometres, components of an axis 1/100,000.
-use Rattle.std.specs.Prelude.{ℤ, pos, ◌≤ℤ◌, ◌*ℤ◌, List, [], ◌∷◌, IfSome}
-use Rattle.space.specs.Ranges.{IsWithin}
-use Rattle.space.proofs.Tests.{IsZero}
-use Rattle.cl_lines.specs.Numbers.{IsBetween}
+use Rattle.std.specs.Prelude.{◌≡◌, ◌≢◌, ℤ, pos, ◌≤◌, ◌≤ℤ◌, ◌*ℤ◌, unsigned_abs, true, false, List, [], ◌∷◌, IfSome, MatchOption}
+use Rattle.space.specs.Flanks.{is_flank, top_of}
+use Rattle.space.specs.Ranges.{IsBetween, IsPoint, IsWithin, axis_unit}
+use Rattle.space.specs.Vectors.{is_zero}
+use Rattle.cl_records.specs.Kinds.{longest_distance, tallest, widest}
 use Rattle.cl_records.specs.declared.cutter.CutterText.{CutterText}
 use Rattle.cl_records.specs.declared.kind.Kind.{Kind}
 use Rattle.cl_records.specs.declared.kind.Kind.TheVariants.{Length, Scaled}
@@ -22,25 +23,34 @@ AreKinds [] (value ∷ values) = ⊥
 AreKinds (kind ∷ kinds) (value ∷ values) = IsKind kind value × AreKinds kinds values
 
 -- a tool axis: components within 100,000, not all of them 0
-abbrev pub IsAxis : List ℤ → Type 0
-IsAxis axis = IsWithin 100000 axis × (¬ IsZero axis)
+pub record IsToolAxis (axis : List ℤ) : Type 0 where
+  pub within : IsWithin axis_unit axis
+  pub some : is_zero axis ≡ false
 
 -- a tip within a metre of the origin, and an axis where one is given
 pub record IsPosition (position : Position) : Type 0 where
-  pub tip : IsWithin 1000000 position.tip
-  pub axis : IfSome position.axis IsAxis
+  pub tip : IsPoint position.tip
+  pub axis : IfSome position.axis IsToolAxis
 
--- a diameter from 1 to 200,000, a corner radius of at most half of it, and a height from 1 to 300,000 where one is given
+-- a conical cutter: no corner radius, and a height with which the top diameter is within the greatest
+pub record IsCone (cutter : CutterText) : Type 0 where
+  pub sharp : cutter.r ≡ pos 0
+  pub top : MatchOption cutter.h ⊥ (λ h. top_of (unsigned_abs cutter.d) (unsigned_abs h) cutter.flank ≤ widest)
+
+-- a cutter that was read: a diameter from 1 to 200,000, a corner radius of at most half of it, a height from 1 to 300,000 where
+-- one is given, and a flank angle of the table, which isn't 0 for a cone alone
 pub record IsCutterText (cutter : CutterText) : Type 0 where
-  pub width : IsBetween (pos 1) (pos 200000) cutter.d
+  pub width : IsBetween (pos 1) (pos widest) cutter.d
   pub radius : pos 0 ≤ℤ cutter.r
   pub corner : (pos 2 *ℤ cutter.r) ≤ℤ cutter.d
-  pub height : IfSome cutter.h (IsBetween (pos 1) (pos 300000))
+  pub height : IfSome cutter.h (IsBetween (pos 1) (pos tallest))
+  pub flank : is_flank cutter.flank ≡ true
+  pub cone : cutter.flank ≢ 0 → IsCone cutter
 
 -- what a record gives lies within its ranges
 abbrev pub IsRecord : Record → Type 0
 IsRecord (Goto tip axis) = IsPosition (record { tip = tip; axis = axis })
 IsRecord (From tip axis) = IsPosition (record { tip = tip; axis = axis })
-IsRecord (Delta by) = IsWithin 2000000 by
+IsRecord (Delta by) = IsWithin longest_distance by
 IsRecord (Cutter cutter) = IsCutterText cutter
 IsRecord _ = Unit {0}

@@ -1,9 +1,9 @@
 -- The record that a text stands for, or its first fault, and the records of a list of texts.
-use Rattle.std.specs.Prelude.{ℕ, ℤ, pos, ◌==◌, ◌||◌, ◌&&◌, nat_le, Bool, true, false, List, [], ◌∷◌, length, codes, Option, Some, None, Result, Ok, Err, if◌then◌else◌}
+use Rattle.std.specs.Prelude.{ℕ, ℤ, ◌==◌, ◌||◌, ◌&&◌, nat_le, Bool, true, false, List, [], ◌∷◌, length, codes, Option, Some, None, Result, Ok, Err, if◌then◌else◌}
 use Rattle.std.specs.List.{list_all}
-use Rattle.std.specs.Ordering.{int_eq}
 use Rattle.std.specs.Str.{str_eq_ignore_ascii_case}
-use Rattle.space.specs.Vectors.{at}
+use Rattle.space.specs.Vectors.{is_zero}
+use Rattle.vf_text.specs.Blanks.{blank_space, tab}
 use Rattle.cl_lines.specs.Texts.{Numbered}
 use Rattle.cl_lines.specs.declared.fault.ClWhy.{ClWhy}
 use Rattle.cl_lines.specs.declared.fault.ClWhy.TheVariants.{BadByte, Unsupported, ParamCount, ParamWord, AxisZero}
@@ -12,10 +12,10 @@ use Rattle.cl_lines.specs.declared.number.Unit.TheVariants.{Mm, Inch}
 use Rattle.cl_lines.specs.declared.word.Word.{Word}
 use Rattle.cl_lines.specs.declared.word.Word.TheVariants as refused
 use Rattle.cl_records.specs.Cutters.{cutter_of}
+use Rattle.cl_records.specs.Kinds.{cutter_kinds, delta_count, delta_kinds, fewest_sizes, most_sizes, position_count, position_kinds, tip_count}
 use Rattle.cl_records.specs.Parameters.{parameters_of, only_of}
 use Rattle.cl_records.specs.Values.{reads_of, values_of}
 use Rattle.cl_records.specs.Words.{word_of, behind_word, major_of}
-use Rattle.cl_records.specs.declared.kind.TheConstants.{POSITION_KINDS, DELTA_KINDS, CUTTER_KINDS}
 use Rattle.cl_records.specs.declared.statement.Position.{Position}
 use Rattle.cl_records.specs.declared.statement.Record.{Record}
 use Rattle.cl_records.specs.declared.statement.Record.TheVariants as records
@@ -24,9 +24,13 @@ use Rattle.cl_records.specs.declared.word.Keyword.TheVariants as keywords
 use Rattle.cl_records.specs.declared.word.Major.{Major}
 use Rattle.cl_records.specs.declared.word.Major.TheVariants.{Read, Refused, Passed}
 
+-- the last byte that is printed
+abbrev pub tilde : ℕ
+tilde = 126
+
 -- a tab, or a byte from the space to the tilde
 abbrev pub is_plain : ℕ → Bool
-is_plain b = b == 9 || (nat_le 32 b && nat_le b 126)
+is_plain b = b == tab || (nat_le blank_space b && nat_le b tilde)
 
 -- the word parameter that a text is, whatever its case
 abbrev pub is_word : List ℕ → List ℕ → Bool
@@ -36,10 +40,6 @@ is_word text word = str_eq_ignore_ascii_case text word
 abbrev pub and_then : {A B : Type 0} → Result A ClWhy → (A → Result B ClWhy) → Result B ClWhy
 and_then (Ok x) next = next x
 and_then (Err why) next = Err why
-
--- all three components of an axis are 0
-abbrev pub is_zero : List ℤ → Bool
-is_zero axis = int_eq (at axis 0) (pos 0) && (int_eq (at axis 1) (pos 0) && int_eq (at axis 2) (pos 0))
 
 -- a tip with an axis, which isn't zero
 abbrev pub with_axis : List ℤ → List ℤ → Result Position ClWhy
@@ -54,8 +54,8 @@ position_of _ = Err ParamCount
 -- the position that three or six parameters give
 abbrev pub position_in : Unit → List (List ℕ) → Result Position ClWhy
 position_in unit parameters =
-    if length parameters == 3 || length parameters == 6
-    then and_then (values_of (reads_of unit POSITION_KINDS parameters)) position_of
+    if length parameters == tip_count || length parameters == position_count
+    then and_then (values_of (reads_of unit position_kinds parameters)) position_of
     else Err ParamCount
 
 -- the distance that three parameters give
@@ -65,13 +65,13 @@ delta_of _ = Err ParamCount
 
 abbrev pub delta_in : Unit → List (List ℕ) → Result Record ClWhy
 delta_in unit parameters =
-    if length parameters == 3 then and_then (values_of (reads_of unit DELTA_KINDS parameters)) delta_of else Err ParamCount
+    if length parameters == delta_count then and_then (values_of (reads_of unit delta_kinds parameters)) delta_of else Err ParamCount
 
 -- the cutter that one to seven parameters give
 abbrev pub cutter_in : Unit → List (List ℕ) → Result Record ClWhy
 cutter_in unit parameters =
-    if nat_le 1 (length parameters) && nat_le (length parameters) 7
-    then and_then (values_of (reads_of unit CUTTER_KINDS parameters)) (λ sizes. and_then (cutter_of sizes) (λ cutter. Ok (records.Cutter cutter)))
+    if nat_le fewest_sizes (length parameters) && nat_le (length parameters) most_sizes
+    then and_then (values_of (reads_of unit cutter_kinds parameters)) (λ sizes. and_then (cutter_of sizes) (λ cutter. Ok (records.Cutter cutter)))
     else Err ParamCount
 
 abbrev pub multax_of : List ℕ → Result Record ClWhy

@@ -1,11 +1,9 @@
-ghost use Rattle.std.specs.Prelude.{◌≡◌, ◌≤◌, ◌∷◌, [], length};
-ghost use Rattle.std.specs.List.{prefix_len};
+ghost use Rattle.std.specs.Prelude.{◌≡◌, ◌∷◌, [], length};
 ghost use Rattle.std.specs.Option.{option_map_or};
-ghost use Rattle.cl_lines.specs.Blanks.{is_blank, behind_blanks};
 ghost use Rattle.cl_records.specs.Parameters.{fields_of, trimmed};
 
-use cl_lines::{is_blank_byte, trim_end};
 use memchr::memchr;
+use vf_text::{skip_blanks, trim_end};
 
 /// The first field of a text, up to a comma, and the text behind the comma.
 pub(crate) fn split_field(text: &[u8]) -> (&[u8], Option<&[u8]>)
@@ -35,24 +33,4 @@ pub(crate) fn trim(field: &[u8]) -> &[u8]
     ensures { result.now ≡ trimmed field.now }
 {
     trim_end(skip_blanks(field))
-}
-
-/// The text without the blanks in front.
-pub(crate) fn skip_blanks(text: &[u8]) -> &[u8]
-    ensures { result.now ≡ behind_blanks text.now }
-{
-    &text[blank_len(text)..]
-}
-
-/// How many blanks stand in front.
-fn blank_len(text: &[u8]) -> usize
-    ensures count { result ≡ prefix_len is_blank text.now }
-    ensures within { result ≤ length text.now }
-{
-    for (i, b) in text.iter().enumerate() {
-        if !is_blank_byte(*b) {
-            return i;
-        }
-    }
-    text.len()
 }

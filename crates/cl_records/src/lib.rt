@@ -1,8 +1,10 @@
 //! Records of cutter location text: words, parameters, and what each stands for.
 #![tactic(auto)]
 
+mod corner;
 mod cutter;
 mod field;
+mod flank;
 mod kind;
 mod parameters;
 mod records;

@@ -1,9 +1,9 @@
 ghost use Rattle.std.specs.Prelude.{◌≡◌, ◌∷◌, [], None, Some, length, option_map, MatchOption};
 ghost use Rattle.cl_records.specs.Parameters.{only_of, parameters_of, split_parameters};
 
-use crate::field::{count_fields, skip_blanks, split_field, trim};
-use cl_lines::has_only_blanks;
+use crate::field::{count_fields, split_field, trim};
 use std::marker::Model;
+use vf_text::{has_only_blanks, skip_blanks};
 
 /// The parameters of a record that are left. They are seen as a list of texts.
 #[derive(Drop)]

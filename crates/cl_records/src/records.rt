@@ -1,12 +1,12 @@
 ghost use Rattle.std.specs.Prelude.{◌≡◌, ◌≤◌, length, IfOk, IfSome, MatchResult, Ok};
 ghost use Rattle.cl_lines.specs.Next.{next_of, Ends};
-ghost use Rattle.cl_lines.specs.Texts.{texts_of};
+ghost use Rattle.cl_lines.specs.Texts.{most_bytes, texts_of};
 ghost use Rattle.cl_lines.specs.declared.number.Unit.TheVariants.{Mm};
 ghost use Rattle.cl_records.specs.Ranges.{IsRecord};
 ghost use Rattle.cl_records.specs.Records.{records_of};
 
 use crate::statement::{Record, read_record};
-use cl_lines::{ClEnd, Lines, MAX_BYTES, Unit};
+use cl_lines::{ClEnd, Lines, Unit};
 use std::alloc::Global;
 use std::marker::Model;
 
@@ -33,7 +33,7 @@ impl<'a> Model for Records<'a> {
 impl<'a> Records<'a> {
     /// A reader at the front of the bytes.
     pub fn new(alloc: Global, bytes: &'a [u8]) -> Records<'a>
-        requires { length bytes.now ≤ MAX_BYTES }
+        requires { length bytes.now ≤ most_bytes }
         ensures records { result ≡ records_of Mm (texts_of bytes.now) }
         ensures few { length result ≤ length bytes.now }
     {

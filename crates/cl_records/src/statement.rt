@@ -1,10 +1,11 @@
 ghost use Rattle.std.specs.Prelude.{◌≡◌, IfOk};
 ghost use Rattle.std.specs.List.{list_all};
-ghost use Rattle.space.specs.Ranges.{IsWithin};
+ghost use Rattle.space.specs.Ranges.{IsPoint, IsWithin, axis_unit};
+ghost use Rattle.space.specs.Vectors.{is_zero};
+ghost use Rattle.cl_records.specs.Kinds.{delta_kinds, position_kinds};
 ghost use Rattle.cl_records.specs.Parameters.{only_of, parameters_of};
 ghost use Rattle.cl_records.specs.Ranges.{AreKinds, IsPosition, IsRecord};
-ghost use Rattle.cl_records.specs.Records.{cutter_in, delta_in, delta_of, is_cycle, is_fini, is_off, is_plain, is_zero, judged_refused, known, multax_in, multax_of, position_in, position_of, read_as, record_of, unit_behind, units_in, units_of, with_axis, with_parameters};
-ghost use Rattle.cl_records.specs.declared.kind.TheConstants.{DELTA_KINDS, POSITION_KINDS};
+ghost use Rattle.cl_records.specs.Records.{cutter_in, delta_in, delta_of, is_cycle, is_fini, is_off, is_plain, judged_refused, known, multax_in, multax_of, position_in, position_of, read_as, record_of, unit_behind, units_in, units_of, with_axis, with_parameters};
 
 use crate::cutter::{CutterText, cutter_of_sizes};
 use crate::kind::{CUTTER_KINDS, DELTA_KINDS, POSITION_KINDS};
@@ -208,7 +209,7 @@ fn read_position(unit: Unit, parameters: Parameters<'_>) -> Result<Position, ClW
 
 /// The position of three numbers, or of six.
 fn position_of(values: &[i32]) -> Result<Position, ClWhy>
-    requires { AreKinds POSITION_KINDS values.now }
+    requires { AreKinds position_kinds values.now }
     ensures position { result ≡ position_of values.now }
     ensures ranges { IfOk result IsPosition }
 {
@@ -224,8 +225,8 @@ fn position_of(values: &[i32]) -> Result<Position, ClWhy>
 
 /// A tip with an axis, unless all components of the axis are 0.
 fn with_axis(tip: [i32; 3], axis: [i32; 3]) -> Result<Position, ClWhy>
-    requires tip { IsWithin 1000000 tip }
-    requires axis { IsWithin 100000 axis }
+    requires tip { IsPoint tip }
+    requires axis { IsWithin axis_unit axis }
     ensures position { result ≡ with_axis tip axis }
     ensures ranges { IfOk result IsPosition }
 {
@@ -261,7 +262,7 @@ fn read_delta(unit: Unit, parameters: Parameters<'_>) -> Result<Record, ClWhy>
 
 /// The distance of three numbers.
 fn delta_of(values: &[i32]) -> Result<Record, ClWhy>
-    requires { AreKinds DELTA_KINDS values.now }
+    requires { AreKinds delta_kinds values.now }
     ensures record { result ≡ delta_of values.now }
     ensures ranges { IfOk result IsRecord }
 {

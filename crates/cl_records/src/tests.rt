@@ -1,5 +1,5 @@
 use super::*;
-use cl_lines::{ClEnd, ClWhy, MAX_BYTES, Unit, Word};
+use cl_lines::{ClEnd, ClWhy, Unit, Word, fits};
 use std::alloc::Global;
 use std::process::Abort;
 
@@ -12,7 +12,7 @@ fn read(
     dues: &[(u32, Record)],
     fault: Option<(u32, ClWhy)>,
 ) {
-    assert!(rt; text.len() <= MAX_BYTES);
+    assert!(rt; fits(text.as_bytes()));
     let mut records = Records::new(alloc, text.as_bytes());
     for due in dues {
         assert_eq!(rt; records.next_record(), Ok(Some(*due)), "in {text:?}");
@@ -26,9 +26,16 @@ fn read(
     }
 }
 
-/// A cutter's record.
+/// The record of a cutter whose flank is upright.
 fn cutter(d: i32, r: i32, h: Option<i32>) -> Record {
-    Record::Cutter(CutterText { d, r, h })
+    let flank = 0;
+    Record::Cutter(CutterText { d, r, h, flank })
+}
+
+/// The record of a conical cutter.
+fn cone(d: i32, h: i32, flank: u32) -> Record {
+    let h = Some(h);
+    Record::Cutter(CutterText { d, r: 0, h, flank })
 }
 
 #[test]
@@ -36,7 +43,7 @@ fn single_records(rt: HostRuntime) {
     let tip = [1000, 2000, -3000];
     let goto = Record::Goto { tip, axis: None };
     let axis = Some([0, 17_365, 98_481]);
-    let rows: [(&str, Record); 44] = [
+    let rows: [(&str, Record); 48] = [
         ("GOTO/1,2,-3", goto),
         (" goto\t/ 1 ,\t2, -3\t", goto),
         ("Goto/1e0,20E-1,-.3E+1", goto),
@@ -82,6 +89,13 @@ fn single_records(rt: HostRuntime) {
             cutter(200_000, 100_000, Some(300_000)),
         ),
         ("CUTTER/0.001,0,0,0,0,0,0.001", cutter(1, 0, Some(1))),
+        ("CUTTER/2,0,1,0,0,45,99", cone(2_000, 99_000, 45)),
+        (
+            "CUTTER/199.798,0,99.899,0,0,1,5.729",
+            cone(199_798, 5_729, 1),
+        ),
+        ("CUTTER/2,0,1,0,0,2.000004,5", cone(2_000, 5_000, 2)),
+        ("CUTTER/0.001,0.001,0,0,0,30,5", cone(1, 5_000, 30)),
         ("MULTAX", Record::Multax(true)),
         ("MULTAX/", Record::Multax(true)),
         ("Multax / on ", Record::Multax(true)),
@@ -114,7 +128,7 @@ fn single_records(rt: HostRuntime) {
 /// Each fault, and which of two stands ahead of the other in one record.
 #[test]
 fn faults(rt: HostRuntime) {
-    let rows: [(&str, ClWhy); 53] = [
+    let rows: [(&str, ClWhy); 60] = [
         ("GOTO/1,2,3\0", ClWhy::BadByte),
         ("RAPID\u{7f}", ClWhy::BadByte),
         ("FINI\r ", ClWhy::BadByte),
@@ -167,6 +181,13 @@ fn faults(rt: HostRuntime) {
         ("CUTTER/10,1,4,1.011", ClWhy::CutterShape),
         ("CUTTER/10,1,4,1,0.000005", ClWhy::CutterShape),
         ("CUTTER/10,1,4,1,0,-0.000005", ClWhy::CutterShape),
+        ("CUTTER/2,0,1,0,0,4,5", ClWhy::CutterShape),
+        ("CUTTER/2,0,1,0,0,45", ClWhy::CutterShape),
+        ("CUTTER/2,0,1,0,0,45,100", ClWhy::CutterShape),
+        ("CUTTER/199.799,0,99.9,0,0,1,5.729", ClWhy::CutterShape),
+        ("CUTTER/2,0.5,0.5,0.5,0,45,5", ClWhy::CutterShape),
+        ("CUTTER/2,0,1,0,0,-45,5", ClWhy::CutterShape),
+        ("CUTTER/2,0,1,0,45,45,5", ClWhy::CutterShape),
         ("FROM/0,0,1,0,0,0.000004", ClWhy::AxisZero),
     ];
     for (text, why) in rows {

@@ -1,4 +1,5 @@
 ghost use Rattle.std.specs.Prelude.{◌≡◌, ◌<◌, ◌≤◌, ◌++◌, ◌∷◌, [], Ok, Err, true, false, length, IfOk, MatchResult};
+ghost use Rattle.cl_records.specs.Kinds.{most_sizes};
 ghost use Rattle.cl_records.specs.Ranges.{IsKind, AreKinds};
 ghost use Rattle.cl_records.specs.Values.{values_of, reads_of, read_as_kind};
 
@@ -19,12 +20,13 @@ pub(crate) struct Values {
 
 impl Model for Values {
     ghost use Rattle.std.specs.Prelude.{ℤ, ◌≤◌, List, take};
+    ghost use Rattle.cl_records.specs.Kinds.{most_sizes};
 
     ghost Value = { List ℤ };
 
     ghost view = { λ v. take v.count v.items };
 
-    ghost invariant = { λ v. v.count ≤ 7 };
+    ghost invariant = { λ v. v.count ≤ most_sizes };
 }
 
 impl Values {
@@ -40,7 +42,7 @@ impl Values {
 
     /// Adds a number behind fewer than seven.
     fn push(&mut self, value: i32)
-        requires { length self.old < MAX_VALUES }
+        requires { length self.old < most_sizes }
         ensures { self.new ≡ self.old ++ value ∷ [] }
     {
         self.items[self.count] = value;
@@ -61,7 +63,7 @@ pub(crate) fn read_values(
     kinds: &[Kind],
     parameters: Parameters<'_>,
 ) -> Result<Values, ClWhy>
-    requires { length kinds.now ≤ MAX_VALUES }
+    requires { length kinds.now ≤ most_sizes }
     ensures values { MatchResult result (λ v. values_of (reads_of unit kinds.now parameters.entry) ≡ Ok v) (λ why. values_of (reads_of unit kinds.now parameters.entry) ≡ Err why) }
     ensures kinds { IfOk result (AreKinds kinds.now) }
 {

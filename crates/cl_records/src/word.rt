@@ -4,8 +4,8 @@ ghost use Rattle.std.specs.Str.{str_eq_ignore_ascii_case};
 ghost use Rattle.cl_lines.specs.Words.{word_name};
 ghost use Rattle.cl_records.specs.Words.{is_word_byte, word_of, behind_word, keyword_name, major_of, named};
 
-use crate::field::skip_blanks;
 use cl_lines::Word;
+use vf_text::skip_blanks;
 
 /// The major words whose records are read.
 #[derive(Clone, Copy, Debug, PartialEq, Eq)]

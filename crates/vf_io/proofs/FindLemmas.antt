@@ -14,7 +14,7 @@ use Rattle.std.proofs.lemmas.Option.{slice_get-get_or}
 use Rattle.std.specs.FinMap as finite
 use Rattle.std.proofs.lemmas.Cmp.{nat_list_cmp_total}
 use Rattle.vf_io.specs.Files.{bytes_of}
-use Rattle.vf_io.specs.Memory.{Named, contents_at, IsPlaceOf, is_absent}
+use Rattle.vf_io.specs.Memory.{FileList, contents_at, IsPlaceOf, is_absent}
 use Rattle.vf_io.specs.Reading.{TakesBytes}
 
 -- where a front of a choice is none, the test failed and the rest is none
@@ -23,7 +23,7 @@ none_parts true x later none = absurd (cc)
 none_parts false x later none = (refl, none)
 
 -- the files ahead of a place have other names, and the one at the place has the name
-pub find-at : (files : Named) (place : ℕ) (name : List ℕ) (file : List ℕ × List ℕ) → find (slice_cmp nat_cmp) name (take place files) ≡ None → slice_get files place ≡ Some file → eq_by_cmp (slice_cmp nat_cmp) name file.0 ≡ true → find (slice_cmp nat_cmp) name files ≡ Some file.1
+pub find-at : (files : FileList) (place : ℕ) (name : List ℕ) (file : List ℕ × List ℕ) → find (slice_cmp nat_cmp) name (take place files) ≡ None → slice_get files place ≡ Some file → eq_by_cmp (slice_cmp nat_cmp) name file.0 ≡ true → find (slice_cmp nat_cmp) name files ≡ Some file.1
 find-at [] place name file none here same = absurd (cc)
 find-at (first ∷ files) zero name file none here same =
     let is : first ≡ file = cc in rw is (rw same refl)
@@ -31,7 +31,7 @@ find-at (first ∷ files) (suc place) name file none here same =
     let parts = none_parts (eq_by_cmp (slice_cmp nat_cmp) name first.0) first.1 (find (slice_cmp nat_cmp) name (take place files)) none in rw parts.0 (find-at files place name file parts.1 here same)
 
 -- one more file with another name
-pub find-more : (files : Named) (place : ℕ) (name : List ℕ) (file : List ℕ × List ℕ) → find (slice_cmp nat_cmp) name (take place files) ≡ None → slice_get files place ≡ Some file → eq_by_cmp (slice_cmp nat_cmp) name file.0 ≡ false → find (slice_cmp nat_cmp) name (take (place + 1) files) ≡ None
+pub find-more : (files : FileList) (place : ℕ) (name : List ℕ) (file : List ℕ × List ℕ) → find (slice_cmp nat_cmp) name (take place files) ≡ None → slice_get files place ≡ Some file → eq_by_cmp (slice_cmp nat_cmp) name file.0 ≡ false → find (slice_cmp nat_cmp) name (take (place + 1) files) ≡ None
 find-more [] place name file none here other = absurd (cc)
 find-more (first ∷ files) zero name file none here other =
     let is : first ≡ file = cc in rw is (rw other refl)
@@ -56,7 +56,7 @@ TakesBytes-front told new buffer room n some count front rest = record {
 }
 
 -- the bytes at the place of a name are those of the name
-pub contents_at-place : (files : Named) (name : List ℕ) (place : ℕ) → IsPlaceOf files name place → contents_at files place ≡ bytes_of (finite.from_entries files) name
+pub contents_at-place : (files : FileList) (name : List ℕ) (place : ℕ) → IsPlaceOf files name place → contents_at files place ≡ bytes_of (finite.from_entries files) name
 contents_at-place files name place is = ap (λ o. unwrap_or o []) (sym is.first ∙ sym (finite.get-from_entries nat_list_cmp_total files name))
 
 -- what is left behind more bytes, where those are no more than there are
@@ -73,5 +73,5 @@ TakesBytes-next contents buffer taken later count room some small short is sum f
     TakesBytes-front (drop taken contents) (Some (drop later contents)) buffer room count some is front (ap Some rest)
 
 -- a name that has a place isn't absent
-pub is_absent-place : (files : Named) (name : List ℕ) (place : ℕ) → IsPlaceOf files name place → is_absent files name ≡ false
+pub is_absent-place : (files : FileList) (name : List ℕ) (place : ℕ) → IsPlaceOf files name place → is_absent files name ≡ false
 is_absent-place files name place is = rw (is.first, slice_get-get_or files place ([], []) is.within) refl

@@ -1,4 +1,6 @@
 pub mod PieceLemmas
 pub mod WholeLemmas
 pub mod FindLemmas
+pub mod FrontLemmas
+pub mod HoldLemmas
 pub mod ShelvedLemmas

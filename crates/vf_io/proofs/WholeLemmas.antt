@@ -1,12 +1,17 @@
 -- One more piece read of a file, and one more line put of a text.
-use Rattle.std.proofs.Common.{◌≡◌, ℕ, ◌+◌, ◌++◌, min, take, length, arith, List, [], ◌∷◌, Option, Some, None, sym, ap, ◌∙◌, append_assoc, subst}
+use Rattle.std.proofs.Common.{◌≡◌, ℕ, ◌+◌, ◌++◌, min, take, length, arith, List, [], ◌∷◌, Option, Some, None, IfSome, sym, ap, ◌∙◌, append_assoc, subst}
 use Rattle.std.proofs.lemmas.List.{flat_map_more, take-append-le, take_min}
 use Rattle.std.proofs.Math.Seq.{take-append-add}
 use Rattle.std.specs.Io.KnownBytes.{Appends}
 use Rattle.std.specs.Prelude.{flat_map}
+use Rattle.std.proofs.KnownBytes.{Appends-trans}
 use Rattle.vf_io.specs.Bytes.{AddsPieces, AppendsFront}
 use Rattle.vf_io.specs.Pieces.{pieces_of}
 use Rattle.vf_io.specs.Whole.{HasPut}
+
+-- where the bytes that were left are told, these of them were read, and what follows them is left
+abbrev pub HasRead : Option (List ℕ) → List ℕ → Option (List ℕ) → Type 0
+HasRead before read now = IfSome before (λ told. (left : List ℕ) × (now ≡ Some left) × (read ++ left ≡ told))
 
 -- Some lines of the text were put, and the rest of it is left.
 pub record PutSoFar (written_old written_new : Option (List ℕ)) (pieces_old pieces_new : Option (List (List ℕ))) (text rest : List ℕ) : Type 0 where
@@ -15,13 +20,7 @@ pub record PutSoFar (written_old written_new : Option (List ℕ)) (pieces_old pi
   pub bytes : text ≡ flat_map (λ piece. piece) whole ++ rest
   pub put : HasPut written_old written_new pieces_old pieces_new whole
 
--- told bytes that grew, and grew again
-pub Appends-append : (old mid new : Option (List ℕ)) (xs ys : List ℕ) → Appends old mid xs → Appends mid new ys → Appends old new (xs ++ ys)
-Appends-append None mid new xs ys first then = tt
-Appends-append (Some told) None new xs ys first then = absurd first
-Appends-append (Some told) (Some more) None xs ys first then = absurd then
-Appends-append (Some told) (Some more) (Some last) xs ys first then = then ∙ ap (λ front. front ++ ys) first ∙ append_assoc told xs ys
-
+-- told pieces that grew, and grew again
 pub AddsPieces-append : (old mid new : Option (List (List ℕ))) (xs ys : List (List ℕ)) → AddsPieces old mid xs → AddsPieces mid new ys → AddsPieces old new (xs ++ ys)
 AddsPieces-append None mid new xs ys first then = tt
 AddsPieces-append (Some told) mid new xs ys first then =
@@ -37,7 +36,7 @@ PutSoFar-more wo wm wn po pm pn text rest line behind so_far first whole written
   order = so_far.order ∙ ap (λ more. so_far.whole ++ more) first ∙ sym (append_assoc so_far.whole (line ∷ []) (pieces_of behind));
   bytes = so_far.bytes ∙ ap (λ more. flat_map (λ piece. piece) so_far.whole ++ more) whole ∙ sym (append_assoc (flat_map (λ piece. piece) so_far.whole) line behind) ∙ ap (λ front. front ++ behind) (flat_map_more (λ piece. piece) [] so_far.whole line);
   put = record {
-    written = subst (λ front. Appends wo wn front) (flat_map_more (λ piece. piece) [] so_far.whole line) (Appends-append wo wm wn (flat_map (λ piece. piece) so_far.whole) line so_far.put.written written);
+    written = subst (λ front. Appends wo wn front) (flat_map_more (λ piece. piece) [] so_far.whole line) (Appends-trans wo wm wn (flat_map (λ piece. piece) so_far.whole) line so_far.put.written written);
     put = AddsPieces-append po pm pn so_far.whole (line ∷ []) so_far.put.put put;
   };
 }
@@ -51,4 +50,4 @@ PutSoFar-front wo wm wn po pm text rest line behind so_far cut written =
     let line_front : take n (line ++ behind) ≡ take written.0 line = take-append-le n line behind (omega arith) ∙ take_min written.0 line in
     let front : take (length whole + n) text ≡ whole ++ take written.0 line =
     ap (λ t. take (length whole + n) t) (so_far.bytes ∙ ap (λ r. whole ++ r) cut) ∙ take-append-add whole (line ++ behind) n ∙ ap (λ f. whole ++ f) line_front in
-    (length whole + n, subst (λ (f : List ℕ). Appends wo wn f) (sym front) (Appends-append wo wm wn whole (take written.0 line) so_far.put.written written.1))
+    (length whole + n, subst (λ (f : List ℕ). Appends wo wn f) (sym front) (Appends-trans wo wm wn whole (take written.0 line) so_far.put.written written.1))

@@ -1,6 +1,7 @@
 pub mod Bytes
 pub mod Causes
 pub mod Files
+pub mod Gathered
 pub mod Memory
 pub mod Pieces
 pub mod Reading

@@ -8,8 +8,8 @@ use Rattle.std.specs.FinMap as finite
 use Rattle.vf_io.specs.Causes.{most_faults}
 
 -- names with the bytes of their files, of which the first of a name counts
-abbrev pub Named : Type 0
-Named = List (List ℕ × List ℕ)
+abbrev pub FileList : Type 0
+FileList = List (List ℕ × List ℕ)
 
 -- one more, up to the greatest number
 abbrev pub raised : ℕ → ℕ
@@ -24,7 +24,7 @@ abbrev pub faults_behind : Bool → ℕ → ℕ
 faults_behind failed before = if failed then raised before else before
 
 -- no file has the name
-abbrev pub is_absent : Named → List ℕ → Bool
+abbrev pub is_absent : FileList → List ℕ → Bool
 is_absent files name = is_none (finite.find (slice_cmp nat_cmp) name files)
 
 -- A sink in memory: what was written, its room, the numbers of the calls that fail, and how many calls and faults there were.
@@ -40,10 +40,10 @@ abbrev pub refuses : Written → List ℕ → Bool
 refuses sink piece = fails_now sink.failing sink.calls || nat_lt (sink.room - length sink.bytes) (length piece)
 
 -- The result is the place of the first file with this name, where there is one.
-pub record IsPlaceOf (files : Named) (name : List ℕ) (place : ℕ) : Type 0 where
+pub record IsPlaceOf (files : FileList) (name : List ℕ) (place : ℕ) : Type 0 where
   pub within : place < length files
   pub first : finite.find (slice_cmp nat_cmp) name files ≡ option_map (λ file. file.1) (slice_get files place)
 
 -- the bytes of the file at a place: none where no file stands there
-abbrev pub contents_at : Named → ℕ → List ℕ
+abbrev pub contents_at : FileList → ℕ → List ℕ
 contents_at files place = unwrap_or (option_map (λ file. file.1) (slice_get files place)) []

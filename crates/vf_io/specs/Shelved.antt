@@ -3,22 +3,22 @@ use Rattle.std.specs.Prelude.{ℕ, Bool, List, drop, map, Option, Some, None, St
 use Rattle.std.specs.Global.{Global}
 use Rattle.std.specs.FinMap as finite
 use Rattle.vf_io.specs.Files.{Files}
-use Rattle.vf_io.specs.Memory.{Named, contents_at, fails_now}
+use Rattle.vf_io.specs.Memory.{FileList, contents_at, fails_now}
 use Rattle.vf_io.specs.declared.memory_shelf.MemShelf.{MemShelf}
 
 -- files as they lie in memory, as their names and bytes
-abbrev pub named_of : List (String Global × Vec ℕ Global) → Named
-named_of files = map (λ file. (string_bytes file.0, file.1.items)) files
+abbrev pub listed_files : List (String Global × Vec ℕ Global) → FileList
+listed_files files = map (λ file. (string_bytes file.0, file.1.items)) files
 
 -- its files in order, of which the first of a name counts
-abbrev pub named_files : MemShelf → Named
-named_files shelf = named_of shelf.files.items
+abbrev pub file_list : MemShelf → FileList
+file_list shelf = listed_files shelf.files.items
 
 abbrev pub told_files : MemShelf → Option Files
-told_files shelf = Some (finite.from_entries (named_files shelf))
+told_files shelf = Some (finite.from_entries (file_list shelf))
 
 abbrev pub unread_bytes : MemShelf → Option (List ℕ)
-unread_bytes shelf = if shelf.is_open then Some (drop shelf.taken (contents_at (named_files shelf) shelf.file)) else None
+unread_bytes shelf = if shelf.is_open then Some (drop shelf.taken (contents_at (file_list shelf) shelf.file)) else None
 
 -- how many calls were made, up to the greatest count
 abbrev pub call_count : MemShelf → ℕ

@@ -1,13 +1,7 @@
--- A whole file read, and a whole text written, in pieces.
-use Rattle.std.specs.Prelude.{◌≡◌, ℕ, List, [], ◌∷◌, ◌++◌, Option, Some, IfSome, flat_map, take}
+-- A whole text written in pieces.
+use Rattle.std.specs.Prelude.{◌≡◌, ℕ, List, [], ◌∷◌, ◌++◌, Option, flat_map, take}
 use Rattle.std.specs.Io.KnownBytes.{Appends}
 use Rattle.vf_io.specs.Bytes.{AddsPieces}
-use Rattle.vf_io.specs.Files.{Files, bytes_of}
-
--- where the files are told, these bytes of the named one were read, and what follows them is still unread
-abbrev pub HasRead : Option Files → List ℕ → List ℕ → Option (List ℕ) → Type 0
-HasRead files name read rest =
-    IfSome files (λ told. (left : List ℕ) × (rest ≡ Some left) × (read ++ left ≡ bytes_of told name))
 
 -- These pieces, each put as one, stand behind what was written.
 pub record HasPut (written_old written_new : Option (List ℕ)) (pieces_old pieces_new : Option (List (List ℕ))) (pieces : List (List ℕ)) : Type 0 where

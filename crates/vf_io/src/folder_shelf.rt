@@ -1,14 +1,16 @@
-ghost use Rattle.std.specs.Prelude.{◌≡◌, ℕ, ◌<◌, ◌≤◌, ◌↔◌, List, None, true, false, min, is_some, length, IfOk, IfSome, OnOk, OnErr};
-ghost use Rattle.vf_io.specs.Causes.{HasCause, Rose};
-ghost use Rattle.vf_io.specs.Reading.{CountsRead};
+ghost use Rattle.std.specs.Prelude.{◌≡◌, ℕ, ◌<◌, ◌≤◌, ◌↔◌, List, None, Some, true, false, min, is_some, is_err, length, IfOk, IfSome, OnOk, OnErr, MatchResult, option_and_then};
+ghost use Rattle.vf_io.specs.Causes.{HasCause, Rose, told_failures, one_more_failure};
+ghost use Rattle.vf_io.specs.Memory.{faults_behind, raised};
+ghost use Rattle.vf_io.specs.Reading.{TakesBytes, CountsRead};
 
 use crate::answers::Failed;
+use crate::retrying::read_some;
 use crate::shelf::Shelf;
-use std::fs;
-use std::io::Read;
 use std::rt::Files;
+use std::{fs, io};
 
-/// The files below the current folder. It tells nothing of them: what the system gives is trusted.
+/// The files below the current folder. It tells of the open file what the system tells of it, which is
+/// nothing for a real one: what the system gives is trusted.
 #[derive(Drop)]
 pub struct FolderShelf<'a, R: Files> {
     rt: &'a R,
@@ -29,11 +31,27 @@ impl<'a, R: Files> FolderShelf<'a, R> {
         }
     }
 
+    /// Holds the file that the system opened, or counts that it opened none.
+    fn hold(&mut self, opened: io::Result<R::File>) -> Result<(), Failed>
+        ensures answer { is_err result ≡ is_err opened }
+        ensures held { MatchResult opened (λ file. self.new.file ≡ Some file) (λ _. self.new.file ≡ None) }
+        ensures counted { self.new.faults ≡ faults_behind (is_err result) self.old.faults }
+        ensures later { self.old.faults ≤ self.new.faults }
+    {
+        match opened {
+            Ok(file) => {
+                self.file = Some(file);
+                Ok(())
+            }
+            Err(_) => Err(self.fail()),
+        }
+    }
+
     /// Counts a fault, after which no file is open.
     fn fail(&mut self) -> Failed
-        ensures closed { is_some self.new.file ≡ false }
+        ensures closed { self.new.file ≡ None }
+        ensures counted { self.new.faults ≡ raised self.old.faults }
         ensures later { self.old.faults ≤ self.new.faults }
-        ensures rose { Rose self.old.faults self.new.faults }
     {
         self.faults = self.faults.saturating_add(1);
         self.file = None;
@@ -46,29 +64,26 @@ impl<'a, R: Files> Shelf for FolderShelf<'a, R> {
 
     ghost is_open = { λ s. is_some s.file };
 
-    ghost rest = { λ _. None };
+    ghost rest = { λ s. option_and_then R.File.remaining s.file };
 
     ghost faults = { λ s. s.faults };
+
+    ghost failures = { λ s. told_failures s.faults };
 
     ghost reads = { λ _. 0 };
 
     ghost allows = { λ _ _. Unit {0} };
 
     fn open(&mut self, name: &str) -> Result<(), Failed> {
-        match fs::open(self.rt, name) {
-            Ok(file) => {
-                self.file = Some(file);
-                Ok(())
-            }
-            Err(_) => Err(self.fail()),
-        }
+        let opened = fs::open(self.rt, name);
+        self.hold(opened)
     }
 
     fn next(&mut self, buffer: &mut [u8]) -> Result<usize, Failed> {
         let Some(file) = &mut self.file else {
             return Ok(0);
         };
-        match file.read(buffer) {
+        match read_some(file, buffer) {
             Ok(count) => Ok(count),
             Err(_) => Err(self.fail()),
         }

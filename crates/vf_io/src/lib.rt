@@ -6,6 +6,7 @@ mod folder_shelf;
 mod memory_shelf;
 mod memory_sink;
 mod pieces;
+mod retrying;
 mod shelf;
 mod sink;
 mod standard_sink;

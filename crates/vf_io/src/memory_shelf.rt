@@ -2,11 +2,11 @@ ghost use Rattle.std.specs.Prelude.{◌≡◌, ℕ, ◌<◌, ◌≤◌, ◌↔�
 ghost use Rattle.std.specs.Ordering.{nat_cmp};
 ghost use Rattle.std.specs.Cmp.Lexicographic.{slice_cmp};
 ghost use Rattle.std.specs.FinMap.{find};
-ghost use Rattle.vf_io.specs.Causes.{HasCause};
+ghost use Rattle.vf_io.specs.Causes.{HasCause, told_failures, one_more_failure};
 ghost use Rattle.vf_io.specs.Files.{bytes_of};
 ghost use Rattle.vf_io.specs.Memory.{IsPlaceOf, contents_at, raised, faults_behind, is_absent};
 ghost use Rattle.vf_io.specs.Reading.{TakesBytes, CountsRead};
-ghost use Rattle.vf_io.specs.Shelved.{named_of, named_files, told_files, unread_bytes, call_count, fault_count, failing_calls, fails_next};
+ghost use Rattle.vf_io.specs.Shelved.{listed_files, file_list, told_files, unread_bytes, call_count, fault_count, failing_calls, fails_next};
 
 use crate::answers::Failed;
 use crate::shelf::Shelf;
@@ -28,7 +28,7 @@ impl MemShelf {
     /// A shelf of these files. The calls with these numbers, counted from 0 over `open` and `next`
     /// together, fail. Of two files with one name the first counts.
     pub fn new(files: Vec<(String, Vec<u8>)>, failing: Vec<u64>) -> MemShelf
-        ensures files { named_files result ≡ named_of files.items }
+        ensures files { file_list result ≡ listed_files files.items }
         ensures failing { failing_calls result ≡ failing.items }
         ensures counts { (call_count result ≡ 0) × (fault_count result ≡ 0) }
         ensures closed { unread_bytes result ≡ None }
@@ -91,6 +91,8 @@ impl Shelf for MemShelf {
 
     ghost faults = { fault_count };
 
+    ghost failures = { λ s. told_failures (fault_count s) };
+
     ghost reads = { λ _. 0 };
 
     ghost allows = { λ _ _. Unit {0} };
@@ -99,12 +101,14 @@ impl Shelf for MemShelf {
         ensures opened { OnOk result (is_some (unread_bytes self.new) ≡ true) }
         ensures rest { OnOk result (IfSome (told_files self.old) (λ told. unread_bytes self.new ≡ Some (bytes_of told name.now))) }
         ensures closed { OnErr result (is_some (unread_bytes self.new) ≡ false) }
-        ensures failed { is_err result ≡ (fails_next self.old || is_absent (named_files self.old) name.now) }
+        ensures failed { is_err result ≡ (fails_next self.old || is_absent (file_list self.old) name.now) }
         ensures files { told_files self.new ≡ told_files self.old }
-        ensures kept { (named_files self.new ≡ named_files self.old) × (failing_calls self.new ≡ failing_calls self.old) }
+        ensures kept { (file_list self.new ≡ file_list self.old) × (failing_calls self.new ≡ failing_calls self.old) }
         ensures counted { call_count self.new ≡ raised (call_count self.old) }
         ensures fault { fault_count self.new ≡ faults_behind (is_err result) (fault_count self.old) }
         ensures cause { HasCause (fault_count self.old) (fault_count self.new) result }
+        ensures calm { OnOk result (told_failures (fault_count self.new) ≡ told_failures (fault_count self.old)) }
+        ensures failure { OnErr result (told_failures (fault_count self.new) ≡ one_more_failure (told_failures (fault_count self.old))) }
         ensures reads { 0 ≤ 0 }
         ensures allows { (n : List ℕ) → Unit {0} ↔ Unit {0} }
     {
@@ -128,10 +132,12 @@ impl Shelf for MemShelf {
         ensures closed { OnErr result (is_some (unread_bytes self.new) ≡ false) }
         ensures failed { is_err result ≡ fails_next self.old }
         ensures files { told_files self.new ≡ told_files self.old }
-        ensures kept { (named_files self.new ≡ named_files self.old) × (failing_calls self.new ≡ failing_calls self.old) }
+        ensures kept { (file_list self.new ≡ file_list self.old) × (failing_calls self.new ≡ failing_calls self.old) }
         ensures counted { call_count self.new ≡ raised (call_count self.old) }
         ensures fault { fault_count self.new ≡ faults_behind (is_err result) (fault_count self.old) }
         ensures cause { HasCause (fault_count self.old) (fault_count self.new) result }
+        ensures calm { OnOk result (told_failures (fault_count self.new) ≡ told_failures (fault_count self.old)) }
+        ensures failure { OnErr result (told_failures (fault_count self.new) ≡ one_more_failure (told_failures (fault_count self.old))) }
         ensures reads { CountsRead 0 0 result }
         ensures allows { (n : List ℕ) → Unit {0} ↔ Unit {0} }
     {
@@ -150,7 +156,7 @@ impl Shelf for MemShelf {
 
 /// The place of the first file with the name.
 fn place_of(files: &[(String, Vec<u8>)], name: &str) -> Option<usize>
-    ensures { MatchOption result (find (slice_cmp nat_cmp) name.now (named_of files.now) ≡ None) (λ i. IsPlaceOf (named_of files.now) name.now i) }
+    ensures { MatchOption result (find (slice_cmp nat_cmp) name.now (listed_files files.now) ≡ None) (λ i. IsPlaceOf (listed_files files.now) name.now i) }
 {
     for (place, file) in files.iter().enumerate() {
         if file.0.as_str() == name {
@@ -162,7 +168,7 @@ fn place_of(files: &[(String, Vec<u8>)], name: &str) -> Option<usize>
 
 /// The bytes of the file at a place.
 fn contents(files: &[(String, Vec<u8>)], place: usize) -> &[u8]
-    ensures bytes { result.now ≡ contents_at (named_of files.now) place }
+    ensures bytes { result.now ≡ contents_at (listed_files files.now) place }
     ensures small { length result.now < 2 ^ 64 }
 {
     match files.get(place) {

@@ -16,6 +16,3 @@ pub fn split_line(text: &[u8]) -> (&[u8], &[u8])
     };
     text.split_at(len)
 }
-
-#[cfg(test)]
-mod tests;

@@ -1,5 +1,5 @@
-ghost use Rattle.std.specs.Prelude.{◌≡◌, ℕ, ◌<◌, ◌≤◌, ◌↔◌, List, Option, Some, Bool, true, false, length, IfOk, IfSome, OnOk, OnErr};
-ghost use Rattle.vf_io.specs.Causes.{HasCause};
+ghost use Rattle.std.specs.Prelude.{◌≡◌, ℕ, ◌<◌, ◌≤◌, ◌↔◌, List, Option, Some, None, Bool, true, false, length, IfOk, IfSome, OnOk, OnErr};
+ghost use Rattle.vf_io.specs.Causes.{HasCause, one_more_failure};
 ghost use Rattle.vf_io.specs.Files.{Files, bytes_of};
 ghost use Rattle.vf_io.specs.Reading.{TakesBytes, CountsRead};
 
@@ -19,6 +19,10 @@ pub trait Shelf {
     // How many calls failed, up to the greatest count.
     ghost faults: { Self → ℕ };
 
+    // How many calls failed, where the shelf tells it: a failed call raises it by one, and no other call
+    // changes it.
+    ghost failures: { Self → Option ℕ } = { λ _. None };
+
     // A count that no read raises by more than one, and only a read that took bytes.
     ghost reads: { Self → ℕ };
 
@@ -34,6 +38,8 @@ pub trait Shelf {
         ensures closed { OnErr result (is_open self.new ≡ false) }
         ensures files { files self.new ≡ files self.old }
         ensures cause { HasCause (faults self.old) (faults self.new) result }
+        ensures calm { OnOk result (failures self.new ≡ failures self.old) }
+        ensures failure { OnErr result (failures self.new ≡ one_more_failure (failures self.old)) }
         ensures reads { reads self.new ≤ reads self.old }
         ensures allows { (n : List ℕ) → allows self.old n ↔ allows self.new n };
 
@@ -48,6 +54,8 @@ pub trait Shelf {
         ensures closed { OnErr result (is_open self.new ≡ false) }
         ensures files { files self.new ≡ files self.old }
         ensures cause { HasCause (faults self.old) (faults self.new) result }
+        ensures calm { OnOk result (failures self.new ≡ failures self.old) }
+        ensures failure { OnErr result (failures self.new ≡ one_more_failure (failures self.old)) }
         ensures reads { CountsRead (reads self.old) (reads self.new) result }
         ensures allows { (n : List ℕ) → allows self.old n ↔ allows self.new n };
 }

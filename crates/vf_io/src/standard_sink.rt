@@ -1,29 +1,35 @@
-ghost use Rattle.std.specs.Prelude.{◌≡◌, ◌≤◌, None, IfOk, OnErr};
-ghost use Rattle.vf_io.specs.Causes.{Rose};
+ghost use Rattle.std.specs.Prelude.{◌≡◌, ◌≤◌, ◌∷◌, [], ℕ, ◌<◌, None, length, IfOk, OnOk, OnErr};
+ghost use Rattle.std.specs.Io.KnownBytes.{Appends, Keeps};
+ghost use Rattle.vf_io.specs.Bytes.{AppendsFront, AddsPieces};
+ghost use Rattle.vf_io.specs.Causes.{HasCause, Rose};
+ghost use Rattle.vf_io.specs.Gathered.{gathered_bytes, taken_bytes};
 
 use crate::answers::{Failed, NoMemory};
+use crate::retrying::write_whole;
 use crate::sink::Sink;
 use std::alloc::Global;
-use std::io;
-use std::io::{BufWriter, Printer, Write};
+use std::io::{BufWriter, Write};
 
-/// The bytes that are gathered before standard output gets them.
+/// The bytes that are gathered before the writer gets them.
 const GATHERED: usize = 65536;
 
-/// Standard output. It gathers lines and tells nothing of what was written: what the system takes is
-/// trusted. `flush` hands on what is still gathered.
+/// A sink over a writer, as standard output is. It gathers lines, and tells what the writer tells, which
+/// is nothing for standard output: what the system takes is trusted. `flush` hands on what is still
+/// gathered.
 #[derive(Drop)]
-pub struct StdSink<'a, R: Print> {
-    writer: BufWriter<Printer<'a, R>>,
+pub struct StdSink<W: Write + Drop> {
+    writer: BufWriter<W>,
     faults: u64,
 }
 
-impl<'a, R: Print> StdSink<'a, R> {
-    /// The sink that writes to standard output.
-    pub fn new(alloc: Global, rt: &'a R) -> Result<StdSink<'a, R>, NoMemory>
-        ensures { IfOk result (λ sink. ⟦<StdSink<'a, R> as Sink>⟧.faults sink ≡ 0) }
+impl<W: Write + Drop> StdSink<W> {
+    /// The sink that writes to this output.
+    pub fn new(alloc: Global, output: W) -> Result<StdSink<W>, NoMemory>
+        ensures counts { IfOk result (λ sink. ⟦<StdSink<W> as Sink>⟧.faults sink ≡ 0) }
+        ensures written { IfOk result (λ sink. Keeps (W.contents output) (taken_bytes W.contents sink)) }
+        ensures empty { IfOk result (λ sink. gathered_bytes sink ≡ []) }
     {
-        match BufWriter::with_capacity(alloc, GATHERED, io::writer(rt)) {
+        match BufWriter::with_capacity(alloc, GATHERED, output) {
             Ok(writer) => Ok(StdSink { writer, faults: 0 }),
             Err(_) => Err(NoMemory),
         }
@@ -31,8 +37,9 @@ impl<'a, R: Print> StdSink<'a, R> {
 
     /// Hands on what is still gathered.
     pub fn flush(&mut self) -> Result<(), Failed>
-        ensures later { self.old.faults ≤ self.new.faults }
-        ensures rose { OnErr result (Rose self.old.faults self.new.faults) }
+        ensures written { Keeps (taken_bytes W.contents self.old) (taken_bytes W.contents self.new) }
+        ensures empty { OnOk result (gathered_bytes self.new ≡ []) }
+        ensures cause { HasCause self.old.faults self.new.faults result }
     {
         match self.writer.flush() {
             Ok(()) => Ok(()),
@@ -42,6 +49,7 @@ impl<'a, R: Print> StdSink<'a, R> {
 
     /// Counts a fault.
     fn fail(&mut self) -> Failed
+        ensures kept { self.new.writer ≡ self.old.writer }
         ensures later { self.old.faults ≤ self.new.faults }
         ensures rose { Rose self.old.faults self.new.faults }
     {
@@ -50,14 +58,13 @@ impl<'a, R: Print> StdSink<'a, R> {
     }
 }
 
-impl<'a, R: Print> Sink for StdSink<'a, R> {
-    ghost written = { λ _. None };
+impl<W: Write + Drop> Sink for StdSink<W> {
+    ghost written = { taken_bytes W.contents };
 
     ghost faults = { λ s. s.faults };
 
-    // A write that takes nothing counts as a failure, as `write_all` has it.
     fn put(&mut self, bytes: &[u8]) -> Result<(), Failed> {
-        match self.writer.write_all(bytes) {
+        match write_whole(&mut self.writer, bytes) {
             Ok(()) => Ok(()),
             Err(_) => Err(self.fail()),
         }

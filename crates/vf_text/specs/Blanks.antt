@@ -2,9 +2,16 @@
 use Rattle.std.specs.Prelude.{ℕ, ◌==◌, ◌||◌, Bool, List, [], ◌∷◌, drop, if◌then◌else◌}
 use Rattle.std.specs.List.{list_all, prefix_len}
 
+-- the byte of a space
+abbrev pub blank_space : ℕ
+blank_space = 32
+
+abbrev pub tab : ℕ
+tab = 9
+
 -- a space or a tab
 abbrev pub is_blank : ℕ → Bool
-is_blank b = b == 32 || b == 9
+is_blank b = b == blank_space || b == tab
 
 -- the text is empty or has only blanks
 abbrev pub is_blank_text : List ℕ → Bool

@@ -7,10 +7,14 @@ use Rattle.std.specs.List.{list_all, prefix_len}
 abbrev pub digits_of : List ℕ → List ℕ × List ℕ
 digits_of bytes = (take (prefix_len is_ascii_digit bytes) bytes, drop (prefix_len is_ascii_digit bytes) bytes)
 
+-- the byte of the digit 0, behind which the other digits stand
+abbrev pub digit_zero : ℕ
+digit_zero = 48
+
 -- the number that these digits spell behind those of n
 abbrev pub spelt : ℕ → List ℕ → ℕ
 spelt n [] = n
-spelt n (d ∷ digits) = spelt (10 * n + (d - 48)) digits
+spelt n (d ∷ digits) = spelt (10 * n + (d - digit_zero)) digits
 
 -- the most digits of a count: so many fit in 32 bits, whatever they are
 abbrev pub count_digits : ℕ

@@ -1,35 +1,54 @@
 use super::*;
+use std::alloc::Global;
 use std::test::Fail;
+
+/// Each call in order: the name that is opened, or none for a read, and the bytes that are due.
+const CALLS: [(&str, Option<&str>, Result<&str, Failed>); 12] = [
+    ("no file is open at first", None, Ok("")),
+    ("call 1 opens the first of a name", Some("part"), Ok("")),
+    ("its front", None, Ok("FROM")),
+    ("its middle", None, Ok("/0,0")),
+    ("another in place of the open one", Some("last"), Ok("")),
+    ("call 5 fails by its number", None, Err(Failed)),
+    ("closed by the failure", None, Ok("")),
+    ("open again", Some("last"), Ok("")),
+    ("from its first byte", None, Ok("FINI")),
+    ("at its end", None, Ok("")),
+    ("an absent name", Some("absent"), Err(Failed)),
+    ("closed by the absent name", None, Ok("")),
+];
+
+fn shelf_of(alloc: Global) -> Result<MemShelf, Fail> {
+    let mut files = Vec::new(alloc);
+    for (name, bytes) in [("part", "FROM/0,0,1"), ("part", "FINI"), ("last", "FINI")] {
+        files.push((name.to_string(alloc)?, bytes.as_bytes().to_vec(alloc)?))?;
+    }
+    Ok(MemShelf::new(files, [5].to_vec(alloc)?))
+}
+
+/// The bytes that a call gave: none for one that opens.
+fn call<'a>(
+    shelf: &mut MemShelf,
+    name: Option<&str>,
+    buffer: &'a mut [u8; 4],
+) -> Result<&'a [u8], Failed> {
+    let count = match name {
+        Some(name) => shelf.open(name).map(|_| 0)?,
+        None => shelf.next(buffer)?,
+    };
+    Ok(buffer.get(..count).unwrap_or(&[]))
+}
 
 #[test]
 fn takes_a_file_in_pieces(rt: HostRuntime) -> Result<(), Fail> {
-    let mut files = Vec::new(rt.alloc());
-    files.push((
-        "part".to_string(rt.alloc())?,
-        b"FROM/0,0,1".to_vec(rt.alloc())?,
-    ))?;
-    files.push(("part".to_string(rt.alloc())?, b"FINI".to_vec(rt.alloc())?))?;
-    files.push(("last".to_string(rt.alloc())?, b"FINI".to_vec(rt.alloc())?))?;
-    let mut shelf = MemShelf::new(files, [5].to_vec(rt.alloc())?);
+    let mut shelf = shelf_of(rt.alloc())?;
     let mut buffer = [0u8; 4];
-
-    assert_eq!(rt; shelf.next(&mut buffer), Ok(0), "no file is open at first");
-    assert_eq!(rt; shelf.open("part"), Ok(()), "call 1");
-    for (about, want) in [("front", "FROM"), ("middle", "/0,0")] {
-        assert_eq!(rt; shelf.next(&mut buffer), Ok(4), "{about}");
-        assert_eq!(rt; buffer.as_slice(), want.as_bytes(), "{about}");
+    for (about, name, want) in CALLS {
+        assert_eq!(rt;
+            call(&mut shelf, name, &mut buffer),
+            want.map(|text| text.as_bytes()),
+            "{about}"
+        );
     }
-    assert_eq!(rt; shelf.open("last"), Ok(()), "in place of the open one");
-    assert_eq!(rt; shelf.next(&mut buffer), Err(Failed), "call 5");
-    assert_eq!(rt; shelf.next(&mut buffer), Ok(0), "closed by the failure");
-    assert_eq!(rt; shelf.open("last"), Ok(()), "open again");
-    assert_eq!(rt; shelf.next(&mut buffer), Ok(4), "from its first byte");
-    assert_eq!(rt;
-        buffer.as_slice(),
-        b"FINI".as_slice(),
-        "from its first byte"
-    );
-    assert_eq!(rt; shelf.open("absent"), Err(Failed), "an absent name");
-    assert_eq!(rt; shelf.next(&mut buffer), Ok(0), "closed by the absent name");
     Ok(())
 }

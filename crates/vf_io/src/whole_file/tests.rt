@@ -1,5 +1,5 @@
 ghost use Rattle.std.specs.Prelude.{◌≡◌, ◌<◌, ◌≤◌, ◌↔◌, ◌+◌, List, ℕ, None, true, false, length, is_some, IfOk, IfSome, OnOk, OnErr};
-ghost use Rattle.vf_io.specs.Causes.{HasCause};
+ghost use Rattle.vf_io.specs.Causes.{HasCause, one_more_failure};
 ghost use Rattle.vf_io.specs.Files.{bytes_of};
 ghost use Rattle.vf_io.specs.Reading.{TakesBytes, CountsRead};
 
@@ -11,147 +11,107 @@ use std::test::Fail;
 /// More than two buffers of bytes.
 const LONG: u32 = 150_000;
 
-const PART: &[u8] = b"CUTTER/2,0\nFINI\n";
+const PART: &str = "CUTTER/2,0\nFINI\n";
 
-/// The byte at a place of the long file: no period of a buffer's length hides an exchange of pieces.
-fn long_byte(place: u32) -> u8 {
-    (place % 251) as u8
-}
-
+/// The bytes of the long file: no period of a buffer's length hides an exchange of pieces.
 fn long_file(alloc: Global) -> Result<Vec<u8>, Fail> {
     let mut bytes = Vec::with_capacity(alloc, LONG as usize)?;
     for place in 0..LONG {
-        bytes.push(long_byte(place))?;
+        bytes.push((place % 251) as u8)?;
     }
     Ok(bytes)
 }
 
-/// A shelf with an empty file, two of one name, and a long one.
+/// A shelf with an empty file, two of one name, and a long one, of whose calls some fail.
 fn shelf_of(alloc: Global, failing: &[u64]) -> Result<MemShelf, Fail> {
     let mut files = Vec::new(alloc);
-    files.push(("empty".to_string(alloc)?, Vec::new(alloc)))?;
-    files.push(("part".to_string(alloc)?, PART.to_vec(alloc)?))?;
-    files.push(("part".to_string(alloc)?, b"another part".to_vec(alloc)?))?;
+    for (name, bytes) in [("empty", ""), ("part", PART), ("part", "another part")] {
+        files.push((name.to_string(alloc)?, bytes.as_bytes().to_vec(alloc)?))?;
+    }
     files.push(("long".to_string(alloc)?, long_file(alloc)?))?;
     Ok(MemShelf::new(files, failing.to_vec(alloc)?))
 }
 
-/// The answer is the want, compared by value.
-fn is_same(got: &Result<Vec<u8>, ReadEnd>, want: Result<&[u8], ReadEnd>) -> bool {
-    match (got, want) {
-        (Ok(bytes), Ok(wanted)) => bytes.as_slice() == wanted,
-        (Err(end), Err(wanted)) => *end == wanted,
-        _ => false,
+/// Whether the answer has these bytes, or is this end.
+fn is_same(got: &Result<Vec<u8>, ReadEnd>, bytes: &[u8], end: Option<ReadEnd>) -> bool {
+    match got {
+        Ok(read) => end.is_none() && read.as_slice() == bytes,
+        Err(other) => end == Some(*other),
     }
 }
+
+/// Whether a read of a file gives what is due. After a failure no file is open, and the next read of
+/// one that is there gives its bytes.
+fn is_read(
+    alloc: Global,
+    name: &str,
+    limit: u32,
+    failing: u64,
+    bytes: &[u8],
+    end: Option<ReadEnd>,
+) -> Result<bool, Fail> {
+    let mut shelf = shelf_of(alloc, &[failing])?;
+    let got = read_all(alloc, &mut shelf, name, limit);
+    if !is_same(&got, bytes, end) {
+        return Ok(false);
+    }
+    if end != Some(ReadEnd::Failed) || bytes.is_empty() {
+        return Ok(true);
+    }
+    if shelf.next(&mut [0u8; 8]) != Ok(0) {
+        return Ok(false);
+    }
+    let again = read_all(alloc, &mut shelf, name, limit);
+    Ok(is_same(&again, bytes, None))
+}
+
+/// The name, the limit, the bytes of the file, and the end, where it isn't read.
+const FILES: [(&str, u32, &str, Option<ReadEnd>); 7] = [
+    ("empty", 0, "", None),
+    ("part", 100, PART, None),
+    ("parts", 100, "", Some(ReadEnd::Failed)),
+    ("", 100, "", Some(ReadEnd::Failed)),
+    ("part", 16, PART, None),
+    ("part", 15, PART, Some(ReadEnd::TooLong)),
+    ("part", 0, PART, Some(ReadEnd::TooLong)),
+];
+
+/// The limit for the long file, the number of the call that fails, and the end, where it isn't read.
+const LIMITS: [(u32, u64, Option<ReadEnd>); 10] = [
+    (LONG, 9, None),
+    (149_999, 9, Some(ReadEnd::TooLong)),
+    (65_536, 9, Some(ReadEnd::TooLong)),
+    (65_535, 9, Some(ReadEnd::TooLong)),
+    (LONG, 0, Some(ReadEnd::Failed)),
+    (LONG, 1, Some(ReadEnd::Failed)),
+    (LONG, 2, Some(ReadEnd::Failed)),
+    (LONG, 3, Some(ReadEnd::Failed)),
+    (LONG, 4, Some(ReadEnd::Failed)),
+    (LONG, 5, None),
+];
 
 #[test]
 fn reads_a_file_or_says_why_not(rt: HostRuntime) -> Result<(), Fail> {
-    let long = long_file(rt.alloc())?;
-    let whole: &[u8] = long.as_slice();
-    let rows: [(&str, &str, u32, &[u64], Result<&[u8], ReadEnd>); 17] = [
-        ("an empty file", "empty", 0, &[], Ok(b"")),
-        ("the first of one name", "part", 100, &[], Ok(PART)),
-        ("an absent name", "parts", 100, &[], Err(ReadEnd::Failed)),
-        ("an empty name", "", 100, &[], Err(ReadEnd::Failed)),
-        ("as long as the limit", "part", 16, &[], Ok(PART)),
-        ("one byte above", "part", 15, &[], Err(ReadEnd::TooLong)),
-        ("a limit of none", "part", 0, &[], Err(ReadEnd::TooLong)),
-        ("more than a buffer", "long", LONG, &[], Ok(whole)),
-        (
-            "long, one byte above",
-            "long",
-            149_999,
-            &[],
-            Err(ReadEnd::TooLong),
-        ),
-        (
-            "above in the first piece",
-            "long",
-            65_535,
-            &[],
-            Err(ReadEnd::TooLong),
-        ),
-        (
-            "above in the second piece",
-            "long",
-            65_536,
-            &[],
-            Err(ReadEnd::TooLong),
-        ),
-        ("open fails", "long", LONG, &[0], Err(ReadEnd::Failed)),
-        (
-            "the first read fails",
-            "long",
-            LONG,
-            &[1],
-            Err(ReadEnd::Failed),
-        ),
-        (
-            "a read in mid-stream fails",
-            "long",
-            LONG,
-            &[2],
-            Err(ReadEnd::Failed),
-        ),
-        (
-            "the last piece fails",
-            "long",
-            LONG,
-            &[3],
-            Err(ReadEnd::Failed),
-        ),
-        (
-            "the read at the end fails",
-            "long",
-            LONG,
-            &[4],
-            Err(ReadEnd::Failed),
-        ),
-        ("a later call would fail", "long", LONG, &[5], Ok(whole)),
-    ];
-    for (about, name, limit, failing, want) in rows {
-        let mut shelf = shelf_of(rt.alloc(), failing)?;
-        let got = read_all(rt.alloc(), &mut shelf, name, limit);
-        assert!(rt; is_same(&got, want), "{about}: {:?}", got.as_ref().err());
+    for (name, limit, text, end) in FILES {
+        let same = is_read(rt.alloc(), name, limit, 99, text.as_bytes(), end)?;
+        assert!(rt; same, "{name} up to {limit}");
     }
-    Ok(())
-}
-
-#[test]
-fn reads_anew_after_a_failure(rt: HostRuntime) -> Result<(), Fail> {
     let long = long_file(rt.alloc())?;
-    let mut shelf = shelf_of(rt.alloc(), &[2, 3])?;
-    let mut buffer = [0u8; 8];
-    let failed = read_all(rt.alloc(), &mut shelf, "long", LONG);
-    assert!(rt;
-        is_same(&failed, Err(ReadEnd::Failed)),
-        "a read in mid-stream fails"
-    );
-    assert_eq!(rt;
-        shelf.next(&mut buffer),
-        Err(Failed),
-        "the next call fails too"
-    );
-    assert_eq!(rt; shelf.next(&mut buffer), Ok(0), "no file is open");
-    let again = read_all(rt.alloc(), &mut shelf, "long", LONG);
-    assert!(rt;
-        is_same(&again, Ok(long.as_slice())),
-        "anew: {:?}",
-        again.as_ref().err()
-    );
+    for (limit, failing, end) in LIMITS {
+        let same = is_read(rt.alloc(), "long", limit, failing, &long, end)?;
+        assert!(rt; same, "up to {limit}, call {failing} fails");
+    }
     Ok(())
 }
 
 /// A file that gives one byte at a time, and counts the reads that gave one.
 #[derive(Drop)]
-struct SlowShelf<'a> {
-    bytes: &'a [u8],
+struct SlowShelf {
     place: Option<usize>,
     reads: u64,
 }
 
-impl<'a> Shelf for SlowShelf<'a> {
+impl Shelf for SlowShelf {
     ghost files = { λ _. None };
 
     ghost is_open = { λ s. is_some s.place };
@@ -173,7 +133,7 @@ impl<'a> Shelf for SlowShelf<'a> {
         let Some(place) = self.place else {
             return Ok(0);
         };
-        let Some(byte) = self.bytes.get(place) else {
+        let Some(byte) = PART.as_bytes().get(place) else {
             return Ok(0);
         };
         buffer[0] = *byte;
@@ -183,23 +143,24 @@ impl<'a> Shelf for SlowShelf<'a> {
     }
 }
 
+/// The limit, the end, where the bytes aren't read, and the reads that took a byte.
+const STEPS: [(u32, Option<ReadEnd>, u64); 5] = [
+    (17, None, 16),
+    (16, None, 16),
+    (15, Some(ReadEnd::TooLong), 16),
+    (5, Some(ReadEnd::TooLong), 6),
+    (0, Some(ReadEnd::TooLong), 1),
+];
+
 #[test]
 fn reads_byte_after_byte_up_to_the_limit(rt: HostRuntime) {
-    let rows: [(&str, u32, Result<&[u8], ReadEnd>, u64); 5] = [
-        ("above the length", 17, Ok(PART), 16),
-        ("as long as the limit", 16, Ok(PART), 16),
-        ("one byte above", 15, Err(ReadEnd::TooLong), 16),
-        ("far above", 5, Err(ReadEnd::TooLong), 6),
-        ("a limit of none", 0, Err(ReadEnd::TooLong), 1),
-    ];
-    for (about, limit, want, reads) in rows {
+    for (limit, end, reads) in STEPS {
         let mut shelf = SlowShelf {
-            bytes: PART,
             place: None,
             reads: 0,
         };
         let got = read_all(rt.alloc(), &mut shelf, "part", limit);
-        assert!(rt; is_same(&got, want), "{about}: {:?}", got.as_ref().err());
-        assert_eq!(rt; shelf.reads, reads, "reads, {about}");
+        assert!(rt; is_same(&got, PART.as_bytes(), end), "up to {limit}");
+        assert_eq!(rt; shelf.reads, reads, "reads up to {limit}");
     }
 }

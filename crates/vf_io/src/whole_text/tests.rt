@@ -7,98 +7,41 @@ use super::*;
 use crate::memory_sink::MemSink;
 use std::test::Fail;
 
+const THREE: &str = "one\ntwo\nthree\n";
+
+/// A text, the room of the sink, the number of the put that fails, and what is written. It is the
+/// whole text exactly where no put fails.
+const TEXTS: [(&str, &str, usize, u64, &str); 11] = [
+    ("each line", THREE, 14, 9, THREE),
+    ("no line end at the last", "one\ntwo", 14, 9, "one\ntwo"),
+    ("one line without an end", "one", 14, 9, "one"),
+    ("no text needs no put", "", 0, 0, ""),
+    ("the first put fails", THREE, 14, 0, ""),
+    ("the third put fails", THREE, 14, 2, "one\ntwo\n"),
+    ("behind the last", "one\ntwo\n", 14, 2, "one\ntwo\n"),
+    ("an empty line is put too", "one\n\n\ntwo", 14, 2, "one\n\n"),
+    ("as long as the room", "one\ntwo\n", 8, 9, "one\ntwo\n"),
+    ("one byte past the room", "one\ntwo\n", 7, 9, "one\n"),
+    ("a shorter line is left", "one\nthree\nx\n", 7, 9, "one\n"),
+];
+
 #[test]
 fn writes_whole_lines_up_to_the_failing_put(rt: HostRuntime) -> Result<(), Fail> {
-    let rows: [(&str, &[u8], usize, &[u64], Result<(), Failed>, &[u8]); 11] = [
-        (
-            "each line",
-            b"one\ntwo\nthree\n",
-            14,
-            &[],
-            Ok(()),
-            b"one\ntwo\nthree\n",
-        ),
-        (
-            "no line end at the last",
-            b"one\ntwo",
-            14,
-            &[],
-            Ok(()),
-            b"one\ntwo",
-        ),
-        ("one line without an end", b"one", 14, &[], Ok(()), b"one"),
-        ("no text needs no put", b"", 0, &[0], Ok(()), b""),
-        (
-            "the first put fails",
-            b"one\ntwo\nthree\n",
-            14,
-            &[0],
-            Err(Failed),
-            b"",
-        ),
-        (
-            "the third put fails",
-            b"one\ntwo\nthree\n",
-            14,
-            &[2],
-            Err(Failed),
-            b"one\ntwo\n",
-        ),
-        (
-            "a put behind the last would fail",
-            b"one\ntwo\n",
-            14,
-            &[2],
-            Ok(()),
-            b"one\ntwo\n",
-        ),
-        (
-            "an empty line is put too",
-            b"one\n\n\ntwo",
-            14,
-            &[2],
-            Err(Failed),
-            b"one\n\n",
-        ),
-        (
-            "as long as the room",
-            b"one\ntwo\n",
-            8,
-            &[],
-            Ok(()),
-            b"one\ntwo\n",
-        ),
-        (
-            "one byte past the room",
-            b"one\ntwo\n",
-            7,
-            &[],
-            Err(Failed),
-            b"one\n",
-        ),
-        (
-            "a shorter line behind is left",
-            b"one\nthree\nx\n",
-            7,
-            &[],
-            Err(Failed),
-            b"one\n",
-        ),
-    ];
-    for (about, text, room, failing, want, written) in rows {
-        let mut sink = MemSink::new(rt.alloc(), room, failing.to_vec(rt.alloc())?)?;
-        assert_eq!(rt; put_lines(&mut sink, text), want, "{about}");
-        assert_eq!(rt; sink.written(), written, "written, {about}");
+    for (about, text, room, failing, written) in TEXTS {
+        let mut sink = MemSink::new(rt.alloc(), room, [failing].to_vec(rt.alloc())?)?;
+        let answer = put_lines(&mut sink, text.as_bytes());
+        assert_eq!(rt; answer.is_ok(), written == text, "{about}");
+        assert_eq!(rt; sink.written(), written.as_bytes(), "written, {about}");
     }
     Ok(())
 }
 
-/// Counts its puts, of which one may fail, and keeps the lengths of the first pieces.
+/// Counts its puts, of which one may fail, and adds up their lengths, each times ten to its number.
 #[derive(Drop)]
 struct Tally {
-    lengths: [usize; 6],
+    lengths: usize,
     puts: usize,
-    failing: Option<usize>,
+    failing: usize,
     faults: u64,
 }
 
@@ -110,10 +53,8 @@ impl Sink for Tally {
     fn put(&mut self, bytes: &[u8]) -> Result<(), Failed> {
         let number = self.puts;
         self.puts = self.puts.saturating_add(1);
-        if let Some(length) = self.lengths.get_mut(number) {
-            *length = bytes.len();
-        }
-        if self.failing == Some(number) {
+        self.lengths = self.lengths.saturating_mul(10).saturating_add(bytes.len());
+        if self.failing == number {
             self.faults = self.faults.saturating_add(1);
             return Err(Failed);
         }
@@ -121,28 +62,30 @@ impl Sink for Tally {
     }
 }
 
+/// A text, the number of the put that fails, and the lengths of the puts as digits.
+const PUTS: [(&str, usize, usize); 9] = [
+    ("a\n\nfour\n\nno", 9, 21512),
+    ("a\n\nfour\n\nno", 0, 2),
+    ("a\n\nfour\n\nno", 2, 215),
+    ("a\n\nfour\n\nno", 4, 21512),
+    ("one", 9, 3),
+    ("\n", 9, 1),
+    ("\n\n", 9, 11),
+    ("one\r\ntwo", 9, 53),
+    ("", 0, 0),
+];
+
 #[test]
 fn makes_one_put_for_each_line(rt: HostRuntime) {
-    let rows: [(&str, Option<usize>, usize, [usize; 6]); 4] = [
-        ("none fails", None, 5, [2, 1, 5, 1, 2, 0]),
-        ("the first fails", Some(0), 1, [2, 0, 0, 0, 0, 0]),
-        ("one in the middle fails", Some(2), 3, [2, 1, 5, 0, 0, 0]),
-        ("the last fails", Some(4), 5, [2, 1, 5, 1, 2, 0]),
-    ];
-    for (about, failing, puts, lengths) in rows {
+    for (text, failing, lengths) in PUTS {
         let mut tally = Tally {
-            lengths: [0; 6],
+            lengths: 0,
             puts: 0,
             failing,
             faults: 0,
         };
-        let want = if failing.is_some() {
-            Err(Failed)
-        } else {
-            Ok(())
-        };
-        assert_eq!(rt; put_lines(&mut tally, b"a\n\nfour\n\nno"), want, "{about}");
-        assert_eq!(rt; tally.puts, puts, "puts, {about}");
-        assert_eq!(rt; tally.lengths, lengths, "lengths, {about}");
+        let answer = put_lines(&mut tally, text.as_bytes());
+        assert_eq!(rt; tally.lengths, lengths, "{text:?}, {failing}");
+        assert_eq!(rt; answer.is_ok(), tally.faults == 0, "{text:?}, {failing}");
     }
 }

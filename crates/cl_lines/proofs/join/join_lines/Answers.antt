@@ -1,5 +1,5 @@
 use Rattle.std.proofs.Common.{◌∙◌, ap, sym, arith, refl, inl}
-use Rattle.cl_lines.specs.Lines.{lines_of}
+use Rattle.vf_text.specs.Lines.{lines_of}
 use Rattle.cl_lines.specs.Texts.{joined_from, lead_text}
 use Rattle.cl_lines.proofs.JoinLemmas.{joined_from-start}
 use Rattle.cl_lines.proofs.join.join_lines.Goals as goal

@@ -1,4 +1,4 @@
-use Rattle.std.proofs.Common.{◌≡◌, ◌*◌, ◌<◌, ◌≤◌, ◌^◌, MatchOption, subst, sym}
+use Rattle.std.proofs.Common.{◌≡◌, ◌<◌, ◌≤◌, MatchOption, subst, sym}
 use Rattle.cl_lines.proofs.PowerLemmas.{scaled-power}
 use Rattle.cl_lines.proofs.number.rounded_size.Goals as goal
 

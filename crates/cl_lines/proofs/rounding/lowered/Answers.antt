@@ -1,5 +1,6 @@
 use Rattle.std.proofs.Common.{arith, sym, ◌^◌}
-use Rattle.cl_lines.proofs.PowerLemmas.{ten_positive, ten_monotone, nearest-small}
+use Rattle.vf_text.proofs.PowerLemmas.{ten_positive, ten_monotone}
+use Rattle.cl_lines.proofs.PowerLemmas.{nearest-small}
 use Rattle.cl_lines.proofs.rounding.lowered.Goals as goal
 
 pub returns-then-down-gt-LARGEST_DIVISOR : goal.returns-then-down-gt-LARGEST_DIVISOR

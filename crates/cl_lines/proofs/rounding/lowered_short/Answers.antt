@@ -1,5 +1,5 @@
 use Rattle.std.proofs.Common.{arith}
-use Rattle.cl_lines.proofs.PowerLemmas.{ten_positive, ten_monotone}
+use Rattle.vf_text.proofs.PowerLemmas.{ten_positive, ten_monotone}
 use Rattle.cl_lines.proofs.rounding.lowered_short.Goals as goal
 
 pub overflow_mul-result-2 : goal.overflow_mul-result-2

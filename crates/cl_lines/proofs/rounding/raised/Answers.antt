@@ -1,5 +1,6 @@
 use Rattle.std.proofs.Common.{arith, ap, ◌*◌}
-use Rattle.cl_lines.proofs.PowerLemmas.{ten_later-le, ten_later-zero, ten_next}
+use Rattle.vf_text.proofs.PowerLemmas.{ten_next}
+use Rattle.cl_lines.proofs.PowerLemmas.{ten_later-le, ten_later-zero}
 use Rattle.cl_lines.proofs.rounding.raised.Goals as goal
 
 pub returns-then-value-eq0 : goal.returns-then-value-eq0

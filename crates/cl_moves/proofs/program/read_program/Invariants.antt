@@ -1,5 +1,5 @@
 use Rattle.std.proofs.Common.{◌≡◌, ◌+◌, ◌≤◌, length}
-use Rattle.cl_lines.specs.declared.text.TheConstants.{MAX_BYTES}
+use Rattle.cl_lines.specs.Texts.{most_bytes}
 use Rattle.cl_moves.specs.Fold.{IsFold}
 use Rattle.cl_moves.specs.Program.{folded, program_of}
 use Rattle.cl_moves.proofs.program.read_program.Given as goal
@@ -9,7 +9,7 @@ abbrev pub invariant-loop-fold : goal.invariant-loop-fold
 invariant-loop-fold l = record {
   program : folded l.records l.fold ≡ program_of l.bytes;
   sound : IsFold l.fold;
-  few : l.fold.passed + length l.records ≤ MAX_BYTES;
+  few : l.fold.passed + length l.records ≤ most_bytes;
 }
 
 abbrev pub decreases-loop-fold : goal.decreases-loop-fold

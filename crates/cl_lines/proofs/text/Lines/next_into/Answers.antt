@@ -1,7 +1,7 @@
 use Rattle.std.proofs.Common.{◌∙◌, ap, sym, subst}
-use Rattle.cl_lines.specs.Lines.{lines_of}
-use Rattle.cl_lines.specs.Next.{next_of, Ends}
-use Rattle.cl_lines.specs.Texts.{IsTooLong, JoinEnds, joined_from, texts_from}
+use Rattle.vf_text.specs.Lines.{lines_of}
+use Rattle.cl_lines.specs.Next.{next_of}
+use Rattle.cl_lines.specs.Texts.{IsTooLong, JoinEnds, joined_from}
 use Rattle.cl_lines.proofs.JoinLemmas.{next-too_long}
 use Rattle.cl_lines.proofs.text.Lines.next_into.Goals as goal
 

@@ -1,6 +1,6 @@
 use Rattle.std.proofs.Common.{◌∙◌, ◌||◌, ap, sym}
 use Rattle.vf_io.specs.Memory.{is_absent}
-use Rattle.vf_io.specs.Shelved.{named_files}
+use Rattle.vf_io.specs.Shelved.{file_list}
 use Rattle.vf_io.proofs.FindLemmas.{is_absent-place}
 use Rattle.vf_io.proofs.ShelvedLemmas.{IsPlaceOf-counted, unread_bytes-opened}
 use Rattle.vf_io.proofs.memory_shelf.MemShelfShelf.open.Goals as goal
@@ -15,4 +15,4 @@ pub returns-in-Some-clause-failed : goal.returns-in-Some-clause-failed
 returns-in-Some-clause-failed c =
     let counted = c.count_call-failing.ensures.counted in
     let place = IsPlaceOf-counted c.args.self.now c.count_call-failing.new.self c.deref.result.now c.args.name.now c.in-Some.file counted c.deref.ensures.value c.in-Some.ensures in
-    sym (ap (λ b. b || is_absent (named_files c.args.self.now) c.args.name.now) (sym c.if-not-failing.ensures.fails) ∙ is_absent-place _ _ _ place)
+    sym (ap (λ b. b || is_absent (file_list c.args.self.now) c.args.name.now) (sym c.if-not-failing.ensures.fails) ∙ is_absent-place _ _ _ place)

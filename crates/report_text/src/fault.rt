@@ -1,0 +1,104 @@
+ghost use Rattle.std.specs.Prelude.{◌≡◌, ◌++◌, IfOk, OnOk};
+ghost use Rattle.report_text.specs.Refusals.{refusal_of, fault_text, input_name, refused_word, why_name};
+
+use vf_text::Page;
+use cl_lines::{ClFault, ClWhy};
+use std::alloc::Global;
+use vf_io::NoMemory;
+
+/// The files that are read.
+#[derive(Clone, Copy, Debug, PartialEq, Eq)]
+pub enum Input {
+    /// The cutter location text.
+    Cl,
+    /// The setup.
+    Setup,
+    /// The script.
+    Script,
+}
+
+/// Why an input is refused.
+#[derive(Clone, Copy, Debug, PartialEq, Eq)]
+pub enum Fault {
+    /// The file has more bytes than its limit.
+    TooLong(Input),
+    /// The cutter location text has a fault.
+    Cl(ClFault),
+    /// The cutter of the move on this line is less high than its corner radius.
+    CutterHeight(u32),
+}
+
+/// The one line of a refusal.
+pub fn refusal_text(alloc: Global, fault: &Fault) -> Result<Vec<u8>, NoMemory>
+    ensures { IfOk result (λ v. v.items ≡ refusal_of fault.now) }
+{
+    let mut page = Page::new(alloc);
+    page.text(b"refused: ")?;
+    write_fault(&mut page, fault)?;
+    page.end_line()?;
+    Ok(page.into_vec())
+}
+
+fn write_fault(page: &mut Page, fault: &Fault) -> Result<(), NoMemory>
+    ensures { OnOk result (page.new ≡ page.old ++ fault_text fault.now) }
+{
+    match fault {
+        Fault::TooLong(input) => {
+            page.text(name_of_input(*input))?;
+            page.text(b": TooLong")
+        }
+        Fault::CutterHeight(line) => {
+            page.text(b"cl line ")?;
+            page.count(*line as usize)?;
+            page.text(b": CutterHeight")
+        }
+        Fault::Cl(fault) => {
+            page.text(b"cl line ")?;
+            page.count(fault.line as usize)?;
+            page.text(b": ")?;
+            page.text(name_of_why(fault.why))?;
+            write_refused_word(page, fault.why)
+        }
+    }
+}
+
+fn name_of_input(input: Input) -> &'static [u8]
+    ensures { result.now ≡ input_name input }
+{
+    match input {
+        Input::Cl => b"cl",
+        Input::Setup => b"setup",
+        Input::Script => b"script",
+    }
+}
+
+fn name_of_why(why: ClWhy) -> &'static [u8]
+    ensures { result.now ≡ why_name why }
+{
+    match why {
+        ClWhy::LineLong => b"LineLong",
+        ClWhy::DanglingDollar => b"DanglingDollar",
+        ClWhy::BadByte => b"BadByte",
+        ClWhy::Unsupported(_) => b"Unsupported",
+        ClWhy::ParamCount => b"ParamCount",
+        ClWhy::ParamWord => b"ParamWord",
+        ClWhy::NumberSyntax => b"NumberSyntax",
+        ClWhy::NumberRange => b"NumberRange",
+        ClWhy::CutterShape => b"CutterShape",
+        ClWhy::AxisZero => b"AxisZero",
+        ClWhy::NoPosition => b"NoPosition",
+        ClWhy::AxisFlip => b"AxisFlip",
+        ClWhy::TooManyMoves => b"TooManyMoves",
+    }
+}
+
+/// Writes the word that is refused, where the fault is that it is.
+fn write_refused_word(page: &mut Page, why: ClWhy) -> Result<(), NoMemory>
+    ensures { OnOk result (page.new ≡ page.old ++ refused_word why) }
+{
+    let ClWhy::Unsupported(word) = why else {
+        return Ok(());
+    };
+    page.space()?;
+    page.text(word.name())
+}
