@@ -58,6 +58,8 @@ list4 l m h b = bounded4_small (at l 0) (at l 1) (at l 2) (at l 3) (at l 4) m h 
 
 -- the forms that a cell keeps, from those of u, n and d
 pub record CellFits (u n d : List ℤ) : Type 0 where
+  pub ahead : IsBounded2 (3 * (offset_limit * axis_limit)) u
+  pub squares : IsBounded2 (3 * (axis_limit * axis_limit)) n
   pub height : All IsSmall (product22 u u)
   pub both : All IsSmall (product22 d n)
   pub spread : All IsSmall (difference4 (product22 d n) (product22 u u))
@@ -76,6 +78,8 @@ cell_fits u n d hu hn hd =
     let both = subst (λ k. IsBounded4 k (product22 d n)) e2 (product22_bounded d n (3 * (offset_limit * offset_limit)) (3 * (axis_limit * axis_limit)) hd hn) in
     let spread = difference4_bounded (product22 d n) (product22 u u) m m both height in
     let width = subst (λ k. IsBounded4 k (scaled4 (pos 4) (difference4 (product22 d n) (product22 u u)))) e3 (scaled4_bounded (pos 4) (difference4 (product22 d n) (product22 u u)) 4 (m + m) (omega arith) spread) in record {
+      ahead = hu;
+      squares = hn;
       height = list4 (product22 u u) m (omega arith) height;
       both = list4 (product22 d n) m (omega arith) both;
       spread = list4 (difference4 (product22 d n) (product22 u u)) (m + m) (omega arith) spread;
@@ -83,6 +87,13 @@ cell_fits u n d hu hn hd =
       height_small = height;
       width_small = width;
     }
+
+-- the forms of the cell between two poses
+pub between_fits : (P Q A C : List ℤ) → IsWithin offset_limit P → IsWithin offset_limit Q → IsWithin axis_limit A → IsWithin axis_limit C
+    → CellFits (dot_on_cell P Q A C) (dot_on_cell A C A C) (dot_on_cell P Q P Q)
+between_fits P Q A C hP hQ hA hC =
+    cell_fits (dot_on_cell P Q A C) (dot_on_cell A C A C) (dot_on_cell P Q P Q) (cross_bounded P Q A C offset_limit axis_limit hP hQ hA hC)
+    (cross_bounded A C A C axis_limit axis_limit hA hC hA hC) (cross_bounded P Q P Q offset_limit offset_limit hP hQ hP hQ)
 
 -- n times a squared length, raised to degree 4
 pub record SquaredFits (s : ℤ) (n : List ℤ) : Type 0 where

@@ -1,8 +1,8 @@
-ghost use Rattle.std.specs.Prelude.{◌≡◌, ◌+◌, ◌*◌, ◌<◌, ◌≤◌, ◌↔◌, ◌⊎◌, [], ◌∷◌, pos, ◌*ℤ◌, unsigned_abs, IsTrue, MatchBool};
-ghost use Rattle.bern_form.specs.Forms.{AllNegative, AllPositive, difference4, lifted, product22, scaled2, scaled4};
+ghost use Rattle.std.specs.Prelude.{◌≡◌, ◌+◌, ◌*◌, ◌<◌, ◌≤◌, pos, unsigned_abs, All};
+ghost use Rattle.bern_form.specs.Forms.{IsSmall, all_negative, all_positive, difference4, product11, product22, scaled4};
 ghost use Rattle.space.specs.Ranges.{IsPoint, IsWithin};
-ghost use Rattle.bern_form.specs.Cells.{dot_on_cell};
-ghost use Rattle.axis_cells.specs.Exclusion.{ExcludesAll, IsCellOf, IsExcludedBy, LeavesSome};
+ghost use Rattle.bern_form.specs.Cells.{dot_on_cell, ends};
+ghost use Rattle.axis_cells.specs.Exclusion.{IsCellOf, excluded_by, leaves_some, squared};
 ghost use Rattle.bern_form.specs.Sizes.{IsBounded2, IsBounded4, axis_limit, length_limit, offset_limit, scale_limit};
 
 use crate::length::scaled_square;
@@ -12,14 +12,25 @@ use bern_form::{
     Form1, Form2, Form4, Slab, lift24, minus4, plus2, scale2, scale4, times11, times22,
 };
 
-/// A number that is linear on a cell, by its values at both ends.
+/// A component of a vector that is linear on a cell, from the vector's values at both ends.
 #[inline]
-fn linear(first: i64, last: i64) -> Form1
-    ensures { result.c ≡ first ∷ last ∷ [] }
+fn component(first: &[i64; 3], last: &[i64; 3], i: usize) -> Form1
+    requires { i < 3 }
+    ensures { result.c ≡ ends first.now last.now i }
 {
     Form1 {
-        c: [i128::from(first), i128::from(last)],
+        c: [i128::from(first[i]), i128::from(last[i])],
     }
+}
+
+/// The product of one component of two such vectors: the convolution of both.
+#[inline]
+fn component_product(p: &[i64; 3], q: &[i64; 3], a: &[i64; 3], c: &[i64; 3], i: usize) -> Form2
+    requires axis { i < 3 }
+    requires small { All IsSmall (product11 (ends p.now q.now i) (ends a.now c.now i)) }
+    ensures { result.c ≡ product11 (ends p.now q.now i) (ends a.now c.now i) }
+{
+    times11(&component(p, q, i), &component(a, c, i))
 }
 
 /// The scalar product of two vectors that are linear on a cell, from their values `p` and `a` at its first end and `q` and
@@ -32,13 +43,9 @@ fn scalar_product_on_cell(p: &[i64; 3], q: &[i64; 3], a: &[i64; 3], c: &[i64; 3]
     requires c { IsWithin offset_limit c.now }
     ensures { result.c ≡ dot_on_cell p.now q.now a.now c.now }
 {
-    let [px, py, pz] = *p;
-    let [qx, qy, qz] = *q;
-    let [ax, ay, az] = *a;
-    let [cx, cy, cz] = *c;
-    let x = times11(&linear(px, qx), &linear(ax, cx));
-    let y = times11(&linear(py, qy), &linear(ay, cy));
-    let z = times11(&linear(pz, qz), &linear(az, cz));
+    let x = component_product(p, q, a, c, 0);
+    let y = component_product(p, q, a, c, 1);
+    let z = component_product(p, q, a, c, 2);
     plus2(&plus2(&x, &y), &z)
 }
 
@@ -63,7 +70,7 @@ impl Cell {
     pub fn between(first: &Pose, last: &Pose, scale: u32) -> Cell
         requires { scale ≤ scale_limit }
         ensures scale { result.scale ≡ pos scale }
-        ensures behind { IsTrue result.is_behind ↔ AllNegative (dot_on_cell first.now.offset last.now.offset first.now.axis last.now.axis) }
+        ensures behind { result.is_behind ≡ all_negative (dot_on_cell first.now.offset last.now.offset first.now.axis last.now.axis) }
         ensures n { result.n.c ≡ dot_on_cell first.now.axis last.now.axis first.now.axis last.now.axis }
         ensures height { let u = dot_on_cell first.now.offset last.now.offset first.now.axis last.now.axis in result.height.c ≡ product22 u u }
         ensures width { let u = dot_on_cell first.now.offset last.now.offset first.now.axis last.now.axis in
@@ -101,8 +108,7 @@ impl Cell {
     #[inline]
     fn squared(&self, length: i32) -> Form4
         requires { unsigned_abs length ≤ 300000 }
-        ensures list { let square = (self.now.scale *ℤ length) *ℤ (self.now.scale *ℤ length) in
-            result.c ≡ lifted (scaled2 square self.now.n.c) }
+        ensures list { result.c ≡ squared self.now.scale length self.now.n.c }
         ensures small { IsBounded4 (18 * (length_limit * axis_limit) * (length_limit * axis_limit)) result.c }
     {
         lift24(&scale2(&self.n, scaled_square(self.scale, length)))
@@ -111,8 +117,7 @@ impl Cell {
     /// Whether u^2 stays below lo^2 n throughout.
     fn is_below(&self, lo: i32) -> bool
         requires { unsigned_abs lo ≤ 300000 }
-        ensures { let square = (self.now.scale *ℤ lo) *ℤ (self.now.scale *ℤ lo) in
-            IsTrue result ↔ AllNegative (difference4 self.now.height.c (lifted (scaled2 square self.now.n.c))) }
+        ensures { result ≡ all_negative (difference4 self.now.height.c (squared self.now.scale lo self.now.n.c)) }
     {
         minus4(&self.height, &self.squared(lo)).all_negative()
     }
@@ -120,8 +125,7 @@ impl Cell {
     /// Whether u^2 stays above hi^2 n throughout.
     fn is_above(&self, hi: i32) -> bool
         requires { unsigned_abs hi ≤ 300000 }
-        ensures { let square = (self.now.scale *ℤ hi) *ℤ (self.now.scale *ℤ hi) in
-            IsTrue result ↔ AllPositive (difference4 self.now.height.c (lifted (scaled2 square self.now.n.c))) }
+        ensures { result ≡ all_positive (difference4 self.now.height.c (squared self.now.scale hi self.now.n.c)) }
     {
         minus4(&self.height, &self.squared(hi)).all_positive()
     }
@@ -129,8 +133,7 @@ impl Cell {
     /// Whether 4 w stays above dia^2 n throughout.
     fn is_beside(&self, dia: i32) -> bool
         requires { unsigned_abs dia ≤ 300000 }
-        ensures { let square = (self.now.scale *ℤ dia) *ℤ (self.now.scale *ℤ dia) in
-            IsTrue result ↔ AllPositive (difference4 self.now.width.c (lifted (scaled2 square self.now.n.c))) }
+        ensures { result ≡ all_positive (difference4 self.now.width.c (squared self.now.scale dia self.now.n.c)) }
     {
         minus4(&self.width, &self.squared(dia)).all_positive()
     }
@@ -138,7 +141,7 @@ impl Cell {
     /// Whether the slab is excluded on this cell: the point is behind the tip throughout, or below the slab, or above it, or
     /// beside it.
     pub fn excludes(&self, slab: &Slab) -> bool
-        ensures { IsTrue result ↔ IsExcludedBy self.now.scale self.now.is_behind self.now.n.c self.now.height.c self.now.width.c slab.now }
+        ensures { result ≡ excluded_by self.now.scale self.now.is_behind self.now.n.c self.now.height.c self.now.width.c slab.now }
     {
         if self.is_behind {
             return true;
@@ -154,9 +157,7 @@ impl Cell {
 
     /// Whether some of the slabs is not excluded on this cell.
     pub fn leaves_some(&self, slabs: &[Slab]) -> bool
-        ensures { MatchBool result
-            (LeavesSome self.now.scale self.now.is_behind self.now.n.c self.now.height.c self.now.width.c slabs.now)
-            (ExcludesAll self.now.scale self.now.is_behind self.now.n.c self.now.height.c self.now.width.c slabs.now) }
+        ensures { result ≡ leaves_some self.now.scale self.now.is_behind self.now.n.c self.now.height.c self.now.width.c slabs.now }
     {
         for slab in slabs {
             if !self.excludes(slab) {

@@ -1,6 +1,3 @@
-ghost use Rattle.std.specs.Prelude.{◌≡◌, ◌^◌, ◌≤◌, ◌<◌, ◌↔◌, pos, ◌≤ℤ◌, IsTrue, ℕ};
-ghost use Rattle.space.specs.Ranges.{IsPoint};
-
 /// What is known of a point and a move: not met, perhaps met, or removed.
 #[derive(Clone, Copy, Debug, PartialEq, Eq)]
 pub enum Mark {

@@ -1,9 +1,12 @@
-ghost use Rattle.std.specs.Prelude.{◌≡◌, ◌^◌, ◌<◌, ◌≤◌, pos, ◌≤ℤ◌, Contains, IsTrue, MatchBool};
+ghost use Rattle.std.specs.Prelude.{◌≡◌, ◌^◌, ◌<◌, ◌≤◌, false, All, IsTrue};
+ghost use Rattle.std.specs.List.{list_all};
 ghost use Rattle.space.specs.Ranges.{IsPoint};
-ghost use Rattle.bern_form.specs.Marks.{AllExcluded, HeldAtSample, InReach, LeftOnCell, NeverHeld};
+ghost use Rattle.space.specs.Reach.{is_in_reach};
+ghost use Rattle.bern_form.specs.Marks.{NeverHeld, held_at_sample, is_left_on_cell};
 ghost use Rattle.bern_form.specs.Sizes.{scale_limit};
-ghost use Rattle.bern_form.specs.Slab.{SlabSize};
-ghost use Rattle.axis_cells.specs.Marked.{FitsInReach, IsMarked};
+ghost use Rattle.bern_form.specs.Slab.{IsSlab, SlabSize};
+ghost use Rattle.axis_cells.specs.Exclusion.{fits_in_reach};
+ghost use Rattle.axis_cells.specs.Marked.{mark_from};
 
 use crate::cell::Cell;
 use crate::mark::Mark;
@@ -18,7 +21,7 @@ use bern_form::Slab;
 fn is_held_at_sample(sweep: &Sweep, slabs: &[Slab], point: &[i32; 3], scale: u32) -> bool
     requires point { IsPoint point.now }
     requires scale { scale ≤ scale_limit }
-    ensures { MatchBool result (HeldAtSample slabs.now sweep.now point.now scale) (¬ HeldAtSample slabs.now sweep.now point.now scale) }
+    ensures { result ≡ held_at_sample slabs.now sweep.now point.now scale }
 {
     for k in 0..scale + 1 {
         let pose = Pose::at_sample(sweep, point, k, scale);
@@ -33,7 +36,7 @@ fn is_held_at_sample(sweep: &Sweep, slabs: &[Slab], point: &[i32; 3], scale: u32
 fn is_left_on_cell(sweep: &Sweep, slabs: &[Slab], point: &[i32; 3], scale: u32) -> bool
     requires point { IsPoint point.now }
     requires scale { scale ≤ scale_limit }
-    ensures { MatchBool result (LeftOnCell slabs.now sweep.now point.now scale) (AllExcluded slabs.now sweep.now point.now scale) }
+    ensures { result ≡ is_left_on_cell slabs.now sweep.now point.now scale }
 {
     for k in 0..scale {
         if Cell::of_point(sweep, point, k, scale).leaves_some(slabs) {
@@ -46,14 +49,16 @@ fn is_left_on_cell(sweep: &Sweep, slabs: &[Slab], point: &[i32; 3], scale: u32) 
 /// Whether a slab is no higher and wider together than the reach.
 #[inline]
 fn fits_in_reach(slab: &Slab, reach: i32) -> bool
-    ensures { IsTrue result → FitsInReach reach slab.now }
+    ensures test { result ≡ fits_in_reach reach slab.now }
+    ensures valid { IsSlab slab.now }
 {
     slab.hi + slab.dia <= reach
 }
 
 /// Whether each of the slabs is no higher and wider together than the reach.
 fn all_fit_in_reach(slabs: &[Slab], reach: i32) -> bool
-    ensures { IsTrue result → (slab : SlabSize) → Contains slabs.now slab → FitsInReach reach slab }
+    ensures test { result ≡ list_all (fits_in_reach reach) slabs.now }
+    ensures valid { IsTrue result → All IsSlab slabs.now }
 {
     for slab in slabs {
         if !fits_in_reach(slab, reach) {
@@ -72,11 +77,11 @@ fn is_held_out_of_reach(
     point: &[i32; 3],
     scale: u32,
 ) -> bool
-    requires out { ¬ InReach reach sweep.now point.now }
+    requires out { is_in_reach reach sweep.now.from sweep.now.to point.now ≡ false }
     requires point { IsPoint point.now }
     requires some { 0 < scale }
     requires scale { scale ≤ scale_limit }
-    ensures { MatchBool result (HeldAtSample slabs.now sweep.now point.now scale) (¬ HeldAtSample slabs.now sweep.now point.now scale) }
+    ensures { result ≡ held_at_sample slabs.now sweep.now point.now scale }
 {
     // A sweep is valid by its type, which is known where a field of it is seen.
     let _valid = &sweep.from;
@@ -97,12 +102,11 @@ pub fn plain_mark(
     point: [i32; 3],
     depth: u32,
 ) -> Mark
-    requires low { pos 0 ≤ℤ reach }
-    requires high { reach ≤ℤ pos 500000 }
     requires point { IsPoint point }
     requires depth { depth ≤ 10 }
-    ensures mark { IsMarked result inner.now outer.now reach sweep.now point (2 ^ depth) }
-    ensures clear { result ≡ Mark.Clear → InReach reach sweep.now point → NeverHeld outer.now sweep.now point }
+    ensures mark { result ≡ mark_from inner.now outer.now reach sweep.now point (2 ^ depth) }
+    ensures clear { result ≡ Mark.Clear → IsTrue (is_in_reach reach sweep.now.from sweep.now.to point)
+        → NeverHeld outer.now sweep.now point }
 {
     let scale = cells_of(depth);
     if !in_reach(sweep, reach, point) {

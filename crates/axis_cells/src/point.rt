@@ -1,7 +1,7 @@
-ghost use Rattle.std.specs.Prelude.{◌≡◌, ◌^◌, ◌<◌, ◌≤◌, ◌↔◌, ℕ, pos, ◌≤ℤ◌, IsTrue};
+ghost use Rattle.std.specs.Prelude.{◌≡◌, ◌^◌, ◌<◌, ◌≤◌, ℕ, false, IsTrue};
 ghost use Rattle.space.specs.Ranges.{IsPoint};
-ghost use Rattle.bern_form.specs.Slab.{HoldsAt};
-ghost use Rattle.bern_form.specs.Cells.{Excluded, IsInCell};
+ghost use Rattle.bern_form.specs.Slab.{holds_at};
+ghost use Rattle.bern_form.specs.Cells.{IsInCell, is_excluded};
 ghost use Rattle.bern_form.specs.Sizes.{scale_limit};
 ghost use Rattle.axis_cells.specs.Exclusion.{CoefficientsAreSmall};
 
@@ -27,7 +27,7 @@ pub fn at_sample(sweep: &Sweep, slab: &Slab, point: [i32; 3], k: u32, depth: u32
     requires point { IsPoint point }
     requires depth { depth ≤ 10 }
     requires sample { k ≤ 2 ^ depth }
-    ensures { IsTrue result ↔ HoldsAt slab.now sweep.now point k (2 ^ depth) }
+    ensures { result ≡ holds_at slab.now sweep.now point k (2 ^ depth) }
 {
     let scale = cells_of(depth);
     let pose = Pose::at_sample(sweep, &point, k, scale);
@@ -41,9 +41,9 @@ pub fn cell_excludes(sweep: &Sweep, slab: &Slab, point: [i32; 3], k: u32, depth:
     requires point { IsPoint point }
     requires depth { depth ≤ 10 }
     requires cell { k < 2 ^ depth }
-    ensures rule { IsTrue result ↔ Excluded slab.now sweep.now point k (2 ^ depth) }
+    ensures rule { result ≡ is_excluded slab.now sweep.now point k (2 ^ depth) }
     ensures small { CoefficientsAreSmall slab.now sweep.now point k (2 ^ depth) }
-    ensures never { IsTrue result → (a b : ℕ) → IsInCell k (2 ^ depth) a b → ¬ HoldsAt slab.now sweep.now point a b }
+    ensures never { IsTrue result → (a b : ℕ) → IsInCell k (2 ^ depth) a b → holds_at slab.now sweep.now point a b ≡ false }
 {
     // A sweep and a slab are valid by their types, which is known where a field of theirs is seen.
     let _valid = &sweep.from;

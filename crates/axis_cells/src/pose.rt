@@ -1,5 +1,6 @@
-ghost use Rattle.std.specs.Prelude.{◌≡◌, ◌*◌, ◌≤◌, pos, unsigned_abs};
+ghost use Rattle.std.specs.Prelude.{◌≡◌, ◌*◌, ◌<◌, ◌≤◌, ◌*ℤ◌, pos, unsigned_abs};
 ghost use Rattle.space.specs.Ranges.{IsPoint, IsWithin};
+ghost use Rattle.space.specs.Vectors.{at};
 ghost use Rattle.space.specs.Motion.{axis_at, between, offset, offset_at};
 ghost use Rattle.bern_form.specs.Sizes.{axis_limit, offset_limit, scale_limit};
 
@@ -14,32 +15,50 @@ pub struct Pose {
     ghost axis_within: { IsWithin axis_limit axis },
 }
 
-/// `scale` times the place between two ends at the time `k / scale`.
+/// A coordinate or a component taken as often as a weight says.
 #[inline]
-fn place_between(k: u32, scale: u32, from: i32, to: i32) -> i64
-    requires within { k ≤ scale }
-    requires scale { scale ≤ scale_limit }
-    requires from { unsigned_abs from ≤ 1000000 }
-    requires to { unsigned_abs to ≤ 1000000 }
-    ensures place { result ≡ between (pos k) (pos scale) from to }
-    ensures small { unsigned_abs result ≤ scale * 1000000 }
+fn weighted(weight: u32, place: i32) -> i64
+    requires weight { weight ≤ scale_limit }
+    requires place { unsigned_abs place ≤ 1000000 }
+    ensures value { result ≡ pos weight *ℤ place }
+    ensures small { unsigned_abs result ≤ weight * 1000000 }
 {
-    let late = i64::from(k);
-    let early = i64::from(scale) - late;
-    early * i64::from(from) + late * i64::from(to)
+    i64::from(weight) * i64::from(place)
 }
 
-/// `scale` times the offset of a coordinate from the place between two ends at the time `k / scale`.
+/// `scale` times a component of the place between two ends at the time `k / scale`.
 #[inline]
-fn offset_from(k: u32, scale: u32, coordinate: i32, from: i32, to: i32) -> i64
+fn place_between(k: u32, scale: u32, from: &[i32; 3], to: &[i32; 3], i: usize) -> i64
+    requires axis { i < 3 }
     requires within { k ≤ scale }
     requires scale { scale ≤ scale_limit }
-    requires coordinate { unsigned_abs coordinate ≤ 1000000 }
-    requires from { unsigned_abs from ≤ 1000000 }
-    requires to { unsigned_abs to ≤ 1000000 }
-    ensures { result ≡ offset (pos k) (pos scale) coordinate from to }
+    requires from { unsigned_abs (at from.now i) ≤ 1000000 }
+    requires to { unsigned_abs (at to.now i) ≤ 1000000 }
+    ensures place { result ≡ between (pos k) (pos scale) (at from.now i) (at to.now i) }
+    ensures small { unsigned_abs result ≤ scale * 1000000 }
 {
-    i64::from(scale) * i64::from(coordinate) - place_between(k, scale, from, to)
+    weighted(scale - k, from[i]) + weighted(k, to[i])
+}
+
+/// `scale` times a component of a point's offset from the place between two ends at the time `k / scale`.
+#[inline]
+fn offset_from(
+    k: u32,
+    scale: u32,
+    point: &[i32; 3],
+    from: &[i32; 3],
+    to: &[i32; 3],
+    i: usize,
+) -> i64
+    requires axis { i < 3 }
+    requires within { k ≤ scale }
+    requires scale { scale ≤ scale_limit }
+    requires point { unsigned_abs (at point.now i) ≤ 1000000 }
+    requires from { unsigned_abs (at from.now i) ≤ 1000000 }
+    requires to { unsigned_abs (at to.now i) ≤ 1000000 }
+    ensures { result ≡ offset (pos k) (pos scale) (at point.now i) (at from.now i) (at to.now i) }
+{
+    weighted(scale, point[i]) - place_between(k, scale, from, to, i)
 }
 
 impl Pose {
@@ -51,21 +70,16 @@ impl Pose {
         ensures offset { result.offset ≡ offset_at sweep.now point.now (pos k) (pos scale) }
         ensures axis { result.axis ≡ axis_at sweep.now (pos k) (pos scale) }
     {
-        let [from_x, from_y, from_z] = sweep.from;
-        let [to_x, to_y, to_z] = sweep.to;
-        let [first_x, first_y, first_z] = sweep.axis_from;
-        let [last_x, last_y, last_z] = sweep.axis_to;
-        let [x, y, z] = *point;
         Pose {
             offset: [
-                offset_from(k, scale, x, from_x, to_x),
-                offset_from(k, scale, y, from_y, to_y),
-                offset_from(k, scale, z, from_z, to_z),
+                offset_from(k, scale, point, &sweep.from, &sweep.to, 0),
+                offset_from(k, scale, point, &sweep.from, &sweep.to, 1),
+                offset_from(k, scale, point, &sweep.from, &sweep.to, 2),
             ],
             axis: [
-                place_between(k, scale, first_x, last_x),
-                place_between(k, scale, first_y, last_y),
-                place_between(k, scale, first_z, last_z),
+                place_between(k, scale, &sweep.axis_from, &sweep.axis_to, 0),
+                place_between(k, scale, &sweep.axis_from, &sweep.axis_to, 1),
+                place_between(k, scale, &sweep.axis_from, &sweep.axis_to, 2),
             ],
         }
     }

@@ -1,13 +1,25 @@
-ghost use Rattle.std.specs.Prelude.{◌≡◌, ◌*◌, ◌≤◌, ◌↔◌, pos, ◌≤ℤ◌, unsigned_abs, IsTrue, MatchBool};
+ghost use Rattle.std.specs.Prelude.{◌≡◌, ◌*◌, ◌<◌, ◌≤◌, ◌&&◌, ◌*ℤ◌, pos, int_le, unsigned_abs};
 ghost use Rattle.space.specs.Ranges.{IsWithin};
-ghost use Rattle.space.specs.Vectors.{dot, spread};
+ghost use Rattle.space.specs.Vectors.{at, dot, spread};
 ghost use Rattle.bern_form.specs.Sizes.{axis_limit, offset_limit, scale_limit};
-ghost use Rattle.bern_form.specs.Slab.{Covers};
-ghost use Rattle.axis_cells.specs.Exclusion.{CoveredBySome};
+ghost use Rattle.bern_form.specs.Slab.{covers};
+ghost use Rattle.axis_cells.specs.Exclusion.{covered_by_some};
 
 use crate::length::scaled_square;
 use crate::pose::Pose;
 use bern_form::Slab;
+
+/// The product of one component of two vectors.
+#[inline]
+fn component_product(p: &[i64; 3], a: &[i64; 3], i: usize) -> i128
+    requires axis { i < 3 }
+    requires p { unsigned_abs (at p.now i) ≤ offset_limit }
+    requires a { unsigned_abs (at a.now i) ≤ offset_limit }
+    ensures value { result ≡ at p.now i *ℤ at a.now i }
+    ensures small { unsigned_abs result ≤ offset_limit * offset_limit }
+{
+    i128::from(p[i]) * i128::from(a[i])
+}
 
 /// The scalar product of two vectors.
 #[inline]
@@ -16,17 +28,13 @@ fn scalar_product(p: &[i64; 3], a: &[i64; 3]) -> i128
     requires a { IsWithin offset_limit a.now }
     ensures { result ≡ dot p.now a.now }
 {
-    let [px, py, pz] = *p;
-    let [ax, ay, az] = *a;
-    i128::from(px) * i128::from(ax)
-        + i128::from(py) * i128::from(ay)
-        + i128::from(pz) * i128::from(az)
+    component_product(p, a, 0) + component_product(p, a, 1) + component_product(p, a, 2)
 }
 
 /// Whether a number is between two others, both included.
 #[inline]
 fn is_between(low: i128, middle: i128, high: i128) -> bool
-    ensures { IsTrue result ↔ ((low ≤ℤ middle) × (middle ≤ℤ high)) }
+    ensures { result ≡ (int_le low middle && int_le middle high) }
 {
     low <= middle && middle <= high
 }
@@ -41,7 +49,7 @@ fn lies_within(
     width: i128,
     widest: i128,
 ) -> bool
-    ensures { IsTrue result ↔ ((pos 0 ≤ℤ u) × (width ≤ℤ widest) × ((lowest ≤ℤ height) × (height ≤ℤ highest))) }
+    ensures { result ≡ (int_le (pos 0) u && (int_le lowest height && (int_le height highest && int_le width widest))) }
 {
     if u < 0 {
         return false;
@@ -85,13 +93,22 @@ impl Sample {
         }
     }
 
+    /// n times the square of a length.
+    #[inline]
+    fn squared(&self, length: i32) -> i128
+        requires { unsigned_abs length ≤ 300000 }
+        ensures { result ≡ ((self.now.scale *ℤ length) *ℤ (self.now.scale *ℤ length)) *ℤ self.now.n }
+    {
+        scaled_square(self.scale, length) * self.n
+    }
+
     /// Whether the slab holds the point at this sample.
     pub fn is_covered_by(&self, slab: &Slab) -> bool
-        ensures { IsTrue result ↔ Covers slab.now self.now.scale self.now.u self.now.n self.now.w }
+        ensures { result ≡ covers slab.now self.now.scale self.now.u self.now.n self.now.w }
     {
-        let lowest = scaled_square(self.scale, slab.lo) * self.n;
-        let highest = scaled_square(self.scale, slab.hi) * self.n;
-        let widest = scaled_square(self.scale, slab.dia) * self.n;
+        let lowest = self.squared(slab.lo);
+        let highest = self.squared(slab.hi);
+        let widest = self.squared(slab.dia);
         let height = self.u * self.u;
         let width = 4 * self.w;
         lies_within(self.u, lowest, height, highest, width, widest)
@@ -99,8 +116,7 @@ impl Sample {
 
     /// Whether some of the slabs holds the point at this sample.
     pub fn is_covered_by_some(&self, slabs: &[Slab]) -> bool
-        ensures { MatchBool result (CoveredBySome self.now.scale self.now.u self.now.n self.now.w slabs.now)
-            (¬ CoveredBySome self.now.scale self.now.u self.now.n self.now.w slabs.now) }
+        ensures { result ≡ covered_by_some self.now.scale self.now.u self.now.n self.now.w slabs.now }
     {
         for slab in slabs {
             if self.is_covered_by(slab) {

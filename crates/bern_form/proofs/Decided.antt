@@ -12,7 +12,7 @@ use Rattle.space.specs.Reach.{is_in_reach}
 use Rattle.space.proofs.ReachLemmas.{InReach, decides_in_reach}
 use Rattle.space.proofs.Tests.{decides_le, decides_lt}
 use Rattle.bern_form.specs.Forms.{all_negative, all_positive}
-use Rattle.bern_form.specs.Slab.{SlabSize, covers, holds, holds_at}
+use Rattle.bern_form.specs.Slab.{SlabSize, covers, holds_at}
 use Rattle.bern_form.specs.Cells.{across_list, along_list, is_excluded, u_list}
 use Rattle.bern_form.specs.Marks.{NeverHeld, some_below, some_holds, held_at_sample, is_left_on, is_left_on_cell, is_possible}
 use Rattle.bern_form.proofs.Relations.{AllExcluded, AllNegative, AllPositive, Covers, Excluded, HeldAtSample, HoldsAt as SlabHoldsAt, IsNotPossible, IsPossible, LeftOn, LeftOnCell, SomeHolds}
@@ -29,6 +29,20 @@ decides_below p P n each =
     (λ (some : (k : ℕ) × (k < n) × P k).
     (some.0, omega (arith, some.1), λ d. subst P (sym (get_or-range_with_len 0 n some.0 d some.1 ∙ zero-add some.0)) some.2))
     (Decides-by_or p P (list_any p) each refl (λ x xs. refl) (range_with_len 0 n))
+
+-- a test whose relation does not hold says no
+pub says_no : (P : Type 0) (b : Bool) → Decides b P → ¬ P → b ≡ false
+says_no P b decides none = ⊎_elim (λ yes. absurd (none (decides.0 yes))) (λ no. no) (cases_Bool b)
+
+-- where a number below n passes, the test says yes
+pub found_below : (p : ℕ → Bool) (n k : ℕ) → k < n → p k ≡ true → some_below p n ≡ true
+found_below p n k l passes = (decides_below p (λ j. p j ≡ true) n (λ j. (λ e. e, λ e. e))).1 (k, l, passes)
+
+-- where none does, it says no
+pub none_below : (p : ℕ → Bool) (n : ℕ) → ((k : ℕ) → k < n → p k ≡ false) → some_below p n ≡ false
+none_below p n none =
+    says_no ((k : ℕ) × (k < n) × (p k ≡ true)) (some_below p n) (decides_below p (λ j. p j ≡ true) n (λ j. (λ e. e, λ e. e)))
+    (λ some. let e = none some.0 some.1 in let f = some.2 in cc)
 
 no_place : (k : ℕ) → k < 0 → ⊥
 no_place k l = omega (arith, l)
@@ -124,10 +138,6 @@ not_found_possible outer reach m p S none =
     (λ far. inl (not_from_Decides (is_in_reach reach m.from m.to p) (decides_in_reach reach m.from m.to p) far))
     (cases_Bool (is_in_reach reach m.from m.to p))
 
--- a test whose relation does not hold says no
-pub says_no : (P : Type 0) (b : Bool) → Decides b P → ¬ P → b ≡ false
-says_no P b decides none = ⊎_elim (λ yes. absurd (none (decides.0 yes))) (λ no. no) (cases_Bool b)
-
--- a test that says no has a relation that doesn't hold
+-- slabs of which none holds the point at a time never hold it
 pub never_held : (slabs : List SlabSize) (m : Motion) (p : List ℤ) → ((a b : ℕ) → IsTime a b → ¬ SomeHolds slabs m p a b) → NeverHeld slabs m p
 never_held slabs m p none = λ a b time. says_no (SomeHolds slabs m p a b) (some_holds slabs m p a b) (decides_some_holds slabs m p a b) (none a b time)

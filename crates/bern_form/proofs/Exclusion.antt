@@ -1,16 +1,17 @@
 -- A slab that the cell rule excludes holds the point at no rational time of the cell, ends included.
-use Rattle.std.proofs.Common.{◌≡◌, ℕ, zero, suc, ◌+◌, ◌*◌, ◌-◌, ◌≤◌, ◌<◌, List, ℤ, pos, negsuc, ◌*ℤ◌, ◌-ℤ◌, ◌<ℤ◌, ◌≤ℤ◌, arith, subst, ⊎_elim}
+use Rattle.std.proofs.Common.{◌≡◌, true, false, ℕ, zero, suc, ◌+◌, ◌*◌, ◌-◌, ◌≤◌, ◌<◌, List, ℤ, pos, negsuc, ◌*ℤ◌, ◌-ℤ◌, ◌<ℤ◌, ◌≤ℤ◌, arith, subst, ⊎_elim}
 use Rattle.std.proofs.lemmas.Int.{ints}
 use Rattle.std.proofs.lemmas.Bool.{cases_lt}
+use Rattle.std.proofs.lemmas.Bool.Decides.{not_from_Decides}
 use Rattle.std.proofs.Math.Nat.{mul-le-mul_left}
 use Rattle.bern_form.specs.Forms.{value2, value4}
 use Rattle.space.specs.Motion.{Motion, IsTime, offset_at, axis_at}
 use Rattle.space.specs.Vectors.{dot, spread}
-use Rattle.bern_form.specs.Slab.{SlabSize}
-use Rattle.bern_form.specs.Cells.{IsInCell, u_list, along_list, across_list}
-use Rattle.bern_form.specs.Marks.{NeverHeld}
-use Rattle.bern_form.proofs.Relations.{AllExcluded, Excluded, HoldsAt, SomeHolds}
-use Rattle.bern_form.proofs.Decided.{never_held}
+use Rattle.bern_form.specs.Slab.{SlabSize, holds_at}
+use Rattle.bern_form.specs.Cells.{IsInCell, is_excluded, u_list, along_list, across_list}
+use Rattle.bern_form.specs.Marks.{NeverHeld, is_left_on_cell}
+use Rattle.bern_form.proofs.Relations.{AllExcluded, Excluded, HoldsAt}
+use Rattle.bern_form.proofs.Decided.{decides_covers, decides_excluded, decides_left, excluded_unless_left, never_held, says_no}
 use Rattle.bern_form.proofs.Places.{late, early, u_place, along_place, across_place}
 use Rattle.bern_form.proofs.Signs.{negative2, negative4, positive4}
 
@@ -70,6 +71,12 @@ excluded_not_held s m p k S a b time out held =
     c)
     out
 
+-- the same by the tests
+pub excluded_holds_not : (s : SlabSize) (m : Motion) (p : List ℤ) (k S a b : ℕ) → is_excluded s m p k S ≡ true → IsInCell k S a b → holds_at s m p a b ≡ false
+excluded_holds_not s m p k S a b out time =
+    let P = offset_at m p (pos a) (pos b) in let A = axis_at m (pos a) (pos b) in
+    says_no (HoldsAt s m p a b) (holds_at s m p a b) (decides_covers s (pos b) (dot P A) (dot A A) (spread P A)) (excluded_not_held s m p k S a b time ((decides_excluded s m p k S).0 out))
+
 -- each time lies in some cell
 cell_from : (a b S : ℕ) → 0 < b → (j : ℕ) → a * S ≤ j * b → 0 < j → (k : ℕ) × (k < j) × IsInCell k S a b
 cell_from a b S g zero h l = absurd (omega arith)
@@ -88,3 +95,8 @@ pub excluded_never_held : (slabs : List SlabSize) (m : Motion) (p : List ℤ) (S
 excluded_never_held slabs m p S l out = never_held slabs m p (λ a b time held.
     let k = cell_of a b S time l in
     excluded_not_held held.slab m p k.0 S a b k.2 (out held.slab k.0 held.among k.1) held.holds)
+
+-- the same by the test: slabs that are left on no cell
+pub left_nowhere : (slabs : List SlabSize) (m : Motion) (p : List ℤ) (S : ℕ) → 0 < S → is_left_on_cell slabs m p S ≡ false → NeverHeld slabs m p
+left_nowhere slabs m p S l none =
+    excluded_never_held slabs m p S l (excluded_unless_left slabs m p S (not_from_Decides (is_left_on_cell slabs m p S) (decides_left slabs m p S) none))

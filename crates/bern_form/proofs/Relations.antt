@@ -2,7 +2,7 @@
 use Rattle.std.proofs.Common.{ℕ, ◌≤◌, ◌<◌, List, ℤ, pos, ◌*ℤ◌, ◌≤ℤ◌, ◌<ℤ◌, ◌⊎◌}
 use Rattle.std.specs.List.{All, Contains}
 use Rattle.space.specs.Vectors.{dot, spread}
-use Rattle.space.specs.Motion.{Motion, IsTime, axis_at, offset_at}
+use Rattle.space.specs.Motion.{Motion, axis_at, offset_at}
 use Rattle.space.proofs.ReachLemmas.{InReach}
 use Rattle.bern_form.specs.Slab.{SlabSize}
 use Rattle.bern_form.specs.Cells.{across_list, along_list, u_list}

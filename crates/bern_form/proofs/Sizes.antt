@@ -1,12 +1,12 @@
 -- How large the numbers of one point's tests can be: each coefficient stays below 4 * 10^37.
 use Rattle.std.proofs.Common.{◌≡◌, ℕ, zero, suc, ◌+◌, ◌*◌, ◌-◌, ◌^◌, ◌≤◌, ◌<◌, [], ◌∷◌, List, ℤ, pos, ◌+ℤ◌, ◌*ℤ◌, ◌-ℤ◌, unsigned_abs, arith, subst, sym}
 use Rattle.std.specs.List.{All}
-use Rattle.std.proofs.lemmas.Int.{ints}
 use Rattle.bern_form.specs.Forms.{IsSmall, product11, product22, lifted, sum2, scaled2, scaled4, difference4}
 use Rattle.space.specs.Vectors.{at, dot}
 use Rattle.space.specs.Motion.{Motion, IsSweep, axis_at, between, offset, offset_at}
 use Rattle.space.specs.Ranges.{IsPoint, IsWithin}
 use Rattle.bern_form.specs.Sizes.{IsBounded2, IsBounded4, axis_limit, offset_limit, scale_limit}
+use Rattle.space.proofs.Axis.{rest_is}
 use Rattle.space.proofs.Naturals.{abs_add, abs_mul, abs_sub}
 
 sum_small : (a b : ℤ) (m n : ℕ) → unsigned_abs a ≤ m → unsigned_abs b ≤ n → unsigned_abs (a +ℤ b) ≤ m + n
@@ -16,9 +16,6 @@ difference_small : (a b : ℤ) (m n : ℕ) → unsigned_abs a ≤ m → unsigned
 difference_small a b m n h k = let s = abs_sub a b in omega arith
 
 -- a place between two ends, at the time k / S
-rest_is : (k S : ℕ) → k ≤ S → pos S -ℤ pos k ≡ pos (S - k)
-rest_is k S h = omega (arith, ints)
-
 pub before_small : (k S m : ℕ) (f : ℤ) → k ≤ S → unsigned_abs f ≤ m → unsigned_abs ((pos S -ℤ pos k) *ℤ f) ≤ (S - k) * m
 before_small k S m f h p = abs_mul (pos S -ℤ pos k) f (S - k) m (subst (λ z. unsigned_abs z ≤ S - k) (sym (rest_is k S h)) (omega arith)) p
 
@@ -119,6 +116,10 @@ scaled4_bounded s a w m h k = record {
   c3 = abs_mul s (at a 3) w m h k.c3;
   c4 = abs_mul s (at a 4) w m h k.c4;
 }
+
+-- a list of coefficients is small where the list that it equals is
+pub small_as : {a b : List ℤ} → a ≡ b → All IsSmall b → All IsSmall a
+small_as e h = subst (All IsSmall) (sym e) h
 
 -- a list of three, or of five, small numbers
 pub three_small : (a b c : ℤ) → IsSmall a → IsSmall b → IsSmall c → All IsSmall (a ∷ b ∷ c ∷ [])

@@ -1,70 +1,65 @@
 -- The exact cutter over whole numbers is that over natural ones, since n and w are not below 0.
-use Rattle.std.proofs.Common.{◌≡◌, ℕ, ◌+◌, ◌*◌, ◌-◌, ◌≤◌, List, ℤ, pos, negsuc, ◌*ℤ◌, ◌-ℤ◌, ◌≤ℤ◌, arith, ap, sym, subst, ◌⊎◌, inl, inr, ⊎_elim}
+use Rattle.std.proofs.Common.{◌≡◌, ℕ, ◌*◌, ◌≤◌, ◌<◌, List, ℤ, pos, ◌*ℤ◌, ◌≤ℤ◌, arith, sym, subst, inl, inr}
 use Rattle.std.proofs.lemmas.Int.{ints}
-use Rattle.std.proofs.Math.Nat.{mul-le-mul_right}
 use Rattle.space.specs.Vectors.{dot, spread}
-use Rattle.cutter_slabs.specs.Cutter.{CornerRule, CutterSize, IsCutter, IsInside, flat_of}
-use Rattle.cutter_slabs.proofs.Corner.{Corner, InCutter}
+use Rattle.cutter_slabs.specs.Cone.{ConeRule}
+use Rattle.cutter_slabs.specs.Corner.{CornerRule}
+use Rattle.cutter_slabs.specs.Cutter.{CutterSize, IsCutter, flat_of}
+use Rattle.cutter_slabs.specs.Inside.{IsInside, IsWithinCone, IsWithinRound}
+use Rattle.cutter_slabs.proofs.Cones.{InCone, cone_down, cone_up}
+use Rattle.cutter_slabs.proofs.Places.{Place, from_naturals, to_naturals}
+use Rattle.cutter_slabs.proofs.Round.{InRound, full}
+use Rattle.cutter_slabs.proofs.Rules.{corner_down, corner_up}
 
--- the corner rule, both ways
-gap_is : (g x y : ℕ) → g + y ≡ x → pos g ≡ pos x -ℤ pos y
-gap_is g x y e = omega (arith, ints)
+-- the height, both ways
+abbrev Below : ℕ → ℤ → ℤ → Type 0
+Below h u n = (u *ℤ u) ≤ℤ (pos (h * h) *ℤ n)
 
-c_is : (E q N W g m : ℕ) → E * E * (q * q) * N + 4 * g * N + m ≡ 4 * (q * q) * W
-    → pos m ≡ pos (4 * (q * q)) *ℤ pos W -ℤ pos (E * E * (q * q)) *ℤ pos N -ℤ pos 4 *ℤ (pos g *ℤ pos N)
-c_is E q N W g m e = omega (arith, ints)
+height_down : (h u n : ℕ) → Below h (pos u) (pos n) → u * u ≤ (h * h) * n
+height_down h u n l = omega (arith, ints, l)
 
-pub corner_down : (r E U N W : ℕ) → CornerRule r E (pos U) (pos N) (pos W) → Corner r E U N W
-corner_down r E U N W c = λ p q g m one top low e f.
-    ⊎_elim
-    (λ l. let z : m ≡ 0 = omega (arith, ints) in subst (λ x. x * x ≤ 16 * (E * E) * (q * q) * g * (N * N)) (sym z) (omega arith))
-    (λ s. omega (arith, ints, s))
-    (c p q one top (omega (arith, ints, low)) (pos g) (pos m) (gap_is g (2 * r * p * q) (p * p) e) (c_is E q N W g m f))
+height_up : (h u n : ℕ) → u * u ≤ (h * h) * n → Below h (pos u) (pos n)
+height_up h u n l = omega (arith, ints, l)
 
-g_is : (r p q : ℕ) (g : ℤ) → p * p ≤ 2 * r * p * q → g ≡ pos (2 * r * p * q) -ℤ pos (p * p) → g ≡ pos (2 * r * p * q - p * p)
-g_is r p q g h e = omega (arith, ints)
+-- the side, both ways
+side_down : (d u n w : ℕ) → (pos 4 *ℤ pos w) ≤ℤ (pos (d * d) *ℤ pos n) → 4 * w ≤ (d * d) * n
+side_down d u n w l = omega (arith, ints, l)
 
-m_is : (E q N W g m : ℕ) → pos m ≡ pos (4 * (q * q)) *ℤ pos W -ℤ pos (E * E * (q * q)) *ℤ pos N -ℤ pos 4 *ℤ (pos g *ℤ pos N)
-    → E * E * (q * q) * N + 4 * g * N + m ≡ 4 * (q * q) * W
-m_is E q N W g m e = omega (arith, ints)
+side_up : (d u n w : ℕ) → 4 * w ≤ (d * d) * n → (pos 4 *ℤ pos w) ≤ℤ (pos (d * d) *ℤ pos n)
+side_up d u n w l = omega (arith, ints, l)
 
-corner_case : (r E U N W : ℕ) → Corner r E U N W → (p q G : ℕ) (x : ℤ) → 1 ≤ q → p ≤ r * q → (pos (q * q) *ℤ (pos U *ℤ pos U)) ≤ℤ (pos (p * p) *ℤ pos N)
-    → G + p * p ≡ 2 * r * p * q → x ≡ pos (4 * (q * q)) *ℤ pos W -ℤ pos (E * E * (q * q)) *ℤ pos N -ℤ pos 4 *ℤ (pos G *ℤ pos N)
-    → (x ≤ℤ pos 0) ⊎ ((x *ℤ x) ≤ℤ (pos (16 * (E * E) * (q * q)) *ℤ (pos G *ℤ (pos N *ℤ pos N))))
-corner_case r E U N W c p q G (pos m) one top low e f = inr (let k = c p q G m one top (omega (arith, ints, low)) e (m_is E q N W G m f) in omega (arith, ints, k))
-corner_case r E U N W c p q G (negsuc m) one top low e f = inl (omega (arith, ints))
-
-pub corner_up : (r E U N W : ℕ) → Corner r E U N W → CornerRule r E (pos U) (pos N) (pos W)
-corner_up r E U N W c = λ p q one top low g x e f.
-    let square = mul-le-mul_right p top in
-    let G = 2 * r * p * q - p * p in
-    let eg : g ≡ pos G = g_is r p q g (omega arith) e in
-    subst (λ z. (x ≤ℤ pos 0) ⊎ ((x *ℤ x) ≤ℤ (pos (16 * (E * E) * (q * q)) *ℤ (z *ℤ (pos N *ℤ pos N))))) (sym eg)
-    (corner_case r E U N W c p q G x one top low (omega arith) (subst (λ z. x ≡ pos (4 * (q * q)) *ℤ pos W -ℤ pos (E * E * (q * q)) *ℤ pos N -ℤ pos 4 *ℤ (z *ℤ pos N)) eg f))
-
--- the exact cutter, both ways
-pub full : (c : CutterSize) (b : ℕ) → IsCutter c → b * c.d ≡ b * flat_of c + 2 * (b * c.r)
-full c b valid = let corner = valid.corner in let e : c.d ≡ flat_of c + 2 * c.r = omega arith in let m = ap (λ k. b * k) e in omega arith
-
-pub cutter_down : (c : CutterSize) (b : ℕ) (p a : List ℤ) (U N W : ℕ) → IsCutter c → dot p a ≡ pos U → dot a a ≡ pos N → spread p a ≡ pos W
-    → IsInside c b p a → InCutter (b * c.r) (b * flat_of c) (b * c.h) U N W
-cutter_down c b p a U N W valid e1 e2 e3 i =
-    let height = subst (λ u. (u *ℤ u) ≤ℤ (pos (b * c.h * (b * c.h)) *ℤ pos N)) e1 (subst (λ n. (dot p a *ℤ dot p a) ≤ℤ (pos (b * c.h * (b * c.h)) *ℤ n)) e2 i.height) in
-    let wide = subst (λ k. (pos 4 *ℤ spread p a) ≤ℤ (pos (k * k) *ℤ dot a a)) (full c b valid) i.side in
+pub round_down : (c : CutterSize) (b : ℕ) (p a : List ℤ) (x : Place p a) → IsCutter c → Below (b * c.h) (dot p a) (dot a a)
+    → IsWithinRound c b (dot p a) (dot a a) (spread p a) → InRound c b x.u x.n x.w
+round_down c b p a x valid high within =
     let E = b * flat_of c in let R = b * c.r in
-    let side = subst (λ w. (pos 4 *ℤ w) ≤ℤ (pos ((E + 2 * R) * (E + 2 * R)) *ℤ pos N)) e3 (subst (λ n. (pos 4 *ℤ spread p a) ≤ℤ (pos ((E + 2 * R) * (E + 2 * R)) *ℤ n)) e2 wide) in
-    let corner = subst (λ u. CornerRule R E u (pos N) (pos W)) e1 (subst (λ n. CornerRule R E (dot p a) n (pos W)) e2 (subst (λ w. CornerRule R E (dot p a) (dot a a) w) e3 i.corner)) in
-    record { height = omega (arith, ints, height); side = omega (arith, ints, side); corner = corner_down R E U N W corner }
-
-pub cutter_up : (c : CutterSize) (b : ℕ) (p a : List ℤ) (U N W : ℕ) → IsCutter c → dot p a ≡ pos U → dot a a ≡ pos N → spread p a ≡ pos W
-    → InCutter (b * c.r) (b * flat_of c) (b * c.h) U N W → IsInside c b p a
-cutter_up c b p a U N W valid e1 e2 e3 i =
-    let E = b * flat_of c in let R = b * c.r in
-    let side : (pos 4 *ℤ spread p a) ≤ℤ (pos ((E + 2 * R) * (E + 2 * R)) *ℤ dot a a) =
-    subst (λ w. (pos 4 *ℤ w) ≤ℤ (pos ((E + 2 * R) * (E + 2 * R)) *ℤ dot a a)) (sym e3) (subst (λ n. (pos 4 *ℤ pos W) ≤ℤ (pos ((E + 2 * R) * (E + 2 * R)) *ℤ n)) (sym e2) (omega (arith, ints, i.side))) in
-    record {
-      forward = subst (λ u. pos 0 ≤ℤ u) (sym e1) (omega (arith, ints));
-      height = subst (λ u. (u *ℤ u) ≤ℤ (pos (b * c.h * (b * c.h)) *ℤ dot a a)) (sym e1) (subst (λ n. (pos U *ℤ pos U) ≤ℤ (pos (b * c.h * (b * c.h)) *ℤ n)) (sym e2) (omega (arith, ints, i.height)));
-      side = subst (λ k. (pos 4 *ℤ spread p a) ≤ℤ (pos (k * k) *ℤ dot a a)) (sym (full c b valid)) side;
-      corner = subst (λ u. CornerRule R E u (dot a a) (spread p a)) (sym e1) (subst (λ n. CornerRule R E (pos U) n (spread p a)) (sym e2) (subst (λ w. CornerRule R E (pos U) (pos N) w) (sym e3) (corner_up R E U N W i.corner)));
+    let side = side_down (b * c.d) x.u x.n x.w (to_naturals (λ u n w. (pos 4 *ℤ w) ≤ℤ (pos (b * c.d * (b * c.d)) *ℤ n)) p a x within.side) in record {
+      height = height_down (b * c.h) x.u x.n (to_naturals (λ u n w. Below (b * c.h) u n) p a x high);
+      side = subst (λ k. 4 * x.w ≤ (k * k) * x.n) (full c b valid) side;
+      corner = corner_down R E x.u x.n x.w (to_naturals (λ u n w. CornerRule R E u n w) p a x within.corner);
     }
+
+pub round_up : (c : CutterSize) (t b : ℕ) (p a : List ℤ) (x : Place p a) → IsCutter c → c.flank ≡ 0 → pos 0 ≤ℤ dot p a → InRound c b x.u x.n x.w → IsInside c t b p a
+round_up c t b p a x valid upright forward inside =
+    let side = subst (λ k. 4 * x.w ≤ (k * k) * x.n) (sym (full c b valid)) inside.side in record {
+      forward = forward;
+      height = from_naturals (λ u n w. Below (b * c.h) u n) p a x (height_up (b * c.h) x.u x.n inside.height);
+      shape = inl record {
+        upright = upright;
+        side = from_naturals (λ u n w. (pos 4 *ℤ w) ≤ℤ (pos (b * c.d * (b * c.d)) *ℤ n)) p a x (side_up (b * c.d) x.u x.n x.w side);
+        corner = from_naturals (λ u n w. CornerRule (b * c.r) (b * flat_of c) u n w) p a x (corner_up (b * c.r) (b * flat_of c) x.u x.n x.w inside.corner);
+      };
+    }
+
+pub leaning_down : (c : CutterSize) (t b : ℕ) (p a : List ℤ) (x : Place p a) → Below (b * c.h) (dot p a) (dot a a)
+    → IsWithinCone c t b (dot p a) (dot a a) (spread p a) → InCone t (b * c.d) (b * c.h) x.u x.n x.w
+leaning_down c t b p a x high within = record {
+  height = height_down (b * c.h) x.u x.n (to_naturals (λ u n w. Below (b * c.h) u n) p a x high);
+  cone = cone_down t (b * c.d) x.u x.n x.w (to_naturals (λ u n w. ConeRule t (b * c.d) u n w) p a x within.cone);
+}
+
+pub leaning_up : (c : CutterSize) (t b : ℕ) (p a : List ℤ) (x : Place p a) → 0 < c.flank → pos 0 ≤ℤ dot p a → InCone t (b * c.d) (b * c.h) x.u x.n x.w → IsInside c t b p a
+leaning_up c t b p a x leaning forward inside = record {
+  forward = forward;
+  height = from_naturals (λ u n w. Below (b * c.h) u n) p a x (height_up (b * c.h) x.u x.n inside.height);
+  shape = inr record { leaning = leaning; cone = from_naturals (λ u n w. ConeRule t (b * c.d) u n w) p a x (cone_up t (b * c.d) x.u x.n x.w inside.cone) };
+}

@@ -2,13 +2,17 @@ ghost use Rattle.std.specs.Prelude.{◌≡◌};
 
 use std::marker::Model;
 
-/// A flat, bull-nose or ball cutter by its diameter `d`, corner radius `r` and height `h` above the tip: an APT cutter whose
-/// corner touches the bottom plane and the flank. Micrometres, with 1 <= d <= 200,000, 0 <= 2r <= d, 1 <= h <= 300,000, r <= h.
+/// A flat, bull-nose, ball or conical cutter by its diameter `d` at the tip, corner radius `r`, height `h` above the tip and
+/// flank angle `flank`, in whole degrees from the axis. Where the angle is 0 it is an APT cutter whose corner touches the bottom
+/// plane and the flank; a greater angle makes a cone that widens upwards. Micrometres, with 1 <= d <= 200,000, 0 <= 2r <= d,
+/// 1 <= h <= 300,000, r <= h, an angle that `space::is_flank` knows, no corner under a greater angle than 0, and at most 200,000
+/// wide at the top.
 #[derive(Clone, Copy, Debug, PartialEq, Eq)]
 pub struct Cutter {
     pub d: i32,
     pub r: i32,
     pub h: i32,
+    pub flank: u32,
 }
 
 impl Model for Cutter {
@@ -18,17 +22,18 @@ impl Model for Cutter {
 
     ghost Value = { CutterSize };
 
-    ghost view = { λ c. record { d = unsigned_abs c.d; r = unsigned_abs c.r; h = unsigned_abs c.h } };
+    ghost view = { λ c. record { d = unsigned_abs c.d; r = unsigned_abs c.r; h = unsigned_abs c.h; flank = c.flank } };
 
-    ghost invariant = { λ c. (pos 0 ≤ℤ c.d) × (pos 0 ≤ℤ c.r) × (pos 0 ≤ℤ c.h) × IsCutter record { d = unsigned_abs c.d; r = unsigned_abs c.r; h = unsigned_abs c.h } };
+    ghost invariant = { λ c. (pos 0 ≤ℤ c.d) × (pos 0 ≤ℤ c.r) × (pos 0 ≤ℤ c.h)
+        × IsCutter record { d = unsigned_abs c.d; r = unsigned_abs c.r; h = unsigned_abs c.h; flank = c.flank } };
 
-    ghost inverse = { λ c. record { d = pos c.d; r = pos c.r; h = pos c.h } };
+    ghost inverse = { λ c. record { d = pos c.d; r = pos c.r; h = pos c.h; flank = c.flank } };
 
-    ghost inverse_ok = { λ c valid i. record { d = fields_back c.d valid.0 i; r = fields_back c.r valid.1 i; h = fields_back c.h valid.2 i } };
+    ghost inverse_ok = { λ c valid i. record { d = fields_back c.d valid.0 i; r = fields_back c.r valid.1 i; h = fields_back c.h valid.2 i; flank = c.flank } };
 }
 
 impl Cutter {
-    ghost use Rattle.cutter_slabs.specs.Cutter.{IsCutter, flat_of};
+    ghost use Rattle.cutter_slabs.specs.Cutter.{IsCutter, top_diameter};
 
     pub(crate) fn diameter(&self) -> u32
         ensures value { result ≡ self.now.d }
@@ -49,5 +54,13 @@ impl Cutter {
         ensures valid { IsCutter self.now }
     {
         self.h as u32
+    }
+
+    /// The diameter at the top.
+    pub(crate) fn top_diameter(&self) -> u32
+        ensures value { result ≡ top_diameter self.now }
+        ensures valid { IsCutter self.now }
+    {
+        space::top_diameter(self.diameter(), self.height(), self.flank) as u32
     }
 }

@@ -1,8 +1,8 @@
 ghost use Rattle.std.specs.Prelude.{◌≡◌, ◌+◌, ◌-◌, ◌*◌, ◌^◌, ◌<◌, ◌≤◌};
 ghost use Rattle.bern_form.specs.Roots.{ceil_root, floor_root};
-ghost use Rattle.cutter_slabs.specs.Stacks.{bound_of, slab_of};
+ghost use Rattle.cutter_slabs.specs.Stacks.{bound_of};
 
-use bern_form::{Slab, isqrt_ceil, isqrt_floor};
+use bern_form::{isqrt_ceil, isqrt_floor};
 
 // At the height z above the tip, z at most r, the rounded corner is sqrt(r^2 - (r - z)^2) = sqrt(2 r z - z^2) wide, and the
 // profile is that far from the edge of the flat bottom. Diameters are twice that.
@@ -51,18 +51,4 @@ pub fn outer_diameter(flat: u32, radius: u32, z: u32) -> u32
     ensures small { result ≤ 200000 }
 {
     flat + 2 * isqrt_ceil(corner_square(radius, z)) as u32
-}
-
-/// The slab from `lo` to `hi` with a diameter.
-pub fn slab_between(lo: u32, hi: u32, dia: u32) -> Slab
-    requires ordered { lo ≤ hi }
-    requires high { hi ≤ 300000 }
-    requires wide { dia ≤ 200000 }
-    ensures { result ≡ slab_of lo hi dia }
-{
-    Slab {
-        lo: lo as i32,
-        hi: hi as i32,
-        dia: dia as i32,
-    }
 }

@@ -1,7 +1,6 @@
 -- What the tests of numbers, vectors and reach say.
-use Rattle.std.proofs.Common.{◌≡◌, ℕ, ◌≤◌, ℤ, pos, ◌≤ℤ◌, ◌<ℤ◌, ◌*ℤ◌, int_le, int_lt, nat_le, unsigned_abs, Bool, true, false, ◌&&◌, List, arith, refl}
+use Rattle.std.proofs.Common.{◌≡◌, ℤ, pos, ◌≤ℤ◌, ◌<ℤ◌, ◌*ℤ◌, int_le, int_lt, false, List, arith}
 use Rattle.std.specs.Bool.{Decides}
-use Rattle.std.specs.Ordering.{int_eq}
 use Rattle.std.proofs.lemmas.Bool.Decides.{Decides-and, Decides-int_eq, not_from_Decides}
 use Rattle.std.proofs.lemmas.Int.{ints}
 use Rattle.space.specs.Vectors.{are_opposite, at, dot, is_zero}

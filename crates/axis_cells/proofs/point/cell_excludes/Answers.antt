@@ -1,24 +1,21 @@
-use Rattle.std.proofs.Common.{ℕ, ◌≤◌, ◌^◌, subst}
-use Rattle.std.specs.Prelude.{IsTrue, ◌↔◌}
+use Rattle.std.proofs.Common.{◌≡◌, ℕ, ◌≤◌, ◌^◌, subst, sym, ◌∙◌}
 use Rattle.space.specs.Motion.{IsSweep}
 use Rattle.bern_form.specs.Slab.{IsSlab}
 use Rattle.bern_form.specs.Sizes.{scale_limit}
-use Rattle.bern_form.specs.Cells.{Excluded}
+use Rattle.bern_form.specs.Cells.{is_excluded}
+use Rattle.bern_form.proofs.Exclusion.{excluded_holds_not}
 use Rattle.axis_cells.proofs.Coefficients.{coefficients_small}
-use Rattle.bern_form.proofs.Exclusion.{excluded_not_held}
-use Rattle.axis_cells.proofs.Comparisons.{excluded_by, excluded_of}
+use Rattle.axis_cells.proofs.Comparisons.{excluded_at}
 use Rattle.axis_cells.proofs.point.cell_excludes.Goals as goal
 
 pub returns-clause-rule : goal.returns-clause-rule
 returns-clause-rule c =
     let cell = c.of_point.result in
-    subst (λ (S : ℕ). IsTrue c.excludes.result ↔ Excluded c.args.slab.now c.args.sweep.now c.args.point c.args.k S) c.cells_of.ensures.cells (
-      λ out. excluded_of cell.scale cell.is_behind cell.n.c cell.height.c cell.width.c c.args.sweep.now c.args.point c.args.k c.cells_of.result c.args.slab.now c.of_point.ensures (c.excludes.ensures.0 out),
-      λ out. c.excludes.ensures.1 (excluded_by cell.scale cell.is_behind cell.n.c cell.height.c cell.width.c c.args.sweep.now c.args.point c.args.k c.cells_of.result c.args.slab.now c.of_point.ensures out),
-    )
+    subst (λ (S : ℕ). c.excludes.result ≡ is_excluded c.args.slab.now c.args.sweep.now c.args.point c.args.k S) c.cells_of.ensures.cells
+    (c.excludes.ensures ∙ excluded_at cell.scale cell.is_behind cell.n.c cell.height.c cell.width.c c.args.sweep.now c.args.point c.args.k c.cells_of.result c.args.slab.now c.of_point.ensures)
 
 pub returns-clause-never : goal.returns-clause-never
-returns-clause-never c = λ out a b time held. excluded_not_held c.args.slab.now c.args.sweep.now c.args.point c.args.k (2 ^ c.args.depth) a b time ((returns-clause-rule c).0 out) held
+returns-clause-never c = λ out a b time. excluded_holds_not c.args.slab.now c.args.sweep.now c.args.point c.args.k (2 ^ c.args.depth) a b (sym (returns-clause-rule c) ∙ out) time
 
 pub returns-clause-small : goal.returns-clause-small
 returns-clause-small c =

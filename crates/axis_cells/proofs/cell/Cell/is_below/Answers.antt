@@ -1,9 +1,8 @@
-use Rattle.std.proofs.Common.{FitsSigned, rules, arith, subst, ap, ℤ, List, ◌≡◌, ◌*◌, ◌*ℤ◌, ◌∙◌}
+use Rattle.std.proofs.Common.{arith, ap, ◌≡◌, ◌∙◌, ◌*◌}
 use Rattle.std.proofs.lemmas.Int.{to_z-of_z}
-use mir.Syntax.{w32}
-use Rattle.std.specs.Prelude.{IsTrue, ◌↔◌}
-use Rattle.bern_form.specs.Forms.{AllNegative, difference4, lifted, scaled2}
+use Rattle.bern_form.specs.Forms.{all_negative, difference4}
 use Rattle.bern_form.specs.Sizes.{axis_limit, offset_limit}
+use Rattle.axis_cells.specs.Exclusion.{squared}
 use Rattle.axis_cells.proofs.Bounds.{difference_fits, more4}
 use Rattle.axis_cells.proofs.cell.Cell.is_below.Goals as goal
 
@@ -12,10 +11,6 @@ minus4-requires c = difference_fits c.args.self.now.height.c c.squared.result.c 
 
 pub returns : goal.returns
 returns c =
-    let scale = c.args.self.now.scale in let length = c.args.lo in
-    let length' : FitsSigned w32 length = search rules in
-    let square = (scale *ℤ length) *ℤ (scale *ℤ length) in
-    let e = simp to_z-of_z at c.squared.ensures.list in
-    let whole : c.minus4.result.c ≡ difference4 c.args.self.now.height.c (lifted (scaled2 square c.args.self.now.n.c)) =
-    c.minus4.ensures.coefficients ∙ ap (λ (l : List ℤ). difference4 c.args.self.now.height.c l) e in
-    subst (λ (l : List ℤ). IsTrue c.all_negative.result ↔ AllNegative l) whole c.all_negative.ensures.exact
+    let length = c.ranges.lo in
+    let square : c.squared.result.c ≡ squared c.args.self.now.scale c.args.lo c.args.self.now.n.c = simp to_z-of_z at c.squared.ensures.list in
+    c.all_negative.ensures.exact ∙ ap all_negative (c.minus4.ensures.coefficients ∙ ap (difference4 c.args.self.now.height.c) square)

@@ -1,6 +1,6 @@
-use Rattle.std.proofs.Common.{ℕ, ◌<◌, slice_index_or}
-use Rattle.bern_form.specs.Slab.{Covers, SlabSize}
+use Rattle.std.proofs.Common.{◌≡◌, drop}
+use Rattle.axis_cells.specs.Exclusion.{covered_by_some}
 use Rattle.axis_cells.proofs.sample.Sample.is_covered_by_some.Given as goal
 
 abbrev pub invariant-loop-slab : goal.invariant-loop-slab
-invariant-loop-slab l = (k : ℕ) (d : SlabSize) → k < l.slab-index → ¬ Covers (slice_index_or l.slabs k d) l.self.scale l.self.u l.self.n l.self.w
+invariant-loop-slab l = covered_by_some l.self.scale l.self.u l.self.n l.self.w (drop l.slab-index l.slabs) ≡ covered_by_some l.self.scale l.self.u l.self.n l.self.w l.slabs

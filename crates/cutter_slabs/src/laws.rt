@@ -1,0 +1,14 @@
+ghost use Rattle.cutter_slabs.specs.Laws.{AnyWritingOfTime, BallPlaces, BallTipIsPoint, ConeIsStraight, ConePlaces, FlatIsCylinder, LowerIsInUpper, OwnHeightIsEnough, UpperIsLower};
+
+/// The laws of the exact cutter: a contract, with nothing to run.
+pub fn cutter_laws()
+    ensures lower { LowerIsInUpper }
+    ensures same { UpperIsLower }
+    ensures times { AnyWritingOfTime }
+    ensures cylinder { FlatIsCylinder }
+    ensures tip { BallTipIsPoint }
+    ensures own_height { OwnHeightIsEnough }
+    ensures straight { ConeIsStraight }
+    ensures ball { BallPlaces }
+    ensures cone { ConePlaces }
+{}
