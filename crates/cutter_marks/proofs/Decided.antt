@@ -1,200 +1,77 @@
--- Each test of a mark says yes exactly where its relation holds, so that a mark by the relations is the mark by the tests.
-use Rattle.std.proofs.Common.{◌≡◌, ℕ, ◌+◌, ◌<◌, ℤ, pos, ◌≤ℤ◌, ◌<ℤ◌, ◌-ℤ◌, ◌+ℤ◌, ◌*ℤ◌, int_le, int_lt, Bool, true, false, not, List, [], ◌∷◌, get_or, zero-add, length, refl, sym, subst, arith, inl, inr, ⊎_elim, ◌∙◌, if◌then◌else◌}
+-- What the mark of a point by a cutter says of the tests that it stands on, and of the cutter's two readings.
+use Rattle.std.proofs.Common.{◌≡◌, ℕ, ◌<◌, ℤ, pos, Bool, true, false, List, refl, if◌then◌else◌}
 use Rattle.std.specs.Bool.{Decides}
-use Rattle.std.specs.List.{Contains, HoldsAt, list_all, list_any, range_with_len}
-use Rattle.std.proofs.lemmas.Bool.{cases_Bool}
-use Rattle.std.proofs.lemmas.Bool.Decides.{Decides-and, Decides-or, Decides-not, Decides-like, Decides-by_and, Decides-by_or, not_from_Decides}
-use Rattle.std.proofs.lemmas.Int.{ints}
-use Rattle.std.proofs.lemmas.List.{get_or_default}
-use Rattle.std.proofs.lemmas.List.FromFn.{length-range_with_len, get_or-range_with_len}
-use Rattle.bern_form.specs.Forms.{AllNegative, AllPositive}
-use Rattle.space.specs.Vectors.{at, dot, spread}
-use Rattle.space.specs.Motion.{IsSweep, Motion, axis_at, offset_at}
-use Rattle.bern_form.specs.Slab.{Covers, HoldsAt as SlabHoldsAt, SlabSize}
-use Rattle.bern_form.specs.Cells.{Excluded, across_list, along_list, u_list}
-use Rattle.bern_form.specs.Marks.{AllExcluded, HeldAtSample, InReach, IsNear, IsNotPossible, IsPossible, LeftOnCell, SomeHolds}
-use Rattle.axis_cells.specs.declared.mark.Mark.{Mark}
+use Rattle.std.proofs.lemmas.Bool.Decides.{not_from_Decides}
+use Rattle.space.specs.Motion.{IsSweep, Motion}
+use Rattle.bern_form.specs.Slab.{SlabSize}
+use Rattle.bern_form.specs.Marks.{held_at_sample, is_possible}
+use Rattle.bern_form.proofs.Decided.{decides_held, decides_possible}
 use Rattle.axis_cells.specs.declared.mark.Mark.TheVariants.{Clear, Possible, Removed}
-use Rattle.axis_cells.specs.Marked.{IsMarked}
-use Rattle.cutter_slabs.specs.Cutter.{CutterSize, IsCutter, Meets}
+use Rattle.axis_cells.specs.Marked.{mark_from}
+use Rattle.cutter_slabs.specs.Cutter.{CutterSize, IsCutter}
+use Rattle.cutter_slabs.specs.Meets.{MeetsLower, MeetsUpper}
 use Rattle.cutter_slabs.specs.Stacks.{inner_stack, outer_stack, reach_of}
-use Rattle.cutter_slabs.proofs.Sound.{not_possible_not_met, sample_met}
-use Rattle.cutter_marks.specs.MarkBy.{some_below, covers, holds, some_holds, held_at_sample, is_near, is_in_reach, all_negative, all_positive, is_excluded, is_left_on_cell, is_possible, mark_from, mark_by}
+use Rattle.cutter_slabs.proofs.Sound.{met_possible, met_upper, sample_met}
+use Rattle.cutter_marks.specs.MarkBy.{is_possible_by, is_sure_by, mark_by}
 
-decides_le : (x y : ℤ) → Decides (int_le x y) (x ≤ℤ y)
-decides_le x y = (λ yes. grind (arith, ints), λ below. grind (arith, ints))
+sure_of : (h q : Bool) → (if h then Removed else (if q then Possible else Clear)) ≡ Removed → h ≡ true
+sure_of true q e = refl
+sure_of false true e = cc
+sure_of false false e = cc
 
-decides_lt : (x y : ℤ) → Decides (int_lt x y) (x <ℤ y)
-decides_lt x y = (λ yes. grind (arith, ints), λ below. grind (arith, ints))
+out_of : (h q : Bool) → (if h then Removed else (if q then Possible else Clear)) ≡ Clear → q ≡ false
+out_of true q e = cc
+out_of false true e = cc
+out_of false false e = refl
 
--- a test of the numbers below n
-decides_below : (p : ℕ → Bool) (P : ℕ → Type 0) (n : ℕ) → ((k : ℕ) → Decides (p k) (P k)) → Decides (some_below p n) ((k : ℕ) × (k < n) × P k)
-decides_below p P n each =
-    let below : length (range_with_len 0 n) ≡ n = length-range_with_len 0 n in
-    Decides-like (list_any p (range_with_len 0 n))
-    (λ (found : (k : ℕ) × (k < length (range_with_len 0 n)) × HoldsAt P (range_with_len 0 n) k).
-    let l : found.0 < n = omega (arith, found.1) in
-    let e : get_or (range_with_len 0 n) found.0 0 ≡ found.0 = get_or-range_with_len 0 n found.0 0 l ∙ zero-add found.0 in
-    (found.0, l, subst P e (found.2 0)))
-    (λ (some : (k : ℕ) × (k < n) × P k).
-    (some.0, omega (arith, some.1), λ d. subst P (sym (get_or-range_with_len 0 n some.0 d some.1 ∙ zero-add some.0)) some.2))
-    (Decides-by_or p P (list_any p) each refl (λ x xs. refl) (range_with_len 0 n))
+of_sure : (h q : Bool) → h ≡ true → (if h then Removed else (if q then Possible else Clear)) ≡ Removed
+of_sure true q e = refl
+of_sure false q e = cc
 
-no_place : (k : ℕ) → k < 0 → ⊥
-no_place k l = omega (arith, l)
+of_out : (h q : Bool) → (h ≡ true → q ≡ true) → q ≡ false → (if h then Removed else (if q then Possible else Clear)) ≡ Clear
+of_out true true both e = cc
+of_out true false both e = let q = both refl in cc
+of_out false true both e = cc
+of_out false false both e = refl
 
--- the slab at a place of a list is among its slabs
-among_at : (P : SlabSize → Type 0) (slabs : List SlabSize) (k : ℕ) → k < length slabs → HoldsAt P slabs k → (s : SlabSize) × Contains slabs s × P s
-among_at P [] k l held = absurd (no_place k l)
-among_at P (x ∷ xs) k l held = (get_or (x ∷ xs) k x, (k, l, get_or_default (x ∷ xs) k (get_or (x ∷ xs) k x) x l), held x)
+-- a mark tells whether the inner slabs hold the point at a sample, and whether the outer ones leave it possible
+pub removed_held : (inner outer : List SlabSize) (reach : ℤ) (m : Motion) (p : List ℤ) (S : ℕ) → mark_from inner outer reach m p S ≡ Removed → held_at_sample inner m p S ≡ true
+removed_held inner outer reach m p S e = sure_of (held_at_sample inner m p S) (is_possible outer reach m p S) e
 
--- a test of some slab of a list
-decides_among : (p : SlabSize → Bool) (P : SlabSize → Type 0) (slabs : List SlabSize) → ((s : SlabSize) → Decides (p s) (P s))
-    → Decides (list_any p slabs) ((s : SlabSize) × Contains slabs s × P s)
-decides_among p P slabs each =
-    Decides-like (list_any p slabs)
-    (λ (found : (k : ℕ) × (k < length slabs) × HoldsAt P slabs k). among_at P slabs found.0 found.1 found.2)
-    (λ (some : (s : SlabSize) × Contains slabs s × P s).
-    (some.1.0, some.1.1, λ d. subst P (sym (get_or_default slabs some.1.0 d some.0 some.1.1 ∙ some.1.2)) some.2))
-    (Decides-by_or p P (list_any p) each refl (λ x xs. refl) slabs)
+pub clear_out : (inner outer : List SlabSize) (reach : ℤ) (m : Motion) (p : List ℤ) (S : ℕ) → mark_from inner outer reach m p S ≡ Clear → is_possible outer reach m p S ≡ false
+clear_out inner outer reach m p S e = out_of (held_at_sample inner m p S) (is_possible outer reach m p S) e
 
-decides_covers : (s : SlabSize) (b u n w : ℤ) → Decides (covers s b u n w) (Covers s b u n w)
-decides_covers s b u n w =
-    let n_lo = ((b *ℤ s.lo) *ℤ (b *ℤ s.lo)) *ℤ n in let n_hi = ((b *ℤ s.hi) *ℤ (b *ℤ s.hi)) *ℤ n in let n_dia = ((b *ℤ s.dia) *ℤ (b *ℤ s.dia)) *ℤ n in
-    let last = Decides-and _ _ (decides_le (u *ℤ u) n_hi) (decides_le (pos 4 *ℤ w) n_dia) in
-    let all = Decides-and _ _ (decides_le (pos 0) u) (Decides-and _ _ (decides_le n_lo (u *ℤ u)) last) in
-    Decides-like (covers s b u n w)
-    (λ (h : (pos 0 ≤ℤ u) × ((n_lo ≤ℤ (u *ℤ u)) × (((u *ℤ u) ≤ℤ n_hi) × ((pos 4 *ℤ w) ≤ℤ n_dia)))).
-    let covered : Covers s b u n w = record { forward = h.0; above = h.1.0; below = h.1.1.0; near = h.1.1.1 } in covered)
-    (λ (c : Covers s b u n w). (c.forward, (c.above, (c.below, c.near)))) all
+-- what is sure is possible too
+pub sure_possible : (c : CutterSize) (n : ℕ) (m : Motion) (p : List ℤ) (S : ℕ) → IsCutter c → 0 < n → 0 < S → IsSweep m → is_sure_by c n m p S ≡ true → is_possible_by c n m p S ≡ true
+unfolding is_sure_by is_possible_by
+sure_possible c n m p S valid some cells sweep sure =
+    (decides_possible (outer_stack c n) (pos (reach_of c)) m p S).1
+    (met_possible c n m p S valid some cells sweep (met_upper c m p (sample_met c n m p S valid some cells ((decides_held (inner_stack c n) m p S).0 sure))))
 
-decides_some_holds : (slabs : List SlabSize) (m : Motion) (p : List ℤ) (a b : ℕ) → Decides (some_holds slabs m p a b) (SomeHolds slabs m p a b)
-decides_some_holds slabs m p a b =
-    let P = offset_at m p (pos a) (pos b) in let A = axis_at m (pos a) (pos b) in
-    Decides-like (some_holds slabs m p a b)
-    (λ (h : (s : SlabSize) × Contains slabs s × SlabHoldsAt s m p a b). let some : SomeHolds slabs m p a b = record { slab = h.0; among = h.1; holds = h.2 } in some)
-    (λ (h : SomeHolds slabs m p a b). (h.slab, h.among, h.holds))
-    (decides_among (λ s. holds s (pos b) P A) (λ s. SlabHoldsAt s m p a b) slabs (λ s. decides_covers s (pos b) (dot P A) (dot A A) (spread P A)))
+-- a point is sure exactly where its mark is Removed
+pub decides_sure : (c : CutterSize) (n : ℕ) (m : Motion) (p : List ℤ) (S : ℕ) → Decides (is_sure_by c n m p S) (mark_by c n m p S ≡ Removed)
+unfolding is_sure_by mark_by
+decides_sure c n m p S =
+    let h = held_at_sample (inner_stack c n) m p S in let q = is_possible (outer_stack c n) (pos (reach_of c)) m p S in
+    (of_sure h q, sure_of h q)
 
-decides_held : (slabs : List SlabSize) (m : Motion) (p : List ℤ) (S : ℕ) → Decides (held_at_sample slabs m p S) (HeldAtSample slabs m p S)
-decides_held slabs m p S =
-    Decides-like (held_at_sample slabs m p S)
-    (λ (h : (k : ℕ) × (k < S + 1) × SomeHolds slabs m p k S). let l = h.1 in let held : HeldAtSample slabs m p S = record { sample = h.0; within = omega (arith, l); held = h.2 } in held)
-    (λ (h : HeldAtSample slabs m p S). (h.sample, omega (arith, h.within), h.held))
-    (decides_below (λ k. some_holds slabs m p k S) (λ k. SomeHolds slabs m p k S) (S + 1) (λ k. decides_some_holds slabs m p k S))
+-- it is not possible exactly where its mark is Clear
+pub clear_is : (c : CutterSize) (n : ℕ) (m : Motion) (p : List ℤ) (S : ℕ) → IsCutter c → 0 < n → 0 < S → IsSweep m
+    → (is_possible_by c n m p S ≡ false → mark_by c n m p S ≡ Clear) × (mark_by c n m p S ≡ Clear → is_possible_by c n m p S ≡ false)
+unfolding is_sure_by is_possible_by mark_by
+clear_is c n m p S valid some cells sweep =
+    let h = held_at_sample (inner_stack c n) m p S in let q = is_possible (outer_stack c n) (pos (reach_of c)) m p S in
+    (of_out h q (sure_possible c n m p S valid some cells sweep), out_of h q)
 
-decides_near : (reach p from to : ℤ) → Decides (is_near reach p from to) (IsNear reach p from to)
-decides_near reach p from to =
-    Decides-and _ _
-    (Decides-or _ _ (decides_le (from -ℤ reach) p) (decides_le (to -ℤ reach) p))
-    (Decides-or _ _ (decides_le p (from +ℤ reach)) (decides_le p (to +ℤ reach)))
-
-decides_in_reach : (reach : ℤ) (m : Motion) (p : List ℤ) → Decides (is_in_reach reach m p) (InReach reach m p)
-decides_in_reach reach m p =
-    let X = IsNear reach (at p 0) (at m.from 0) (at m.to 0) in let Y = IsNear reach (at p 1) (at m.from 1) (at m.to 1) in let Z = IsNear reach (at p 2) (at m.from 2) (at m.to 2) in
-    Decides-like (is_in_reach reach m p)
-    (λ (h : X × (Y × Z)). let near : InReach reach m p = record { x = h.0; y = h.1.0; z = h.1.1 } in near)
-    (λ (h : InReach reach m p). (h.x, (h.y, h.z)))
-    (Decides-and _ _ (decides_near reach (at p 0) (at m.from 0) (at m.to 0))
-    (Decides-and _ _ (decides_near reach (at p 1) (at m.from 1) (at m.to 1)) (decides_near reach (at p 2) (at m.from 2) (at m.to 2))))
-
-decides_negative : (c : List ℤ) → Decides (all_negative c) (AllNegative c)
-decides_negative c = Decides-by_and (λ z. int_lt z (pos 0)) (λ z. z <ℤ pos 0) (list_all (λ z. int_lt z (pos 0))) (λ z. decides_lt z (pos 0)) refl (λ x xs. refl) c
-
-decides_positive : (c : List ℤ) → Decides (all_positive c) (AllPositive c)
-decides_positive c = Decides-by_and (λ z. int_lt (pos 0) z) (λ z. pos 0 <ℤ z) (list_all (λ z. int_lt (pos 0) z)) (λ z. decides_lt (pos 0) z) refl (λ x xs. refl) c
-
-decides_excluded : (s : SlabSize) (m : Motion) (p : List ℤ) (k S : ℕ) → Decides (is_excluded s m p k S) (Excluded s m p k S)
-decides_excluded s m p k S =
-    Decides-or _ _ (decides_negative (u_list m p k S))
-    (Decides-or _ _ (decides_negative (along_list m p k S s.lo)) (Decides-or _ _ (decides_positive (along_list m p k S s.hi)) (decides_positive (across_list m p k S s.dia))))
-
-decides_left : (slabs : List SlabSize) (m : Motion) (p : List ℤ) (S : ℕ) → Decides (is_left_on_cell slabs m p S) (LeftOnCell slabs m p S)
-decides_left slabs m p S =
-    Decides-like (is_left_on_cell slabs m p S)
-    (λ (h : (k : ℕ) × (k < S) × ((s : SlabSize) × Contains slabs s × ¬ Excluded s m p k S)).
-    let left : LeftOnCell slabs m p S = record { cell = h.0; within = h.1; slab = h.2.0; among = h.2.1; left = h.2.2 } in left)
-    (λ (h : LeftOnCell slabs m p S). (h.cell, h.within, (h.slab, h.among, h.left)))
-    (decides_below (λ k. list_any (λ s. not (is_excluded s m p k S)) slabs) (λ k. (s : SlabSize) × Contains slabs s × ¬ Excluded s m p k S) S
-    (λ k. decides_among (λ s. not (is_excluded s m p k S)) (λ s. ¬ Excluded s m p k S) slabs (λ s. Decides-not (is_excluded s m p k S) (decides_excluded s m p k S))))
-
-decides_possible : (outer : List SlabSize) (reach : ℤ) (m : Motion) (p : List ℤ) (S : ℕ) → Decides (is_possible outer reach m p S) (IsPossible outer reach m p S)
-decides_possible outer reach m p S =
-    Decides-like (is_possible outer reach m p S)
-    (λ (h : InReach reach m p × LeftOnCell outer m p S). let possible : IsPossible outer reach m p S = record { in_reach = h.0; left = h.1 } in possible)
-    (λ (h : IsPossible outer reach m p S). (h.in_reach, h.left))
-    (Decides-and _ _ (decides_in_reach reach m p) (decides_left outer m p S))
-
--- what is not possible is no yes of the test
-not_possible : (outer : List SlabSize) (reach : ℤ) (m : Motion) (p : List ℤ) (S : ℕ) → IsNotPossible outer reach m p S → IsPossible outer reach m p S → ⊥
-not_possible outer reach m p S out possible =
-    ⊎_elim (λ far. far possible.in_reach) (λ all. possible.left.left (all possible.left.slab possible.left.cell possible.left.among possible.left.within)) out
-
--- a slab that is left on no cell is excluded on each
-excluded_unless_left : (outer : List SlabSize) (m : Motion) (p : List ℤ) (S : ℕ) → ¬ LeftOnCell outer m p S → AllExcluded outer m p S
-excluded_unless_left outer m p S none = λ s k among l.
-    ⊎_elim (λ yes. (decides_excluded s m p k S).0 yes)
-    (λ no. absurd (none record { cell = k; within = l; slab = s; among = among; left = not_from_Decides (is_excluded s m p k S) (decides_excluded s m p k S) no }))
-    (cases_Bool (is_excluded s m p k S))
-
--- what the test does not find possible is not possible
-not_found_possible : (outer : List SlabSize) (reach : ℤ) (m : Motion) (p : List ℤ) (S : ℕ) → ¬ IsPossible outer reach m p S → IsNotPossible outer reach m p S
-not_found_possible outer reach m p S none =
-    ⊎_elim (λ near. inr (excluded_unless_left outer m p S (λ left. none record { in_reach = (decides_in_reach reach m p).0 near; left = left })))
-    (λ far. inl (not_from_Decides (is_in_reach reach m p) (decides_in_reach reach m p) far))
-    (cases_Bool (is_in_reach reach m p))
-
-cond_true : (b : Bool) (x y : Mark) → b ≡ true → (if b then x else y) ≡ x
-cond_true b x y h = cc
-
-cond_false : (b : Bool) (x y : Mark) → b ≡ false → (if b then x else y) ≡ y
-cond_false b x y h = cc
-
--- a test whose relation does not hold says no
-says_no : (P : Type 0) (b : Bool) → Decides b P → ¬ P → b ≡ false
-says_no P b decides none = ⊎_elim (λ yes. absurd (none (decides.0 yes))) (λ no. no) (cases_Bool b)
-
--- the mark by the relations is the mark by the tests
-pub mark_is : (mark : Mark) (inner outer : List SlabSize) (reach : ℤ) (m : Motion) (p : List ℤ) (S : ℕ) → IsMarked mark inner outer reach m p S → mark ≡ mark_from inner outer reach m p S
-mark_is Removed inner outer reach m p S marked =
-    sym (cond_true (held_at_sample inner m p S) Removed (if is_possible outer reach m p S then Possible else Clear) ((decides_held inner m p S).1 marked))
-mark_is Possible inner outer reach m p S marked =
-    sym (cond_false (held_at_sample inner m p S) Removed (if is_possible outer reach m p S then Possible else Clear) (says_no (HeldAtSample inner m p S) _ (decides_held inner m p S) marked.0)
-    ∙ cond_true (is_possible outer reach m p S) Possible Clear ((decides_possible outer reach m p S).1 marked.1))
-mark_is Clear inner outer reach m p S marked =
-    sym (cond_false (held_at_sample inner m p S) Removed (if is_possible outer reach m p S then Possible else Clear) (says_no (HeldAtSample inner m p S) _ (decides_held inner m p S) marked.0)
-    ∙ cond_false (is_possible outer reach m p S) Possible Clear (says_no (IsPossible outer reach m p S) _ (decides_possible outer reach m p S) (not_possible outer reach m p S marked.1)))
-
--- and the mark by the tests is a mark by the relations
-is_marked : (inner outer : List SlabSize) (reach : ℤ) (m : Motion) (p : List ℤ) (S : ℕ) → IsMarked (mark_from inner outer reach m p S) inner outer reach m p S
-is_marked inner outer reach m p S =
-    let P = λ (mark : Mark). IsMarked mark inner outer reach m p S in
-    ⊎_elim (λ yes. subst P (sym (cond_true (held_at_sample inner m p S) Removed (if is_possible outer reach m p S then Possible else Clear) yes)) ((decides_held inner m p S).0 yes))
-    (λ no.
-    let none = not_from_Decides (held_at_sample inner m p S) (decides_held inner m p S) no in
-    subst P (sym (cond_false (held_at_sample inner m p S) Removed (if is_possible outer reach m p S then Possible else Clear) no))
-    (⊎_elim (λ yes. subst P (sym (cond_true (is_possible outer reach m p S) Possible Clear yes)) (none, (decides_possible outer reach m p S).0 yes))
-    (λ no'. subst P (sym (cond_false (is_possible outer reach m p S) Possible Clear no'))
-    (none, not_found_possible outer reach m p S (not_from_Decides (is_possible outer reach m p S) (decides_possible outer reach m p S) no')))
-    (cases_Bool (is_possible outer reach m p S))))
-    (cases_Bool (held_at_sample inner m p S))
-
--- the mark by the stacks of a cutter
-pub mark_by_is : (mark : Mark) (c : CutterSize) (n : ℕ) (m : Motion) (p : List ℤ) (S : ℕ) → IsMarked mark (inner_stack c n) (outer_stack c n) (pos (reach_of c)) m p S → mark ≡ mark_by c n m p S
+-- a removed point is in the lower cutter at some rational time of the move
+pub removed_is_met : (c : CutterSize) (n : ℕ) (m : Motion) (p : List ℤ) (S : ℕ) → IsCutter c → 0 < n → 0 < S → mark_by c n m p S ≡ Removed → MeetsLower c m p
 unfolding mark_by
-mark_by_is mark c n m p S marked = mark_is mark (inner_stack c n) (outer_stack c n) (pos (reach_of c)) m p S marked
-
-is_marked_by : (c : CutterSize) (n : ℕ) (m : Motion) (p : List ℤ) (S : ℕ) → IsMarked (mark_by c n m p S) (inner_stack c n) (outer_stack c n) (pos (reach_of c)) m p S
-unfolding mark_by
-is_marked_by c n m p S = is_marked (inner_stack c n) (outer_stack c n) (pos (reach_of c)) m p S
-
--- a removed point is in the exact cutter at some rational time of the move
-pub removed_is_met : (c : CutterSize) (n : ℕ) (m : Motion) (p : List ℤ) (S : ℕ) → IsCutter c → 0 < n → 0 < S → mark_by c n m p S ≡ Removed → Meets c m p
 removed_is_met c n m p S valid some cells removed =
-    sample_met c n m p S valid some cells (subst (λ (mark : Mark). IsMarked mark (inner_stack c n) (outer_stack c n) (pos (reach_of c)) m p S) removed (is_marked_by c n m p S))
+    sample_met c n m p S valid some cells ((decides_held (inner_stack c n) m p S).0 (removed_held (inner_stack c n) (outer_stack c n) (pos (reach_of c)) m p S removed))
 
--- a clear point is in it at none
-pub clear_is_not_met : (c : CutterSize) (n : ℕ) (m : Motion) (p : List ℤ) (S : ℕ) → IsCutter c → 0 < n → 0 < S → IsSweep m → mark_by c n m p S ≡ Clear → ¬ Meets c m p
-clear_is_not_met c n m p S valid some cells sweep clear =
-    not_possible_not_met c n m p S valid some cells sweep
-    (subst (λ (mark : Mark). IsMarked mark (inner_stack c n) (outer_stack c n) (pos (reach_of c)) m p S) clear (is_marked_by c n m p S)).1
+-- a clear point is in the upper cutter at none
+pub clear_is_not_met : (c : CutterSize) (n : ℕ) (m : Motion) (p : List ℤ) (S : ℕ) → IsCutter c → 0 < n → 0 < S → IsSweep m → mark_by c n m p S ≡ Clear → ¬ MeetsUpper c m p
+unfolding mark_by
+clear_is_not_met c n m p S valid some cells sweep clear met =
+    not_from_Decides (is_possible (outer_stack c n) (pos (reach_of c)) m p S) (decides_possible (outer_stack c n) (pos (reach_of c)) m p S)
+    (clear_out (inner_stack c n) (outer_stack c n) (pos (reach_of c)) m p S clear) (met_possible c n m p S valid some cells sweep met)

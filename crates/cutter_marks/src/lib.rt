@@ -1,4 +1,4 @@
-//! One point's mark against one move of a cutter, and what the mark says of the exact cutter.
+//! One point's mark against one move of a cutter, and what the mark says of the cutter.
 #![tactic(auto)]
 
 mod cutter_mark;

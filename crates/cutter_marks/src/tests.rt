@@ -20,6 +20,7 @@ fn bull_nose_cutter(rt: HostRuntime) -> Result<(), Fail> {
         d: 2_000,
         r: 500,
         h: 300_000,
+        flank: 0,
     };
     let sweep = standing();
     let one = Stacks::new(rt.alloc(), cutter, 1)?;
@@ -46,6 +47,7 @@ fn ball_cutter(rt: HostRuntime) -> Result<(), Fail> {
             d: 2_000,
             r: 1_000,
             h: 300_000,
+            flank: 0,
         },
         4,
     )?;
@@ -70,5 +72,40 @@ fn ball_cutter(rt: HostRuntime) -> Result<(), Fail> {
         Mark::Removed,
         "the tip"
     );
+    Ok(())
+}
+
+/// A cone under 45 degrees is 1,000 wide at the tip and as much wider as it is high; two slabs tell more than one.
+#[test]
+fn conical_cutter(rt: HostRuntime) -> Result<(), Fail> {
+    let cutter = Cutter {
+        d: 2_000,
+        r: 0,
+        h: 1_000,
+        flank: 45,
+    };
+    let sweep = standing();
+    let one = Stacks::new(rt.alloc(), cutter, 1)?;
+    let two = Stacks::new(rt.alloc(), cutter, 2)?;
+    let rows = [
+        (1_500, Mark::Possible, Mark::Removed),
+        (1_501, Mark::Possible, Mark::Possible),
+        (2_000, Mark::Possible, Mark::Possible),
+        (2_001, Mark::Clear, Mark::Clear),
+    ];
+    for (x, with_one, with_two) in rows {
+        let x: i32 = x;
+        assert!(rt; x.unsigned_abs() <= 1_000_000);
+        assert_eq!(rt;
+            mark_of(&sweep, &one, [x, 0, 800], 0),
+            with_one,
+            "one slab, {x}"
+        );
+        assert_eq!(rt;
+            mark_of(&sweep, &two, [x, 0, 800], 0),
+            with_two,
+            "two slabs, {x}"
+        );
+    }
     Ok(())
 }
