@@ -15,12 +15,15 @@ LowerIsInUpper = (c : CutterSize) (m : Motion) (p : List ℤ) (a b : ℕ) → In
 
 -- where the flank is upright or leans by 45 degrees they are one cutter, since its tangent, 0 or 1, is a whole number of millionths
 abbrev pub UpperIsLower : Type 0
-UpperIsLower = (c : CutterSize) (m : Motion) (p : List ℤ) (a b : ℕ) → (c.flank ≡ 0) ⊎ (c.flank ≡ 45) → InUpperAt c m p a b → InLowerAt c m p a b
+UpperIsLower =
+    (c : CutterSize) (m : Motion) (p : List ℤ) (a b : ℕ)
+    → (c.flank ≡ 0) ⊎ (c.flank ≡ 45) → InUpperAt c m p a b → InLowerAt c m p a b
 
 -- a cutter holds a point at a time however the time is written: a / b is a k / b k
 abbrev pub AnyWritingOfTime : Type 0
 AnyWritingOfTime =
-    (c : CutterSize) (t : ℕ) (m : Motion) (p : List ℤ) (a b k : ℕ) → IsCutter c → 0 < k → InsideAt c t m p a b ↔ InsideAt c t m p (a * k) (b * k)
+    (c : CutterSize) (t : ℕ) (m : Motion) (p : List ℤ) (a b k : ℕ)
+    → IsCutter c → 0 < k → InsideAt c t m p a b ↔ InsideAt c t m p (a * k) (b * k)
 
 -- a place in the plain cylinder of diameter d and height h, its lengths taken times b
 pub record IsInCylinder (d h b : ℕ) (p a : List ℤ) : Type 0 where
@@ -35,7 +38,8 @@ FlatIsCylinder = (c : CutterSize) (t b : ℕ) (p a : List ℤ) → c.flank ≡ 0
 -- the tip of a ball cutter is a point: at the tip's height, under an axis that isn't zero, it holds the tip alone
 abbrev pub BallTipIsPoint : Type 0
 BallTipIsPoint =
-    (c : CutterSize) (t b : ℕ) (p a : List ℤ) → c.flank ≡ 0 → c.d ≡ 2 * c.r → is_zero a ≡ false → IsInside c t b p a → dot p a ≡ pos 0 → is_zero p ≡ true
+    (c : CutterSize) (t b : ℕ) (p a : List ℤ) → c.flank ≡ 0 → c.d ≡ 2 * c.r
+    → is_zero a ≡ false → IsInside c t b p a → dot p a ≡ pos 0 → is_zero p ≡ true
 
 -- where a place's own height is a rational number p / q, the corner rule asks no more than to be within the profile at that height
 abbrev pub OwnHeightIsEnough : Type 0

@@ -29,7 +29,8 @@ impl Model for Cutter {
 
     ghost inverse = { λ c. record { d = pos c.d; r = pos c.r; h = pos c.h; flank = c.flank } };
 
-    ghost inverse_ok = { λ c valid i. record { d = fields_back c.d valid.0 i; r = fields_back c.r valid.1 i; h = fields_back c.h valid.2 i; flank = c.flank } };
+    ghost inverse_ok = { λ c valid i.
+        record { d = fields_back c.d valid.0 i; r = fields_back c.r valid.1 i; h = fields_back c.h valid.2 i; flank = c.flank } };
 }
 
 impl Cutter {

@@ -1,4 +1,5 @@
-ghost use Rattle.cutter_slabs.specs.Laws.{AnyWritingOfTime, BallPlaces, BallTipIsPoint, ConeIsStraight, ConePlaces, FlatIsCylinder, LowerIsInUpper, OwnHeightIsEnough, UpperIsLower};
+ghost use Rattle.cutter_slabs.specs.Laws.{AnyWritingOfTime, BallPlaces, BallTipIsPoint, ConeIsStraight, ConePlaces};
+ghost use Rattle.cutter_slabs.specs.Laws.{FlatIsCylinder, LowerIsInUpper, OwnHeightIsEnough, UpperIsLower};
 
 /// The laws of the exact cutter: a contract, with nothing to run.
 pub fn cutter_laws()
