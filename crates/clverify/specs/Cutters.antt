@@ -1,5 +1,6 @@
 -- The cutter that a move is made with, by its size. What a program leaves open is taken from the usual cutter and height.
-use Rattle.std.specs.Prelude.{ℕ, ℤ, pos, int_lt, unsigned_abs, Bool, false, List, [], ◌∷◌, Option, Some, None, IfSome, unwrap_or, if◌then◌else◌}
+use Rattle.std.specs.Prelude.{ℕ, ℤ, pos, int_lt, unsigned_abs, Bool, false, List, [], ◌∷◌, if◌then◌else◌}
+use Rattle.std.specs.Prelude.{Option, Some, None, IfSome, unwrap_or}
 use Rattle.std.specs.Option.{option_map, option_map_or, option_or}
 use Rattle.space.specs.Ranges.{IsBetween}
 use Rattle.cl_records.specs.Kinds.{tallest}

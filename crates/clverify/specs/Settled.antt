@@ -23,7 +23,8 @@ abbrev pub MayEnd : Status → Status → Type 0
 MayEnd whole status = (status ≡ whole) ⊎ ((status ≡ ends.WriteFault) ⊎ (status ≡ ends.NoMemory))
 
 -- An answer is written, and a fault refused. A fault of reading and want of memory are the status alone, and nothing is written.
-abbrev pub Settles : {K : Type 0} → (K → Option (List ℕ)) → (K → Option (List (List ℕ))) → (K → ℕ) → Result Answer Stopped → Status → K → K → Type 0
+abbrev pub Settles : {K : Type 0} → (K → Option (List ℕ)) → (K → Option (List (List ℕ))) → (K → ℕ)
+    → Result Answer Stopped → Status → K → K → Type 0
 Settles written pieces faults (Ok answer) status old new =
     WritesAnswer written pieces faults status (Some (answer_seen answer)) old new × MayEnd answer.status status
 Settles written pieces faults (Err (Refused fault)) status old new =

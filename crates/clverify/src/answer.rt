@@ -47,7 +47,8 @@ fn refuse<K: Sink>(alloc: Global, fault: Fault, sink: &mut K) -> Status
 /// Writes a whole text, line by line, and answers the status that goes with it.
 pub(crate) fn write_answer<K: Sink>(sink: &mut K, text: &[u8], status: Status) -> Status
     requires { IsWhole status }
-    ensures answer { WritesAnswer K.written K.pieces K.faults result (Some (record { text = text.now; status = status })) sink.old sink.new }
+    ensures answer { WritesAnswer K.written K.pieces K.faults result (Some (record { text = text.now; status = status }))
+        sink.old sink.new }
     ensures ends { (result ≡ status) ⊎ (result ≡ Status.WriteFault) }
 {
     match put_lines(sink, text) {

@@ -57,7 +57,8 @@ pub(crate) fn report_on<S: Shelf>(
     requires allowed { All (S.allows shelf.old) (files_of (Some (command_seen command.now))) }
     ensures report { IfSome (command_due (S.files shelf.old) (command_seen command.now)) (IsReport result) }
     ensures verdict { IfOk result (λ answer. IsVerdict answer.status) }
-    ensures sound { IfSome (S.files shelf.old) (λ files. IfOk result (λ answer. IsTrueText files (command_seen command.now) answer.text.items)) }
+    ensures sound { IfSome (S.files shelf.old) (λ files. IfOk result (λ answer.
+        IsTrueText files (command_seen command.now) answer.text.items)) }
     ensures read { ReadsOnce S.files S.faults S.failures (is_read_fault result) shelf.old shelf.new }
 {
     match command {

@@ -38,14 +38,36 @@ fn answer(
 }
 
 /// A file as a CAM system writes it.
-const SAMPLE: &[u8] = b"$$ Sample path\nPARTNO SAMPLE, REV A\nUNITS/MM\nMULTAX/ON\nCUTTER/10.0,1.0,4.0,1.0,0.0,0.0,50.0\nLOADTL/1\nSPINDL/RPM,8000,CLW\nCOOLNT/ON\nFROM/0.0,0.0,50.0,0.0,0.0,1.0\nRAPID\nGOTO / 10.0, 0.0, 20.0, 0.0, 0.0, 1.0\nFEDRAT/MMPM,1200\nGOTO/10.0,0.0,5.0,0.0000000,0.1736482,$\n0.9848078\nGODLTA/0,0,15\nEND\nFINI\n";
+const SAMPLE: &[u8] = b"$$ Sample path\n\
+PARTNO SAMPLE, REV A\n\
+UNITS/MM\n\
+MULTAX/ON\n\
+CUTTER/10.0,1.0,4.0,1.0,0.0,0.0,50.0\n\
+LOADTL/1\n\
+SPINDL/RPM,8000,CLW\n\
+COOLNT/ON\n\
+FROM/0.0,0.0,50.0,0.0,0.0,1.0\n\
+RAPID\n\
+GOTO / 10.0, 0.0, 20.0, 0.0, 0.0, 1.0\n\
+FEDRAT/MMPM,1200\n\
+GOTO/10.0,0.0,5.0,0.0000000,0.1736482,$\n\
+0.9848078\n\
+GODLTA/0,0,15\n\
+END\n\
+FINI\n";
 
-const LISTING: &str = "clverify list 1\nmove 1 line 11 rapid from 0 0 50000 to 10000 0 20000 axis 0 0 100000 to 0 0 100000 cutter 10000 1000 50000\nmove 2 line 13 cut from 10000 0 20000 to 10000 0 5000 axis 0 0 100000 to 0 17365 98481 cutter 10000 1000 50000\nmove 3 line 15 cut from 10000 0 5000 to 10000 0 20000 axis 0 17365 98481 to 0 17365 98481 cutter 10000 1000 50000\nmoves 3 passed 6\n";
+const LISTING: &str = "clverify list 1\n\
+move 1 line 11 rapid from 0 0 50000 to 10000 0 20000 axis 0 0 100000 to 0 0 100000 cutter 10000 1000 50000\n\
+move 2 line 13 cut from 10000 0 20000 to 10000 0 5000 axis 0 0 100000 to 0 17365 98481 cutter 10000 1000 50000\n\
+move 3 line 15 cut from 10000 0 5000 to 10000 0 20000 axis 0 17365 98481 to 0 17365 98481 cutter 10000 1000 50000\n\
+moves 3 passed 6\n";
 
 /// A conical cutter that stands still, upright.
 const CONE: &[u8] = b"CUTTER/2,0,1,0,0,45,5\nFROM/1,1,0\nGOTO/1,1,0\n";
 
-const CONE_LISTING: &str = "clverify list 1\nmove 1 line 3 cut from 1000 1000 0 to 1000 1000 0 axis 0 0 100000 to 0 0 100000 cutter 2000 0 5000 flank 45\nmoves 1 passed 0\n";
+const CONE_LISTING: &str = "clverify list 1\n\
+move 1 line 3 cut from 1000 1000 0 to 1000 1000 0 axis 0 0 100000 to 0 0 100000 cutter 2000 0 5000 flank 45\n\
+moves 1 passed 0\n";
 
 #[test]
 fn lists_and_refuses_files(rt: HostRuntime) -> Result<(), Fail> {
@@ -160,10 +182,23 @@ fn marks_one_move(rt: HostRuntime) -> Result<(), Fail> {
 }
 
 /// A move without a cutter, then a thin cutter, a thick one, and the thin one again.
-const CUTTERS: &[u8] =
-    b"FROM/0,0,0\nGOTO/0,0,0\nCUTTER/2,0\nGOTO/0,0,0\nCUTTER/6,0\nGOTO/0,0,0\nGOTO/0,0,0\nCUTTER/2,0\nGOTO/0,0,0\n";
+const CUTTERS: &[u8] = b"FROM/0,0,0\n\
+GOTO/0,0,0\n\
+CUTTER/2,0\n\
+GOTO/0,0,0\n\
+CUTTER/6,0\n\
+GOTO/0,0,0\n\
+GOTO/0,0,0\n\
+CUTTER/2,0\n\
+GOTO/0,0,0\n";
 
-const CUTTERS_MARKED: &str = "clverify point 1\nmove 1 line 2 nocutter\nmove 2 line 4 clear\nmove 3 line 6 removed\nmove 4 line 7 removed\nmove 5 line 9 clear\nmoves 5\n";
+const CUTTERS_MARKED: &str = "clverify point 1\n\
+move 1 line 2 nocutter\n\
+move 2 line 4 clear\n\
+move 3 line 6 removed\n\
+move 4 line 7 removed\n\
+move 5 line 9 clear\n\
+moves 5\n";
 
 /// A ball cutter that is less high than its corner radius, on two moves.
 const LOW: &[u8] = b"CUTTER/4,2,0,2,0,0,1\nFROM/0,0,0\nGOTO/1,0,0\nGOTO/2,0,0\n";

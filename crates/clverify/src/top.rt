@@ -24,11 +24,14 @@ pub fn run<S: Shelf, K: Sink>(
 ) -> Status
     requires { All (S.allows shelf.old) (files_of (command_of (map string_bytes words.now))) }
     // What is answered and written, for every file and all words.
-    ensures answer { Answers result (due (S.files shelf.old) (command_of (map string_bytes words.now))) (K.written sink.old) (K.written sink.new) }
+    ensures answer { Answers result (due (S.files shelf.old) (command_of (map string_bytes words.now)))
+        (K.written sink.old) (K.written sink.new) }
     // Each line by a put of its own, and none after one that failed.
-    ensures hands { Hands result (due (S.files shelf.old) (command_of (map string_bytes words.now))) (K.written sink.old) (K.written sink.new) (K.pieces sink.old) (K.pieces sink.new) }
+    ensures hands { Hands result (due (S.files shelf.old) (command_of (map string_bytes words.now)))
+        (K.written sink.old) (K.written sink.new) (K.pieces sink.old) (K.pieces sink.new) }
     // What was written is true: a listing of the file's own moves, marks that are true of the cutter.
-    ensures sound { TellsTruth result (S.files shelf.old) (command_of (map string_bytes words.now)) (K.written sink.old) (K.written sink.new) }
+    ensures sound { TellsTruth result (S.files shelf.old) (command_of (map string_bytes words.now))
+        (K.written sink.old) (K.written sink.new) }
     // Words that are no command are answered without memory and without a read. Once a command's words want memory, the first
     // clause reads `→ (result ≡ Status.Usage) ⊎ ((result ≡ Status.WriteFault) ⊎ (result ≡ Status.NoMemory))`.
     ensures usage { command_of (map string_bytes words.now) ≡ None → (result ≡ Status.Usage) ⊎ (result ≡ Status.WriteFault) }
@@ -40,7 +43,8 @@ pub fn run<S: Shelf, K: Sink>(
     ensures calm { result ≢ Status.ReadFault → S.failures shelf.new ≡ S.failures shelf.old }
     ensures write_fault { result ≡ Status.WriteFault → Rose (K.faults sink.old) (K.faults sink.new) }
     // Where no call outside fails, the whole answer comes, but for want of memory.
-    ensures complete { ¬ (Rose (S.faults shelf.old) (S.faults shelf.new)) → ¬ (Rose (K.faults sink.old) (K.faults sink.new)) → IsComplete result (due (S.files shelf.old) (command_of (map string_bytes words.now))) (K.written sink.old) (K.written sink.new) }
+    ensures complete { ¬ (Rose (S.faults shelf.old) (S.faults shelf.new)) → ¬ (Rose (K.faults sink.old) (K.faults sink.new))
+        → IsComplete result (due (S.files shelf.old) (command_of (map string_bytes words.now))) (K.written sink.old) (K.written sink.new) }
     ensures files { S.files shelf.new ≡ S.files shelf.old }
 {
     match read_command(words) {

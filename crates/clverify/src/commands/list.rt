@@ -38,7 +38,8 @@ pub(crate) fn list_report<S: Shelf>(
     requires { S.allows shelf.old file.now }
     ensures report { IfSome (S.files shelf.old) (λ files. IsReport result (list_due file.now files)) }
     ensures clean { IfOk result (λ answer. answer.status ≡ Status.Clean) }
-    ensures sound { IfSome (S.files shelf.old) (λ files. IfOk result (λ answer. IsTrueListing (bytes_of files file.now) answer.text.items)) }
+    ensures sound { IfSome (S.files shelf.old) (λ files. IfOk result (λ answer.
+        IsTrueListing (bytes_of files file.now) answer.text.items)) }
     ensures read { ReadsOnce S.files S.faults S.failures (is_read_fault result) shelf.old shelf.new }
 {
     match read_moves(alloc, file, shelf) {

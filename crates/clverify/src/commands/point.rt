@@ -33,7 +33,8 @@ const USUAL: Usual = Usual {
 
 /// The command that the words behind `point` stand for.
 pub(crate) fn point_words(words: &[String]) -> Option<Command<'_>>
-    ensures command { option_map command_seen result ≡ option_map (λ asked. mark_moves asked.0 asked.1) (point_words (map string_bytes words.now)) }
+    ensures command { option_map command_seen result
+        ≡ option_map (λ asked. mark_moves asked.0 asked.1) (point_words (map string_bytes words.now)) }
     ensures valid { IfSome result MayBeAsked }
 {
     let [file, more @ ..] = words else {
@@ -59,7 +60,8 @@ pub(crate) fn point_report<S: Shelf>(
     requires allowed { S.allows shelf.old file.now }
     ensures report { IfSome (S.files shelf.old) (λ files. IsReport result (point_due file.now question.now files)) }
     ensures clean { IfOk result (λ answer. answer.status ≡ Status.Clean) }
-    ensures sound { IfSome (S.files shelf.old) (λ files. IfOk result (λ answer. IsTrueMarking question.now (bytes_of files file.now) answer.text.items)) }
+    ensures sound { IfSome (S.files shelf.old) (λ files. IfOk result (λ answer.
+        IsTrueMarking question.now (bytes_of files file.now) answer.text.items)) }
     ensures read { ReadsOnce S.files S.faults S.failures (is_read_fault result) shelf.old shelf.new }
 {
     match read_moves(alloc, file, shelf) {

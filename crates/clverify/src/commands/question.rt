@@ -1,7 +1,8 @@
 ghost use Rattle.std.specs.Prelude.{◌≡◌, ◌≤◌, map, unsigned_abs, IfSome, string_bytes};
 ghost use Rattle.space.specs.Ranges.{IsPoint, metre};
 ghost use Rattle.vf_text.specs.Digits.{number_spelt};
-ghost use Rattle.clverify.specs.Commands.Questions.{IsQuestion, coordinate_of, deepest, depth_of, most_places, most_slabs, point_at, question_of, slabs_of};
+ghost use Rattle.clverify.specs.Commands.Questions.{IsQuestion, coordinate_of, depth_of, point_at, question_of, slabs_of};
+ghost use Rattle.clverify.specs.Commands.Questions.{deepest, most_places, most_slabs};
 ghost use Rattle.clverify.specs.Words.{within};
 
 use cl_lines::{Unit, read_length};
