@@ -60,7 +60,6 @@ pub(crate) fn low_cutter(usual: &Usual, moves: &[Move]) -> Option<u32>
 }
 
 /// The size of a cutter.
-#[tactic(auto, using(crate::proofs::Sizes::is_cutter))]
 fn size(usual: &Usual, cutter: &CutterText) -> Cutter
     requires usual { IsUsual usual.now }
     requires valid { IsCutterText cutter.now }

@@ -51,10 +51,12 @@ impl Marker {
         ensures cutter { IfOk result (λ stacks. stacks.cutter ≡ cutter) }
         ensures slabs { IfOk result (λ stacks. stacks.slabs ≡ self.old.slabs) }
     {
-        match self.stacks.take() {
-            Some(stacks) if stacks.cutter() == cutter => Ok(stacks),
-            _ => Stacks::new(alloc, cutter, self.question.slabs),
+        if let Some(stacks) = self.stacks.take()
+            && stacks.cutter() == cutter
+        {
+            return Ok(stacks);
         }
+        Stacks::new(alloc, cutter, self.question.slabs)
     }
 
     /// The mark of a move, where it has a cutter.
