@@ -1,20 +1,16 @@
 -- How a call ends: what is due to a command is its report, or the refusal of what stopped it.
-use Rattle.std.proofs.Common.{◌≡◌, ◌≢◌, ◌⊎◌, ℕ, Bool, true, false, List, Option, Some, None, Result, Ok, Err, IfSome, IfOk, inl, inr, refl, ap, subst, sym, ⊎_elim, rules}
-use Rattle.std.specs.Io.KnownBytes.{Appends, Keeps}
-use Rattle.vf_io.specs.Causes.{Rose, one_more_failure}
+use Rattle.std.proofs.Common.{◌≡◌, ◌⊎◌, ℕ, List, Option, Some, None, Result, Ok, Err, IfSome, IfOk, inl, inr, refl, ap, subst, sym, ⊎_elim, rules}
+use Rattle.std.specs.Io.KnownBytes.{Keeps}
 use Rattle.vf_io.specs.Files.{Files}
 use Rattle.report_text.specs.Refusals.{refusal_of}
 use Rattle.report_text.specs.declared.fault.Fault.{Fault}
 use Rattle.clverify.specs.Answer.{Due, IsVerdict, refused, usage_due}
 use Rattle.clverify.specs.Commands.{Command, list_moves, mark_moves}
-use Rattle.clverify.specs.Commands.List.{list_due}
-use Rattle.clverify.specs.Commands.Point.{point_due}
 use Rattle.clverify.specs.Due.{command_due}
 use Rattle.clverify.specs.Headline.{Answers, Hands, IsComplete, IsDue}
-use Rattle.clverify.specs.Inputs.{is_read_fault}
-use Rattle.clverify.specs.Outside.{ReadsOnce, WritesAnswer}
+use Rattle.clverify.specs.Outside.{WritesAnswer}
 use Rattle.clverify.specs.Settled.{IsReport, MayEnd, Settles, answer_seen}
-use Rattle.clverify.specs.Truth.{IsRefusal, IsTrueText, TellsTruth}
+use Rattle.clverify.specs.Truth.{IsTrueText, TellsTruth}
 use Rattle.clverify.specs.declared.answer.Answer.{Answer}
 use Rattle.clverify.specs.declared.status.Status.{Status}
 use Rattle.clverify.specs.declared.status.Status.TheVariants as ends

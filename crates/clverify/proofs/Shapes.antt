@@ -1,5 +1,5 @@
 -- Words that are too few, and coordinates that are near.
-use Rattle.std.proofs.Common.{◌≡◌, ℕ, ◌+◌, ◌<◌, ◌≤◌, ◌||◌, ℤ, pos, negsuc, neg_ℤ, int_lt, unsigned_abs, false, List, [], ◌∷◌, map, length, Option, Some, None, Ok, Err, IfSome, refl, arith}
+use Rattle.std.proofs.Common.{◌≡◌, ℕ, ◌+◌, ◌<◌, ◌≤◌, ◌||◌, ℤ, pos, neg_ℤ, int_lt, unsigned_abs, false, List, [], ◌∷◌, map, length, Option, Some, None, Ok, Err, IfSome, refl, arith}
 use Rattle.std.specs.Option.{option_map}
 use Rattle.std.specs.Result.{result_ok}
 use Rattle.std.proofs.lemmas.Bool.{cond_both}

@@ -4,7 +4,7 @@ use Rattle.vf_text.specs.Pages.{line}
 use Rattle.report_text.specs.Refusals.{refusal_of}
 use Rattle.report_text.specs.declared.fault.Fault.{Fault}
 use Rattle.clverify.specs.declared.status.Status.{Status}
-use Rattle.clverify.specs.declared.status.Status.TheVariants.{Clean, Usage, Refused, ReadFault, WriteFault, NoMemory}
+use Rattle.clverify.specs.declared.status.Status.TheVariants.{Clean, Usage, Refused}
 
 pub record Due : Type 0 where
   pub text : List ℕ

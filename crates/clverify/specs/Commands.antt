@@ -8,7 +8,6 @@ use Rattle.clverify.specs.Commands.List.{list_name, list_words}
 use Rattle.clverify.specs.Commands.Point.{point_name, point_words}
 use Rattle.clverify.specs.Words.{Word, Words}
 use Rattle.clverify.specs.declared.commands.question.Question.{Question}
-
 pub mod List
 pub mod Point
 pub mod Questions

@@ -6,7 +6,7 @@ use Rattle.vf_io.specs.Pieces.{pieces_of}
 use Rattle.vf_io.specs.Whole.{HasPut, StopsInPiece}
 use Rattle.clverify.specs.Answer.{Due}
 use Rattle.clverify.specs.declared.status.Status.{Status}
-use Rattle.clverify.specs.declared.status.Status.TheVariants.{Clean, Usage, Refused, ReadFault, WriteFault, NoMemory}
+use Rattle.clverify.specs.declared.status.Status.TheVariants.{ReadFault, WriteFault, NoMemory}
 
 -- the whole text that is due was written, with its status
 abbrev pub IsDue : Status → Option Due → Option (List ℕ) → Option (List ℕ) → Type 0

@@ -1,5 +1,5 @@
 -- The marks of a program's moves for a question, and what is true of a mark.
-use Rattle.std.specs.Prelude.{◌≡◌, ℕ, ◌^◌, ℤ, List, map, Option, Some, None}
+use Rattle.std.specs.Prelude.{◌^◌, ℤ, List, map, Option, Some, None}
 use Rattle.std.specs.Option.{option_map}
 use Rattle.std.specs.List.{AllZip}
 use Rattle.space.specs.Motion.{Motion}

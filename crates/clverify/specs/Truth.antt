@@ -1,5 +1,5 @@
 -- Soundness: what is true of the text that a command wrote.
-use Rattle.std.specs.Prelude.{◌≡◌, ◌⊎◌, ℕ, List, Option, Some, None}
+use Rattle.std.specs.Prelude.{◌≡◌, ◌⊎◌, ℕ, List, Option, Some}
 use Rattle.std.specs.Io.KnownBytes.{Appends}
 use Rattle.report_text.specs.Refusals.{refusal_of}
 use Rattle.report_text.specs.declared.fault.Fault.{Fault}

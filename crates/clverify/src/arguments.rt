@@ -1,9 +1,6 @@
-ghost use Rattle.std.specs.Prelude.{◌≡◌};
-
 use std::alloc::Global;
 use std::env;
 use std::env::{Env, FillError};
-use std::io;
 use std::io::ErrorKind;
 use vf_io::NoMemory;
 

@@ -14,7 +14,6 @@ mod list;
 mod point;
 mod question;
 
-
 use crate::answer::Answer;
 use crate::commands::list::{list_report, list_words};
 use crate::commands::point::{point_report, point_words};

@@ -1,5 +1,4 @@
-ghost use Rattle.std.specs.Prelude.{◌≡◌, All, IfSome, option_map, false};
-ghost use Rattle.space.specs.Motion.{IsSweep};
+ghost use Rattle.std.specs.Prelude.{◌≡◌, false};
 ghost use Rattle.cl_moves.specs.Moves.{IsMove, motion_of};
 ghost use Rattle.cl_records.specs.Ranges.{IsCutterText};
 ghost use Rattle.clverify.specs.Cutters.{IsUsual, cutter_size, cutter_text_of, first_low, height_of, is_low, is_move_low, size_of};

@@ -1,4 +1,4 @@
-ghost use Rattle.std.specs.Prelude.{◌≡◌, All, IfOk, MatchResult, false, None};
+ghost use Rattle.std.specs.Prelude.{◌≡◌, All, IfOk, false, None};
 ghost use Rattle.cl_moves.specs.Moves.{IsMove};
 ghost use Rattle.clverify.specs.Commands.Questions.{IsQuestion};
 ghost use Rattle.clverify.specs.Cutters.{IsUsual, first_low, is_move_low};

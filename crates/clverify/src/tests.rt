@@ -300,7 +300,8 @@ fn words_of_commands(rt: HostRuntime) -> Result<(), Fail> {
 #[test]
 fn faults_outside_are_told_apart(rt: HostRuntime) -> Result<(), Fail> {
     let file = b"FROM/0,0,0\nGOTO/0,0,1\n";
-    let front = "clverify list 1\nmove 1 line 2 cut from 0 0 0 to 0 0 1000 axis 0 0 100000 to 0 0 100000 cutter none\n";
+    let front =
+        "clverify list 1\nmove 1 line 2 cut from 0 0 0 to 0 0 1000 axis 0 0 100000 to 0 0 100000 cutter none\n";
     let rows: [(&[&str], &[u64], &[u64], Status, &str); 6] = [
         (&["list", "b.cls"], &[], &[], Status::ReadFault, ""),
         (&["list", "a.cls"], &[0], &[], Status::ReadFault, ""),
@@ -330,7 +331,10 @@ fn limits_are_exact(rt: HostRuntime) -> Result<(), Fail> {
     }
     let (status, written) = answer(rt.alloc(), &["list", "a.cls"], &bytes, &[], &[])?;
     assert_eq!(rt; status, Status::Clean, "50,000 moves");
-    assert!(rt; written.ends_with(b"moves 50000 passed 0\n"), "50,000 moves");
+    assert!(rt;
+        written.ends_with(b"moves 50000 passed 0\n"),
+        "50,000 moves"
+    );
     bytes.extend_from_slice(b"GOTO/0,0,1\n")?;
     let (_, written) = answer(rt.alloc(), &["list", "a.cls"], &bytes, &[], &[])?;
     assert_eq!(rt;
@@ -385,7 +389,10 @@ impl Env for Called<'_> {
 #[test]
 fn a_program_may_be_called_by_any_path(rt: HostRuntime) -> Result<(), Fail> {
     let rows: [(&[&[u8]], &[&str]); 3] = [
-        (&[b"/opt/\xff/clverify", b"list", b"a.cls"], &["list", "a.cls"]),
+        (
+            &[b"/opt/\xff/clverify", b"list", b"a.cls"],
+            &["list", "a.cls"],
+        ),
         (&[b"clverify", b"list", b"\xff"], &[]),
         (&[], &[]),
     ];

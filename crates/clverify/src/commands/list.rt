@@ -1,4 +1,4 @@
-ghost use Rattle.std.specs.Prelude.{◌≡◌, All, IfOk, IfSome, false, map, option_map, string_bytes};
+ghost use Rattle.std.specs.Prelude.{◌≡◌, IfOk, IfSome, false, map, option_map, string_bytes};
 ghost use Rattle.vf_io.specs.Files.{bytes_of};
 ghost use Rattle.clverify.specs.Asked.{command_seen};
 ghost use Rattle.clverify.specs.Commands.{list_moves};

@@ -1,4 +1,4 @@
-use Rattle.std.proofs.Common.{◌≡◌, Option, Some, subst, sym}
+use Rattle.std.proofs.Common.{Option, subst, sym}
 use Rattle.std.specs.List.{All}
 use Rattle.clverify.specs.Asked.{command_seen}
 use Rattle.clverify.specs.Commands.{Command, files_of}
