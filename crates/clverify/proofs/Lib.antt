@@ -1,3 +1,4 @@
-pub mod Ends
+pub mod Endings
 pub mod Shapes
+pub mod Sizes
 pub mod Truths

@@ -1,79 +1,29 @@
--- The marks of moves are true, where their cutters are valid and no lower than their corner radii.
-use Rattle.std.proofs.Common.{◌≡◌, ℕ, ◌^◌, ◌<◌, ◌≤◌, ℤ, pos, negsuc, ◌*ℤ◌, ◌≤ℤ◌, int_lt, unsigned_abs, Bool, false, List, [], ◌∷◌, Option, Some, None, unwrap_or, IfSome, refl, arith, if◌then◌else◌}
-use Rattle.std.specs.List.{All}
-use Rattle.std.proofs.Math.Pow.{pow_mono}
-use Rattle.std.proofs.lemmas.Int.{ints}
-use Rattle.std.proofs.lemmas.List.Elements.{All-cons, All-head, All-tail, All-nil}
+-- Moves that are marked truly, one more at a time.
+use Rattle.std.proofs.Common.{◌≡◌, ℕ, ◌+◌, ◌<◌, List, [], ◌∷◌, ◌++◌, take, drop, length, get_or, Bool, Option, Some, None, suc, subst, add-one, arith, drop-cons, if◌then◌else◌}
+use Rattle.std.proofs.Math.Seq.{take-suc}
+use Rattle.std.proofs.lemmas.Slice.Zip.{all_zipped_more}
 use Rattle.axis_cells.specs.declared.mark.Mark.{Mark}
-use Rattle.axis_cells.specs.declared.mark.Mark.TheVariants.{Clear, Possible, Removed}
-use Rattle.space.specs.Motion.{IsSweep, Motion}
-use Rattle.cl_lines.specs.Numbers.{IsBetween}
-use Rattle.cl_moves.specs.Moves.{IsMove, motion_of}
-use Rattle.cl_records.specs.Ranges.{IsCutterText}
-use Rattle.cl_records.specs.declared.cutter.CutterText.{CutterText}
 use Rattle.cl_moves.specs.declared.moves.Move.{Move}
-use Rattle.cutter_marks.specs.MarkBy.{mark_by}
-use Rattle.cutter_marks.proofs.Decided.{clear_is_not_met, removed_is_met}
-use Rattle.cutter_slabs.specs.Cutter.{CutterSize, IsCutter}
-use Rattle.clverify.specs.Marks.{cutter_mark, first_low, height_of, is_low, size_of}
-use Rattle.clverify.specs.Questions.{IsQuestion}
-use Rattle.clverify.specs.Soundness.{IsTrueOf, IsTrulyMarked}
-use Rattle.clverify.specs.declared.question.Question.{Question}
+use Rattle.clverify.specs.Cutters.{first_low, is_move_low}
+use Rattle.clverify.specs.Marks.{AreTrueMarks, IsMarkedTruly}
+use Rattle.clverify.specs.declared.commands.question.Question.{Question}
+use Rattle.clverify.specs.declared.cutters.Usual.{Usual}
 
--- a mark by the stacks of a valid cutter is true of it
-is_true : (mark : Mark) (c : CutterSize) (n : ℕ) (m : Motion) (p : List ℤ) (S : ℕ) → IsCutter c → 0 < n → 0 < S → IsSweep m → mark_by c n m p S ≡ mark → IsTrueOf mark c m p
-is_true Removed c n m p S valid some cells sweep e = removed_is_met c n m p S valid some cells e
-is_true Possible c n m p S valid some cells sweep e = tt
-is_true Clear c n m p S valid some cells sweep e = clear_is_not_met c n m p S valid some cells sweep e
+-- the move behind those that are marked, with its true mark
+pub marked_more : (usual : Usual) (asked question : Question) (moves : List Move) (marks : List (Option Mark)) (i : ℕ) (other : Move) (mark : Option Mark)
+    → question ≡ asked → i < length moves → AreTrueMarks usual asked.point (take i moves) marks → IsMarkedTruly usual question.point (get_or moves i other) mark
+    → AreTrueMarks usual asked.point (take (i + 1) moves) (marks ++ mark ∷ [])
+marked_more usual asked question moves marks i other mark same within ahead this =
+    rw (add-one, take-suc moves i other within)
+    (all_zipped_more (IsMarkedTruly usual asked.point) (take i moves) marks (get_or moves i other) mark ahead
+    (subst (λ (q : Question). IsMarkedTruly usual q.point (get_or moves i other) mark) same this))
 
--- a height, or the greatest where there is none
-height_within : (h : Option ℤ) → IfSome h (IsBetween (pos 1) (pos 300000)) → IsBetween (pos 1) (pos 300000) (unwrap_or h (pos 300000))
-height_within None valid = (grind (arith, ints), grind (arith, ints))
-height_within (Some z) valid = valid
+not_first : (low : Bool) (at : ℕ) (rest : Option ℕ) → (if low then Some at else rest) ≡ None → rest ≡ None
+not_first low at rest none = grind arith
 
-sizes : (d r h : ℤ) → pos 1 ≤ℤ d → d ≤ℤ pos 200000 → pos 0 ≤ℤ r → (pos 2 *ℤ r) ≤ℤ d → IsBetween (pos 1) (pos 300000) h → int_lt h r ≡ false
-    → IsCutter record { d = unsigned_abs d; r = unsigned_abs r; h = unsigned_abs h }
-sizes (negsuc d) r h wide width radius corner height rounded = absurd wide.le
-sizes (pos d) (negsuc r) h wide width radius corner height rounded = absurd radius.le
-sizes (pos d) (pos r) (negsuc h) wide width radius corner height rounded = absurd height.0.le
-sizes (pos d) (pos r) (pos h) wide width radius corner height rounded =
-    let low = height.0 in let high = height.1 in
-    record {
-      wide = omega (arith, ints, wide);
-      width = omega (arith, ints, width);
-      corner = omega (arith, ints, corner);
-      high = omega (arith, ints, low);
-      height = omega (arith, ints, high);
-      rounded = grind (arith, ints, rounded);
-    }
-
--- a cutter that is no lower than its corner radius is a valid one
-is_cutter : (cutter : CutterText) → IsCutterText cutter → int_lt (height_of cutter) cutter.r ≡ false → IsCutter (size_of cutter)
-is_cutter cutter valid rounded =
-    sizes cutter.d cutter.r (height_of cutter) valid.width.0 valid.width.1 valid.radius valid.corner (height_within cutter.h valid.height) rounded
-
-some_cells : (depth : ℕ) → 0 < 2 ^ depth
-some_cells depth = let some : 2 ^ 0 ≤ 2 ^ depth = pow_mono {i = 0} {j = depth} (omega arith) in some
-
--- the mark of one move
-truly_marked : (question : Question) (move : Move) (cutter : Option CutterText) → IsQuestion question → IsSweep (motion_of move) → IfSome cutter IsCutterText → is_low cutter ≡ false
-    → IfSome cutter (λ c. IsTrueOf (cutter_mark question move c) (size_of c) (motion_of move) question.point)
-truly_marked question move None asked sweep valid rounded = tt
-truly_marked question move (Some c) asked sweep valid rounded =
-    is_true (cutter_mark question move c) (size_of c) question.slabs (motion_of move) question.point (2 ^ question.depth)
-    (is_cutter c valid rounded) asked.some (some_cells question.depth) sweep refl
-
-not_low : (b : Bool) (at : ℕ) (rest : Option ℕ) → (if b then Some at else rest) ≡ None → b ≡ false
-not_low b at rest h = grind arith
-
-none_behind : (b : Bool) (at : ℕ) (rest : Option ℕ) → (if b then Some at else rest) ≡ None → rest ≡ None
-none_behind b at rest h = grind arith
-
--- the marks of all moves
-pub all_truly_marked : (question : Question) (moves : List Move) → IsQuestion question → All IsMove moves → first_low moves ≡ None → All (IsTrulyMarked question) moves
-all_truly_marked question [] asked valid rounded = All-nil (IsTrulyMarked question)
-all_truly_marked question (move ∷ moves) asked valid rounded =
-    let first = All-head IsMove move moves valid in
-    All-cons (IsTrulyMarked question) move moves
-    (truly_marked question move move.cutter asked first.sweep first.cutter (not_low (is_low move.cutter) move.line (first_low moves) rounded))
-    (all_truly_marked question moves asked (All-tail IsMove move moves valid) (none_behind (is_low move.cutter) move.line (first_low moves) rounded))
+-- the cutters of the moves behind it are no lower either
+pub high_behind : (usual : Usual) (moves : List Move) (i : ℕ) (other : Move) → i < length moves → first_low usual (drop i moves) ≡ None
+    → first_low usual (drop (i + 1) moves) ≡ None
+high_behind usual moves i other within high =
+    rw add-one
+    (not_first (is_move_low usual (get_or moves i other)) (get_or moves i other).line (first_low usual (drop (suc i) moves)) (rw (drop-cons moves i other within) at high))

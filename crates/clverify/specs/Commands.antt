@@ -1,14 +1,36 @@
--- A command as the code has it, and as the words ask for it.
-use Rattle.clverify.specs.Questions.{IsQuestion}
-use Rattle.clverify.specs.Words as words
-use Rattle.clverify.specs.declared.command.Command.{Command}
-use Rattle.clverify.specs.declared.command.Command.TheVariants.{List, Point}
+-- The commands. A new one is a file of its own in Commands/ (its words, what is due, what is true of what it writes) and a line
+-- in each of these: `Command`, `command_by` and `files_of` here, `command_due` in Due, `IsTrueText` in Truth, `command_seen` and
+-- `MayBeAsked` in Asked.
+use Rattle.std.specs.Prelude.{[], ◌∷◌, Option, Some, None, if◌then◌else◌}
+use Rattle.std.specs.Option.{option_map}
+use Rattle.std.specs.Str.{bytes_eq}
+use Rattle.clverify.specs.Commands.List.{list_name, list_words}
+use Rattle.clverify.specs.Commands.Point.{point_name, point_words}
+use Rattle.clverify.specs.Words.{Word, Words}
+use Rattle.clverify.specs.declared.commands.question.Question.{Question}
+pub mod List
+pub mod Point
+pub mod Questions
 
-abbrev pub command_seen : Command → words.Command
-command_seen (List file) = words.list_moves file.now
-command_seen (Point file question) = words.mark_moves file.now question
+-- a command and its values
+pub data Command : Type 0 where
+  list_moves : Word → Command
+  mark_moves : Word → Question → Command
 
--- what a command asks may be asked
-abbrev pub MayBeAsked : Command → Type 0
-MayBeAsked (List file) = Unit {0}
-MayBeAsked (Point file question) = IsQuestion question
+-- the command that a first word names, where the words behind it are its own
+abbrev pub command_by : Word → Words → Option Command
+command_by word words =
+    if bytes_eq word list_name then option_map list_moves (list_words words)
+    else (if bytes_eq word point_name then option_map (λ asked. mark_moves asked.0 asked.1) (point_words words)
+    else None)
+
+-- the command that words stand for, where they are one
+abbrev pub command_of : Words → Option Command
+command_of [] = None
+command_of (word ∷ words) = command_by word words
+
+-- the files that a command names, in the order in which they are read
+abbrev pub files_of : Option Command → Words
+files_of None = []
+files_of (Some (list_moves file)) = file ∷ []
+files_of (Some (mark_moves file question)) = file ∷ []

@@ -2,9 +2,11 @@
 use Rattle.std.specs.Prelude.{◌≡◌, ℕ, List, Option, IfSome, ◌⊎◌}
 use Rattle.std.specs.Io.KnownBytes.{Appends, Keeps}
 use Rattle.vf_io.specs.Bytes.{AppendsFront}
-use Rattle.clverify.specs.Due.{Due}
+use Rattle.vf_io.specs.Pieces.{pieces_of}
+use Rattle.vf_io.specs.Whole.{HasPut, StopsInPiece}
+use Rattle.clverify.specs.Answer.{Due}
 use Rattle.clverify.specs.declared.status.Status.{Status}
-use Rattle.clverify.specs.declared.status.Status.TheVariants.{Clean, Usage, Refused, ReadFault, WriteFault, NoMemory}
+use Rattle.clverify.specs.declared.status.Status.TheVariants.{ReadFault, WriteFault, NoMemory}
 
 -- the whole text that is due was written, with its status
 abbrev pub IsDue : Status → Option Due → Option (List ℕ) → Option (List ℕ) → Type 0
@@ -18,13 +20,14 @@ Answers NoMemory due old new = Keeps old new
 Answers WriteFault due old new = IfSome due (λ d. AppendsFront old new d.text)
 Answers status due old new = IsDue status due old new
 
+-- What was handed to the sink: each line of the text that is due by a put of its own; after a fault of writing the lines up to
+-- the one that failed, and no further one; after a fault of reading, or for want of memory, nothing.
+abbrev pub Hands : Status → Option Due → Option (List ℕ) → Option (List ℕ) → Option (List (List ℕ)) → Option (List (List ℕ)) → Type 0
+Hands ReadFault due old new before after = after ≡ before
+Hands NoMemory due old new before after = after ≡ before
+Hands WriteFault due old new before after = IfSome due (λ d. StopsInPiece old new before after (pieces_of d.text))
+Hands status due old new before after = IfSome due (λ d. HasPut old new before after (pieces_of d.text))
+
 -- the answer that is due, or none for want of memory
 abbrev pub IsComplete : Status → Option Due → Option (List ℕ) → Option (List ℕ) → Type 0
 IsComplete status due old new = (status ≡ NoMemory) ⊎ IsDue status due old new
-
--- an answer that comes with its whole text
-abbrev pub IsWhole : Status → Type 0
-IsWhole Clean = Unit {0}
-IsWhole Usage = Unit {0}
-IsWhole (Refused fault) = Unit {0}
-IsWhole _ = ⊥

@@ -1,10 +1,13 @@
+pub mod Answer
+pub mod Asked
 pub mod Codes
 pub mod Commands
+pub mod Cutters
 pub mod Due
 pub mod Headline
+pub mod Inputs
 pub mod Marks
-pub mod Questions
-pub mod Reading
-pub mod Soundness
-pub mod Usage
+pub mod Outside
+pub mod Settled
+pub mod Truth
 pub mod Words

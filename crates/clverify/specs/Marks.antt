@@ -1,40 +1,47 @@
--- The marks of a program's moves for a question, and the cutters that they can't be given for.
-use Rattle.std.specs.Prelude.{ℕ, ◌^◌, ℤ, pos, int_lt, unsigned_abs, Bool, false, List, [], ◌∷◌, map, Option, Some, None, unwrap_or, if◌then◌else◌}
+-- The marks of a program's moves for a question, and what is true of a mark.
+use Rattle.std.specs.Prelude.{◌^◌, ℤ, List, map, Option, Some, None}
 use Rattle.std.specs.Option.{option_map}
+use Rattle.std.specs.List.{AllZip}
+use Rattle.space.specs.Motion.{Motion}
 use Rattle.axis_cells.specs.declared.mark.Mark.{Mark}
+use Rattle.axis_cells.specs.declared.mark.Mark.TheVariants.{Clear, Possible, Removed}
 use Rattle.cl_moves.specs.Moves.{motion_of}
-use Rattle.cl_records.specs.declared.cutter.CutterText.{CutterText}
 use Rattle.cl_moves.specs.declared.moves.Move.{Move}
 use Rattle.cutter_marks.specs.MarkBy.{mark_by}
 use Rattle.cutter_slabs.specs.Cutter.{CutterSize}
-use Rattle.clverify.specs.declared.question.Question.{Question}
-
--- the height of a cutter: the greatest that there is, where the text gives none
-abbrev pub height_of : CutterText → ℤ
-height_of cutter = unwrap_or cutter.h (pos 300000)
-
--- the size of a cutter
-abbrev pub size_of : CutterText → CutterSize
-size_of cutter = record { d = unsigned_abs cutter.d; r = unsigned_abs cutter.r; h = unsigned_abs (height_of cutter) }
-
--- whether it is a cutter that is less high than its corner radius
-abbrev pub is_low : Option CutterText → Bool
-is_low None = false
-is_low (Some cutter) = int_lt (height_of cutter) cutter.r
-
--- the line of the first move with such a cutter
-abbrev pub first_low : List Move → Option ℕ
-first_low [] = None
-first_low (move ∷ moves) = if is_low move.cutter then Some move.line else first_low moves
+use Rattle.cutter_slabs.specs.Meets.{MeetsLower, MeetsUpper}
+use Rattle.clverify.specs.Cutters.{cutter_size}
+use Rattle.clverify.specs.declared.commands.question.Question.{Question}
+use Rattle.clverify.specs.declared.cutters.Usual.{Usual}
 
 -- the mark of the point against a move of a cutter
-abbrev pub cutter_mark : Question → Move → CutterText → Mark
-cutter_mark question move cutter = mark_by (size_of cutter) question.slabs (motion_of move) question.point (2 ^ question.depth)
+abbrev pub cutter_mark : Question → Move → CutterSize → Mark
+cutter_mark question move cutter = mark_by cutter question.slabs (motion_of move) question.point (2 ^ question.depth)
 
 -- the mark of a move, where it has a cutter
-abbrev pub mark_for : Question → Move → Option Mark
-mark_for question move = option_map (cutter_mark question move) move.cutter
+abbrev pub mark_for : Usual → Question → Move → Option Mark
+mark_for usual question move = option_map (cutter_mark question move) (cutter_size usual move)
 
 -- the marks of moves, in order
-abbrev pub marks_for : Question → List Move → List (Option Mark)
-marks_for question moves = map (mark_for question) moves
+abbrev pub marks_for : Usual → Question → List Move → List (Option Mark)
+marks_for usual question moves = map (mark_for usual question) moves
+
+-- Removed: the lower cutter holds the point at some rational time of the move. Clear: the upper cutter holds it at none.
+abbrev pub IsTrueOf : Mark → CutterSize → Motion → List ℤ → Type 0
+IsTrueOf Removed cutter motion point = MeetsLower cutter motion point
+IsTrueOf Possible cutter motion point = Unit {0}
+IsTrueOf Clear cutter motion point = ¬ MeetsUpper cutter motion point
+
+-- a mark that is true of the cutter; no mark where there is none
+abbrev pub IsTrueMark : Option CutterSize → Motion → List ℤ → Option Mark → Type 0
+IsTrueMark (Some cutter) motion point (Some mark) = IsTrueOf mark cutter motion point
+IsTrueMark None motion point None = Unit {0}
+IsTrueMark _ motion point _ = ⊥
+
+-- the same of a move and its cutter
+abbrev pub IsMarkedTruly : Usual → List ℤ → Move → Option Mark → Type 0
+IsMarkedTruly usual point move mark = IsTrueMark (cutter_size usual move) (motion_of move) point mark
+
+-- one mark a move, each a true one
+abbrev pub AreTrueMarks : Usual → List ℤ → List Move → List (Option Mark) → Type 0
+AreTrueMarks usual point moves marks = AllZip (IsMarkedTruly usual point) moves marks

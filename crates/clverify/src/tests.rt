@@ -1,15 +1,18 @@
+use crate::arguments::read_words;
+use crate::commands::read_command;
 use crate::status::Status;
 use crate::top::run;
 use std::alloc::Global;
+use std::env::{Env, FillError};
 use std::test::Fail;
 use vf_io::{MemShelf, MemSink};
 
 /// The usage line.
-pub(crate) const USAGE: &str =
+const USAGE: &str =
     "usage: clverify list CL | point CL X Y Z --depth M [--slabs N] | verify CL SETUP [--script F] [--workers N] | selftest N\n";
 
 /// The status and the text of a call over one file, named `a.cls`. The calls with these numbers fail.
-pub(crate) fn answer(
+fn answer(
     alloc: Global,
     words: &[&str],
     file: &[u8],
@@ -34,319 +37,288 @@ pub(crate) fn answer(
     Ok((status, Vec::from_slice(alloc, sink.written())?))
 }
 
+/// A file as a CAM system writes it.
+const SAMPLE: &[u8] = b"$$ Sample path\n\
+PARTNO SAMPLE, REV A\n\
+UNITS/MM\n\
+MULTAX/ON\n\
+CUTTER/10.0,1.0,4.0,1.0,0.0,0.0,50.0\n\
+LOADTL/1\n\
+SPINDL/RPM,8000,CLW\n\
+COOLNT/ON\n\
+FROM/0.0,0.0,50.0,0.0,0.0,1.0\n\
+RAPID\n\
+GOTO / 10.0, 0.0, 20.0, 0.0, 0.0, 1.0\n\
+FEDRAT/MMPM,1200\n\
+GOTO/10.0,0.0,5.0,0.0000000,0.1736482,$\n\
+0.9848078\n\
+GODLTA/0,0,15\n\
+END\n\
+FINI\n";
+
+const LISTING: &str = "clverify list 1\n\
+move 1 line 11 rapid from 0 0 50000 to 10000 0 20000 axis 0 0 100000 to 0 0 100000 cutter 10000 1000 50000\n\
+move 2 line 13 cut from 10000 0 20000 to 10000 0 5000 axis 0 0 100000 to 0 17365 98481 cutter 10000 1000 50000\n\
+move 3 line 15 cut from 10000 0 5000 to 10000 0 20000 axis 0 17365 98481 to 0 17365 98481 cutter 10000 1000 50000\n\
+moves 3 passed 6\n";
+
+/// A conical cutter that stands still, upright.
+const CONE: &[u8] = b"CUTTER/2,0,1,0,0,45,5\nFROM/1,1,0\nGOTO/1,1,0\n";
+
+const CONE_LISTING: &str = "clverify list 1\n\
+move 1 line 3 cut from 1000 1000 0 to 1000 1000 0 axis 0 0 100000 to 0 0 100000 cutter 2000 0 5000 flank 45\n\
+moves 1 passed 0\n";
+
 #[test]
 fn lists_and_refuses_files(rt: HostRuntime) -> Result<(), Fail> {
-    let rows: [(&str, &[u8], u8, &str); 35] = [
+    let rows: [(&[u8], u8, &str); 9] = [
+        (SAMPLE, 0, LISTING),
+        (b"", 0, "clverify list 1\nmoves 0 passed 0\n"),
+        (b"GOTO/1,x,2\n", 3, "refused: cl line 1: NumberSyntax\n"),
+        (b"\ntllft/1", 3, "refused: cl line 2: Unsupported TLLFT\n"),
+        (CONE, 0, CONE_LISTING),
         (
-            "an empty file",
-            b"",
-            0,
-            "clverify list 1\nmoves 0 passed 0\n",
-        ),
-        (
-            "halves are rounded away from zero",
-            b"FROM/0,0,0\nGOTO/0.0005,-0.0005,1\n",
-            0,
-            "clverify list 1\nmove 1 line 2 cut from 0 0 0 to 1 -1 1000 axis 0 0 100000 to 0 0 100000 cutter none\nmoves 1 passed 0\n",
-        ),
-        (
-            "blanks and small letters",
-            b"FROM/0,0,0\r\n\r\n  goto / 2 ,\t1, 1\r\nfini done\r\nCIRCLE/0\r\n",
-            0,
-            "clverify list 1\nmove 1 line 3 cut from 0 0 0 to 2000 1000 1000 axis 0 0 100000 to 0 0 100000 cutter none\nmoves 1 passed 0\n",
-        ),
-        (
-            "a metre",
-            b"FROM/0,0,0\nGOTO/1000.0,0,0",
-            0,
-            "clverify list 1\nmove 1 line 2 cut from 0 0 0 to 1000000 0 0 axis 0 0 100000 to 0 0 100000 cutter none\nmoves 1 passed 0\n",
-        ),
-        (
-            "a metre after rounding",
-            b"FROM/0,0,0\nGOTO/1000.0004,0,0",
-            0,
-            "clverify list 1\nmove 1 line 2 cut from 0 0 0 to 1000000 0 0 axis 0 0 100000 to 0 0 100000 cutter none\nmoves 1 passed 0\n",
-        ),
-        (
-            "a micrometre more",
-            b"FROM/0,0,0\nGOTO/1000.001,0,0",
-            3,
-            "refused: cl line 2: NumberRange\n",
-        ),
-        (
-            "no number",
-            b"GOTO/1,x,2\n",
-            3,
-            "refused: cl line 1: NumberSyntax\n",
-        ),
-        (
-            "a position first",
-            b"GOTO/1,2,3\nGOTO/4,5,6\n",
-            0,
-            "clverify list 1\nmove 1 line 2 cut from 1000 2000 3000 to 4000 5000 6000 axis 0 0 100000 to 0 0 100000 cutter none\nmoves 1 passed 0\n",
-        ),
-        (
-            "a file as a CAM system writes it",
-            b"$$ Sample path\nPARTNO SAMPLE, REV A\nUNITS/MM\nMULTAX/ON\nCUTTER/10.0,1.0,4.0,1.0,0.0,0.0,50.0\nLOADTL/1\nSPINDL/RPM,8000,CLW\nCOOLNT/ON\nFROM/0.0,0.0,50.0,0.0,0.0,1.0\nRAPID\nGOTO / 10.0, 0.0, 20.0, 0.0, 0.0, 1.0\nFEDRAT/MMPM,1200\nGOTO/10.0,0.0,5.0,0.0000000,0.1736482,$\n0.9848078\nGODLTA/0,0,15\nEND\nFINI\n",
-            0,
-            "clverify list 1\nmove 1 line 11 rapid from 0 0 50000 to 10000 0 20000 axis 0 0 100000 to 0 0 100000 cutter 10000 1000 50000\nmove 2 line 13 cut from 10000 0 20000 to 10000 0 5000 axis 0 0 100000 to 0 17365 98481 cutter 10000 1000 50000\nmove 3 line 15 cut from 10000 0 5000 to 10000 0 20000 axis 0 17365 98481 to 0 17365 98481 cutter 10000 1000 50000\nmoves 3 passed 6\n",
-        ),
-        (
-            "the same with a flat cutter",
-            b"$$ Sample path\nPARTNO SAMPLE, REV A\nUNITS/MM\nMULTAX/ON\nCUTTER/10.0,0.0,5.0,0.0,0.0,0.0,50.0\nLOADTL/1\nSPINDL/RPM,8000,CLW\nCOOLNT/ON\nFROM/0.0,0.0,50.0,0.0,0.0,1.0\nRAPID\nGOTO / 10.0, 0.0, 20.0, 0.0, 0.0, 1.0\nFEDRAT/MMPM,1200\nGOTO/10.0,0.0,5.0,0.0000000,0.1736482,$\n0.9848078\nGODLTA/0,0,15\nEND\nFINI\n",
-            0,
-            "clverify list 1\nmove 1 line 11 rapid from 0 0 50000 to 10000 0 20000 axis 0 0 100000 to 0 0 100000 cutter 10000 0 50000\nmove 2 line 13 cut from 10000 0 20000 to 10000 0 5000 axis 0 0 100000 to 0 17365 98481 cutter 10000 0 50000\nmove 3 line 15 cut from 10000 0 5000 to 10000 0 20000 axis 0 17365 98481 to 0 17365 98481 cutter 10000 0 50000\nmoves 3 passed 6\n",
-        ),
-        (
-            "inches, then millimetres",
-            b"UNITS/INCHES\nFROM/1.0,0,0\nUNITS/MM\nGOTO/1.0,0,0",
-            0,
-            "clverify list 1\nmove 1 line 4 cut from 25400 0 0 to 1000 0 0 axis 0 0 100000 to 0 0 100000 cutter none\nmoves 1 passed 0\n",
-        ),
-        (
-            "opposite axes",
-            b"FROM/0,0,1,0,0,1\nGOTO/0,0,1,0,0,-1",
-            3,
-            "refused: cl line 2: AxisFlip\n",
-        ),
-        (
-            "axes that are far apart",
-            b"FROM/0,0,1,0,0,1\nGOTO/0,0,1,1,0,-0.2",
-            0,
-            "clverify list 1\nmove 1 line 2 cut from 0 0 1000 to 0 0 1000 axis 0 0 100000 to 100000 0 -20000 cutter none\nmoves 1 passed 0\n",
-        ),
-        (
-            "an axis that rounds to zero",
-            b"GOTO/0,0,1,0,0,0.000001",
-            3,
-            "refused: cl line 1: AxisZero\n",
-        ),
-        (
-            "a distance from no position",
-            b"GODLTA/1,0,0",
-            3,
-            "refused: cl line 1: NoPosition\n",
-        ),
-        (
-            "a corner radius above half the diameter",
-            b"CUTTER/2,1.5",
+            b"CUTTER/2,0,1,0,0,4,5",
             3,
             "refused: cl line 1: CutterShape\n",
         ),
         (
-            "a word that changes motion, ahead of a number that is none",
-            b"PARTNO A\nUNITS/MM\nCUTTER/2,0\nFROM/0,0,0\nGOTO/1,0,0\nGOTO/2,0,0\nGOTO/3,0,0\nGOTO/4,0,0\nCIRCLE/0,0,0,1\nGOTO/5,0,0\nGOTO/6,0,0\nGOTO/1,x,2\nFINI\n",
+            b"CUTTER/2,0,1,0,0,45",
             3,
-            "refused: cl line 9: Unsupported CIRCLE\n",
+            "refused: cl line 1: CutterShape\n",
         ),
         (
-            "a word that changes the axis",
-            b"TLAXIS/0,0,1",
+            b"CUTTER/2,0,1,0,0,45,100",
             3,
-            "refused: cl line 1: Unsupported TLAXIS\n",
+            "refused: cl line 1: CutterShape\n",
         ),
         (
-            "a refused word in small letters",
-            b"\ntllft/1",
-            3,
-            "refused: cl line 2: Unsupported TLLFT\n",
-        ),
-        (
-            "a continuation with no line after it",
-            b"GOTO/1,2,$",
-            3,
-            "refused: cl line 1: DanglingDollar\n",
-        ),
-        (
-            "the same with a line end",
-            b"GOTO/1,2,$\n",
-            3,
-            "refused: cl line 1: DanglingDollar\n",
-        ),
-        (
-            "a ball cutter in inches",
-            b"UNITS/INCHES\nCUTTER/0.1562,0.0781,0,0.0781,0,0,1\nFROM/0,0,0\nGOTO/1,0,0",
-            0,
-            "clverify list 1\nmove 1 line 4 cut from 0 0 0 to 25400 0 0 axis 0 0 100000 to 0 0 100000 cutter 3967 1983 25400\nmoves 1 passed 0\n",
-        ),
-        (
-            "a word alone",
-            b"G",
-            0,
-            "clverify list 1\nmoves 0 passed 1\n",
-        ),
-        (
-            "no parameters",
-            b"GOTO/",
-            3,
-            "refused: cl line 1: ParamCount\n",
-        ),
-        (
-            "two parameters",
-            b"GOTO/1,2",
-            3,
-            "refused: cl line 1: ParamCount\n",
-        ),
-        (
-            "an empty parameter",
-            b"GOTO/1,2,",
-            3,
-            "refused: cl line 1: NumberSyntax\n",
-        ),
-        (
-            "no slash",
-            b"GOTO 1,2,3",
-            3,
-            "refused: cl line 1: ParamWord\n",
-        ),
-        (
-            "an unknown unit",
-            b"UNITS/CM",
-            3,
-            "refused: cl line 1: ParamWord\n",
-        ),
-        (
-            "a number far out of range",
-            b"GOTO/1E99,0,0",
-            3,
-            "refused: cl line 1: NumberRange\n",
-        ),
-        (
-            "a number near zero",
-            b"GOTO/1E-99,0,0",
+            b"CUTTER/2,0,1,0,0,45,99",
             0,
             "clverify list 1\nmoves 0 passed 0\n",
-        ),
-        (
-            "21 digits",
-            b"GOTO/000000000000000000001,0,0",
-            3,
-            "refused: cl line 1: NumberSyntax\n",
-        ),
-        (
-            "the byte 0",
-            b"GOTO/1,2,3\x00",
-            3,
-            "refused: cl line 1: BadByte\n",
-        ),
-        (
-            "any byte in a record that is passed over",
-            b"PPRINT\xff",
-            0,
-            "clverify list 1\nmoves 0 passed 1\n",
-        ),
-        (
-            "any byte behind FINI",
-            b"FINI\n\xff",
-            0,
-            "clverify list 1\nmoves 0 passed 0\n",
-        ),
-        (
-            "CR ahead of LF",
-            b"CUTTER/2,0\r\nFROM/0,1,1\r\nGOTO/2,1,1\r\nFINI\r\n",
-            0,
-            "clverify list 1\nmove 1 line 3 cut from 0 1000 1000 to 2000 1000 1000 axis 0 0 100000 to 0 0 100000 cutter 2000 0 -\nmoves 1 passed 0\n",
         ),
     ];
-    for (what, file, code, text) in rows {
+    for (number, (file, code, text)) in rows.iter().enumerate() {
         let (status, written) = answer(rt.alloc(), &["list", "a.cls"], file, &[], &[])?;
-        assert_eq!(rt; status.code(), code, "the code of {what}");
-        assert_eq!(rt; written.as_slice(), text.as_bytes(), "the text of {what}");
-    }
-    Ok(())
-}
-
-#[test]
-fn a_record_has_at_most_4096_bytes(rt: HostRuntime) -> Result<(), Fail> {
-    let mut file = Vec::from_slice(rt.alloc(), b"PPRINT")?;
-    for _ in 0..4090 {
-        file.push(b'x')?;
-    }
-    let (_, written) = answer(rt.alloc(), &["list", "a.cls"], &file, &[], &[])?;
-    assert_eq!(rt;
-        written.as_slice(),
-        b"clverify list 1\nmoves 0 passed 1\n".as_slice(),
-        "4,096 bytes"
-    );
-    file.push(b'x')?;
-    let (_, written) = answer(rt.alloc(), &["list", "a.cls"], &file, &[], &[])?;
-    assert_eq!(rt;
-        written.as_slice(),
-        b"refused: cl line 1: LineLong\n".as_slice(),
-        "4,097 bytes"
-    );
-    Ok(())
-}
-
-#[test]
-fn refused_words_are_told(rt: HostRuntime) -> Result<(), Fail> {
-    for word in [
-        "CIRCLE", "CYCLE", "MOVARC", "COPY", "TRACUT", "TRANS", "ORIGIN", "ROTATE", "ROTABL",
-        "ROTHED", "GOHOME", "INDEX", "GOFWD", "GOBACK", "GOLFT", "GORGT", "GOUP", "GODOWN", "TLON",
-        "TLLFT", "TLRGT", "INDIRP", "INDIRV", "TLAXIS",
-    ] {
-        let (_, written) = answer(rt.alloc(), &["list", "a.cls"], word.as_bytes(), &[], &[])?;
-        let line = format!(in rt.alloc(); "refused: cl line 1: Unsupported {word}\n")?;
-        assert_eq!(rt; written.as_slice(), line.as_bytes(), "{word}");
-    }
-    Ok(())
-}
-
-#[test]
-fn words_that_are_no_command_get_the_usage_line(rt: HostRuntime) -> Result<(), Fail> {
-    let rows: [&[&str]; 8] = [
-        &[],
-        &["list"],
-        &["list", ""],
-        &["list", "a.cls", "b.cls"],
-        &["LIST", "a.cls"],
-        &["--help"],
-        &["verify", "a.cls", "s.toml"],
-        &["POINT", "a.cls", "0", "0", "0", "--depth", "2"],
-    ];
-    for words in rows {
-        let (status, written) = answer(rt.alloc(), words, b"", &[0], &[])?;
-        assert_eq!(rt; status, Status::Usage, "{} words", words.len());
+        assert_eq!(rt; status.code(), *code, "the code of file {number}");
         assert_eq!(rt;
             written.as_slice(),
-            USAGE.as_bytes(),
-            "{} words",
-            words.len()
+            text.as_bytes(),
+            "the text of file {number}"
         );
     }
+    Ok(())
+}
+
+/// An axis that turns from z to x while the tip stands still.
+const TURNING: &[u8] = b"CUTTER/2,0\nFROM/0,0,0,0,0,1\nGOTO/0,0,0,1,0,0\n";
+
+/// A ball cutter that stands still, upright.
+const BALL: &[u8] = b"CUTTER/2,1\nFROM/0,0,0\nGOTO/0,0,0\n";
+
+/// The longest move that there is, with the largest cutter.
+const LARGEST: &[u8] =
+    b"CUTTER/200,0,100,0,0,0,300\nFROM/-1000,-1000,-1000,1,1,1\nGOTO/1000,1000,1000\n";
+
+/// A ball cutter that is just as high as its corner radius.
+const HIGH_ENOUGH: &[u8] = b"CUTTER/4,2,0,2,0,0,2\nFROM/0,0,0\nGOTO/1,0,0\n";
+
+#[test]
+fn marks_one_move(rt: HostRuntime) -> Result<(), Fail> {
+    let rows: [(&[u8], &[&str], &str); 15] = [
+        (TURNING, &["2", "0", "2", "--depth", "0"], "possible"),
+        (TURNING, &["2", "0", "2", "--depth", "1"], "removed"),
+        (TURNING, &["0", "0", "-2", "--depth", "1"], "clear"),
+        (
+            BALL,
+            &["0.347", "0", "0", "--depth", "0", "--slabs", "4"],
+            "possible",
+        ),
+        (
+            BALL,
+            &["0.348", "0", "0", "--depth", "0", "--slabs", "004"],
+            "clear",
+        ),
+        (BALL, &["0", "0", "300", "--depth", "0"], "removed"),
+        (BALL, &["0", "0", "300.001", "--depth", "0"], "clear"),
+        (
+            LARGEST,
+            &["1000", "1000", "1000", "--depth", "10"],
+            "removed",
+        ),
+        (LARGEST, &["-1000", "1000", "0", "--depth", "10"], "clear"),
+        (HIGH_ENOUGH, &["0", "0", "0", "--depth", "0"], "removed"),
+        (CONE, &["2", "1", "0", "--depth", "0"], "removed"),
+        (CONE, &["2.5", "1", "0.5", "--depth", "0"], "possible"),
+        (
+            CONE,
+            &["2.5", "1", "0.5", "--depth", "0", "--slabs", "10"],
+            "removed",
+        ),
+        (
+            CONE,
+            &["2.6", "1", "0.5", "--depth", "0", "--slabs", "10"],
+            "possible",
+        ),
+        (
+            CONE,
+            &["2.6", "1", "0.5", "--depth", "0", "--slabs", "100"],
+            "clear",
+        ),
+    ];
+    for (file, question, mark) in rows {
+        let mut words = vec![in rt.alloc(); "point", "a.cls"]?;
+        words.extend_from_slice(question)?;
+        let (status, written) = answer(rt.alloc(), &words, file, &[], &[])?;
+        let want = format!(in rt.alloc(); "clverify point 1\nmove 1 line 3 {mark}\nmoves 1\n")?;
+        assert_eq!(rt; status.code(), 0, "the code at {question:?}");
+        assert_eq!(rt;
+            written.as_slice(),
+            want.as_bytes(),
+            "the text at {question:?}"
+        );
+    }
+    Ok(())
+}
+
+/// A move without a cutter, then a thin cutter, a thick one, and the thin one again.
+const CUTTERS: &[u8] = b"FROM/0,0,0\n\
+GOTO/0,0,0\n\
+CUTTER/2,0\n\
+GOTO/0,0,0\n\
+CUTTER/6,0\n\
+GOTO/0,0,0\n\
+GOTO/0,0,0\n\
+CUTTER/2,0\n\
+GOTO/0,0,0\n";
+
+const CUTTERS_MARKED: &str = "clverify point 1\n\
+move 1 line 2 nocutter\n\
+move 2 line 4 clear\n\
+move 3 line 6 removed\n\
+move 4 line 7 removed\n\
+move 5 line 9 clear\n\
+moves 5\n";
+
+/// A ball cutter that is less high than its corner radius, on two moves.
+const LOW: &[u8] = b"CUTTER/4,2,0,2,0,0,1\nFROM/0,0,0\nGOTO/1,0,0\nGOTO/2,0,0\n";
+
+#[test]
+fn marks_each_move_or_refuses(rt: HostRuntime) -> Result<(), Fail> {
+    let rows: [(&[u8], &[&str], u8, &str); 5] = [
+        (
+            CUTTERS,
+            &["point", "a.cls", "2", "0", "1", "--depth", "0"],
+            0,
+            CUTTERS_MARKED,
+        ),
+        (
+            LOW,
+            &["point", "a.cls", "0", "0", "0", "--depth", "0"],
+            3,
+            "refused: cl line 3: CutterHeight\n",
+        ),
+        (
+            b"FROM/0,0,0\nGOTO/1,x,2\n",
+            &["point", "a.cls", "0", "0", "0", "--depth", "0"],
+            3,
+            "refused: cl line 2: NumberSyntax\n",
+        ),
+        (
+            LARGEST,
+            &["point", "a.cls", "0", "0", "0", "--depth", "11"],
+            2,
+            USAGE,
+        ),
+        (
+            b"",
+            &["point", "b.cls", "0", "0", "0", "--depth", "0"],
+            4,
+            "",
+        ),
+    ];
+    for (file, words, code, text) in rows {
+        let (status, written) = answer(rt.alloc(), words, file, &[], &[])?;
+        assert_eq!(rt; status.code(), code, "the code of {text}");
+        assert_eq!(rt; written.as_slice(), text.as_bytes(), "the text of {text}");
+    }
+    Ok(())
+}
+
+/// Whether these words, parted by blanks, are a command.
+fn is_command(alloc: Global, words: &str) -> Result<bool, Fail> {
+    let mut texts = Vec::new(alloc);
+    for word in words.split(' ') {
+        texts.push(String::from_str(alloc, word)?)?;
+    }
+    Ok(read_command(&texts).is_some())
+}
+
+#[test]
+fn words_of_commands(rt: HostRuntime) -> Result<(), Fail> {
+    let rows: [(&str, bool); 29] = [
+        ("list a", true),
+        ("list --x", true),
+        ("list", false),
+        ("list ", false),
+        ("list a b", false),
+        ("LIST a", false),
+        ("", false),
+        ("--help", false),
+        ("verify a s.toml", false),
+        ("point a 0 0 0 --depth 0", true),
+        ("point a 0 0 0 --depth 010", true),
+        ("point a 0 0 0 --depth 2 --slabs 1", true),
+        ("point a 0 0 0 --depth 2 --slabs 256", true),
+        ("point a 1000.0004 -1000 +.5E2 --depth 10", true),
+        ("POINT a 0 0 0 --depth 0", false),
+        ("point  0 0 0 --depth 0", false),
+        ("point a 1000.001 0 0 --depth 0", false),
+        ("point a 0 -1000.0006 0 --depth 0", false),
+        ("point a 0 0 1,5 --depth 0", false),
+        ("point a 0 0 --depth 0", false),
+        ("point a 0 0 0 --depth", false),
+        ("point a 0 0 0 --depth 11", false),
+        ("point a 0 0 0 --depth 0010", false),
+        ("point a 0 0 0 --depth -1", false),
+        ("point a 0 0 0 --depth=2", false),
+        ("point a 0 0 0 --slabs 4 --depth 2", false),
+        ("point a 0 0 0 --depth 2 --slabs 0", false),
+        ("point a 0 0 0 --depth 2 --slabs 257", false),
+        ("point a 0 0 0 --depth 2 --slabs 4 5", false),
+    ];
+    for (words, is_taken) in rows {
+        let found = is_command(rt.alloc(), words)?;
+        assert_eq!(rt; found, is_taken, "the words {words:?}");
+    }
+    let (status, written) = answer(rt.alloc(), &["list"], b"", &[0], &[])?;
+    assert_eq!(rt; status, Status::Usage, "words that are no command");
+    assert_eq!(rt; written.as_slice(), USAGE.as_bytes(), "the usage line");
     Ok(())
 }
 
 #[test]
 fn faults_outside_are_told_apart(rt: HostRuntime) -> Result<(), Fail> {
     let file = b"FROM/0,0,0\nGOTO/0,0,1\n";
-    let (status, written) = answer(rt.alloc(), &["list", "b.cls"], file, &[], &[])?;
-    assert_eq!(rt;
-        (status, written.len()),
-        (Status::ReadFault, 0),
-        "an absent file"
-    );
-    for call in 0..3 {
-        let (status, written) = answer(rt.alloc(), &["list", "a.cls"], file, &[call], &[])?;
+    let front =
+        "clverify list 1\nmove 1 line 2 cut from 0 0 0 to 0 0 1000 axis 0 0 100000 to 0 0 100000 cutter none\n";
+    let rows: [(&[&str], &[u64], &[u64], Status, &str); 6] = [
+        (&["list", "b.cls"], &[], &[], Status::ReadFault, ""),
+        (&["list", "a.cls"], &[0], &[], Status::ReadFault, ""),
+        (&["list", "a.cls"], &[1], &[], Status::ReadFault, ""),
+        (&["list", "a.cls"], &[2], &[], Status::ReadFault, ""),
+        (&["list", "a.cls"], &[], &[2], Status::WriteFault, front),
+        (&["list"], &[], &[0], Status::WriteFault, ""),
+    ];
+    for (words, reads, writes, end, text) in rows {
+        let (status, written) = answer(rt.alloc(), words, file, reads, writes)?;
+        assert_eq!(rt; status, end, "the reads {reads:?} and writes {writes:?}");
         assert_eq!(rt;
-            (status, written.len()),
-            (Status::ReadFault, 0),
-            "the read {call}"
+            written.as_slice(),
+            text.as_bytes(),
+            "the reads {reads:?} and writes {writes:?}"
         );
     }
-    let (status, written) = answer(rt.alloc(), &["list", "a.cls"], file, &[], &[2])?;
-    assert_eq!(rt; status, Status::WriteFault, "the third line");
-    assert_eq!(rt;
-        written.as_slice(),
-        b"clverify list 1\nmove 1 line 2 cut from 0 0 0 to 0 0 1000 axis 0 0 100000 to 0 0 100000 cutter none\n".as_slice(),
-        "the lines ahead of it"
-    );
-    let (status, written) = answer(rt.alloc(), &["list"], file, &[], &[0])?;
-    assert_eq!(rt;
-        (status, written.len()),
-        (Status::WriteFault, 0),
-        "the usage line"
-    );
     Ok(())
 }
 
@@ -361,15 +333,77 @@ fn limits_are_exact(rt: HostRuntime) -> Result<(), Fail> {
     assert_eq!(rt; status, Status::Clean, "50,000 moves");
     assert!(rt;
         written.ends_with(b"moves 50000 passed 0\n"),
-        "50,000 moves are listed"
+        "50,000 moves"
     );
     bytes.extend_from_slice(b"GOTO/0,0,1\n")?;
-    let (status, written) = answer(rt.alloc(), &["list", "a.cls"], &bytes, &[], &[])?;
-    assert_eq!(rt; status.code(), 3, "50,001 moves");
+    let (_, written) = answer(rt.alloc(), &["list", "a.cls"], &bytes, &[], &[])?;
     assert_eq!(rt;
         written.as_slice(),
         b"refused: cl line 50002: TooManyMoves\n".as_slice(),
         "50,001 moves"
     );
+    let mut long = vec![in rt.alloc(); b'x'; 67_108_864]?;
+    let (_, written) = answer(rt.alloc(), &["list", "a.cls"], &long, &[], &[])?;
+    assert_eq!(rt;
+        written.as_slice(),
+        b"refused: cl line 1: LineLong\n".as_slice(),
+        "67,108,864 bytes"
+    );
+    long.push(b'x')?;
+    let (_, written) = answer(rt.alloc(), &["list", "a.cls"], &long, &[], &[])?;
+    assert_eq!(rt;
+        written.as_slice(),
+        b"refused: cl: TooLong\n".as_slice(),
+        "67,108,865 bytes"
+    );
+    Ok(())
+}
+
+/// A program's path and its words, by their bytes.
+#[derive(Drop)]
+struct Called<'a> {
+    arguments: &'a [&'a [u8]],
+}
+
+impl Env for Called<'_> {
+    fn arg(&self, i: usize, buffer: &mut [u8]) -> Result<usize, FillError> {
+        let Some(argument) = self.arguments.get(i) else {
+            return Err(FillError::NotPresent);
+        };
+        if argument.len() > buffer.len() {
+            return Err(FillError::TooLong);
+        }
+        buffer[..argument.len()].copy_from_slice(argument);
+        Ok(argument.len())
+    }
+
+    fn var(&self, _name: &str, _buffer: &mut [u8]) -> Result<usize, FillError> {
+        Err(FillError::NotPresent)
+    }
+
+    fn var_at(&self, _i: usize, _buffer: &mut [u8]) -> Result<usize, FillError> {
+        Err(FillError::NotPresent)
+    }
+}
+
+#[test]
+fn a_program_may_be_called_by_any_path(rt: HostRuntime) -> Result<(), Fail> {
+    let rows: [(&[&[u8]], &[&str]); 3] = [
+        (
+            &[b"/opt/\xff/clverify", b"list", b"a.cls"],
+            &["list", "a.cls"],
+        ),
+        (&[b"clverify", b"list", b"\xff"], &[]),
+        (&[], &[]),
+    ];
+    for (number, (arguments, words)) in rows.iter().enumerate() {
+        let Ok(found) = read_words(rt.alloc(), &Called { arguments }) else {
+            return Err(Fail::from("no memory for the words"));
+        };
+        assert_eq!(rt; found.len(), words.len(), "the words of call {number}");
+        for (word, want) in found.iter().zip(words.iter()) {
+            assert_eq!(rt; word.as_str(), *want, "a word of call {number}");
+        }
+    }
     Ok(())
 }

@@ -1,26 +1,56 @@
-use Rattle.std.proofs.Common.{[], Option, subst, sym}
+use Rattle.std.proofs.Common.{Option, subst, sym}
 use Rattle.std.specs.List.{All}
-use Rattle.std.proofs.lemmas.List.Elements.{All-head}
-use Rattle.clverify.specs.Due.{due}
-use Rattle.clverify.specs.Headline.{Answers, IsComplete}
-use Rattle.clverify.specs.Words.{Command, files_of}
-use Rattle.clverify.proofs.Ends.{usage_complete}
+use Rattle.clverify.specs.Asked.{command_seen}
+use Rattle.clverify.specs.Commands.{Command, files_of}
+use Rattle.clverify.specs.Due.{command_due, due}
+use Rattle.clverify.specs.Headline.{Answers, Hands, IsComplete}
+use Rattle.clverify.specs.Truth.{TellsTruth}
+use Rattle.clverify.proofs.Endings.{answers_due, settled_not_usage, tells_truth, usage_complete}
 use Rattle.clverify.proofs.top.run.Goals as goal
 
-pub point_file-requires-clause-allowed : goal.point_file-requires-clause-allowed
-point_file-requires-clause-allowed g c =
-    let allows = g.S.Shelf.allows c.args.shelf.now in let file = c.in-Some-Point.file.now in
-    let e = rw c.in-Some-Point.field-0-is at c.in-Some-Point.ensures.command in
-    All-head allows file [] (subst (λ (command : Option Command). All allows (files_of command)) (sym e) c.requires)
+pub report_on-report-requires-clause-allowed : goal.report_on-report-requires-clause-allowed
+report_on-report-requires-clause-allowed g c =
+    subst (λ (command : Option Command). All (g.S.Shelf.allows c.args.shelf.now) (files_of command)) (sym c.in-Some.ensures.command) c.requires
+
+pub returns-in-Some-clause-answer : goal.returns-in-Some-clause-answer
+returns-in-Some-clause-answer g c =
+    subst (λ (command : Option Command). Answers c.settle.result (due (g.S.Shelf.files c.args.shelf.now) command) (g.K.Sink.written c.args.sink.now) (g.K.Sink.written c.settle.new.sink))
+    c.in-Some.ensures.command
+    (answers_due g.K.Sink.written g.K.Sink.pieces g.K.Sink.faults c.settle.result c.args.sink.now c.settle.new.sink c.report_on-report.result
+    (command_due (g.S.Shelf.files c.args.shelf.now) (command_seen c.in-Some.command)) c.report_on-report.ensures.report c.settle.ensures).answer
+
+pub returns-in-Some-clause-hands : goal.returns-in-Some-clause-hands
+returns-in-Some-clause-hands g c =
+    subst (λ (command : Option Command). Hands c.settle.result (due (g.S.Shelf.files c.args.shelf.now) command) (g.K.Sink.written c.args.sink.now) (g.K.Sink.written c.settle.new.sink) (g.K.Sink.pieces c.args.sink.now) (g.K.Sink.pieces c.settle.new.sink))
+    c.in-Some.ensures.command
+    (answers_due g.K.Sink.written g.K.Sink.pieces g.K.Sink.faults c.settle.result c.args.sink.now c.settle.new.sink c.report_on-report.result
+    (command_due (g.S.Shelf.files c.args.shelf.now) (command_seen c.in-Some.command)) c.report_on-report.ensures.report c.settle.ensures).hands
+
+pub returns-in-Some-clause-sound : goal.returns-in-Some-clause-sound
+returns-in-Some-clause-sound g c =
+    subst (λ (command : Option Command). TellsTruth c.settle.result (g.S.Shelf.files c.args.shelf.now) command (g.K.Sink.written c.args.sink.now) (g.K.Sink.written c.settle.new.sink))
+    c.in-Some.ensures.command
+    (tells_truth g.K.Sink.written g.K.Sink.pieces g.K.Sink.faults c.args.sink.now c.settle.new.sink (command_seen c.in-Some.command) c.settle.result
+    (g.S.Shelf.files c.args.shelf.now) c.report_on-report.result c.report_on-report.ensures.report c.report_on-report.ensures.sound c.settle.ensures)
+
+pub returns-in-Some-clause-usage_only : goal.returns-in-Some-clause-usage_only
+returns-in-Some-clause-usage_only g c = λ usage.
+    absurd (settled_not_usage g.K.Sink.written g.K.Sink.pieces g.K.Sink.faults c.settle.result c.args.sink.now c.settle.new.sink c.report_on-report.result
+    c.report_on-report.ensures.verdict c.settle.ensures usage)
 
 pub returns-in-None-clause-answer : goal.returns-in-None-clause-answer
 returns-in-None-clause-answer g c =
     subst (λ (command : Option Command). Answers c.write_answer.result (due (g.S.Shelf.files c.args.shelf.now) command) (g.K.Sink.written c.args.sink.now) (g.K.Sink.written c.write_answer.new.sink))
-    c.in-None.ensures.command c.write_answer.ensures.answer
+    c.in-None.ensures.command c.write_answer.ensures.answer.answer
+
+pub returns-in-None-clause-hands : goal.returns-in-None-clause-hands
+returns-in-None-clause-hands g c =
+    subst (λ (command : Option Command). Hands c.write_answer.result (due (g.S.Shelf.files c.args.shelf.now) command) (g.K.Sink.written c.args.sink.now) (g.K.Sink.written c.write_answer.new.sink) (g.K.Sink.pieces c.args.sink.now) (g.K.Sink.pieces c.write_answer.new.sink))
+    c.in-None.ensures.command c.write_answer.ensures.answer.hands
 
 pub returns-in-None-clause-complete : goal.returns-in-None-clause-complete
 returns-in-None-clause-complete g c = λ _ calm.
     subst (λ (command : Option Command). IsComplete c.write_answer.result (due (g.S.Shelf.files c.args.shelf.now) command) (g.K.Sink.written c.args.sink.now) (g.K.Sink.written c.write_answer.new.sink))
     c.in-None.ensures.command
-    (usage_complete c.write_answer.result (g.K.Sink.written c.args.sink.now) (g.K.Sink.written c.write_answer.new.sink) c.write_answer.ensures.answer c.write_answer.ensures.only
-    (λ failed. calm (c.write_answer.ensures.write_fault failed)))
+    (usage_complete c.write_answer.result (g.K.Sink.written c.args.sink.now) (g.K.Sink.written c.write_answer.new.sink) c.write_answer.ensures.answer.answer c.write_answer.ensures.ends
+    (λ failed. calm (c.write_answer.ensures.answer.rose failed)))
