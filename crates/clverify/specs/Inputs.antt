@@ -17,9 +17,9 @@ abbrev pub bytes_within : Input → ℕ → List ℕ → Result (List ℕ) Fault
 bytes_within input most bytes = if nat_lt most (length bytes) then Err (TooLong input) else Ok bytes
 
 -- what an input's bytes are read as, or the fault that they are refused with
-abbrev pub read_as : {T : Type 0} → (List ℕ → Result T Fault) → Result (List ℕ) Fault → Result T Fault
-read_as read (Ok bytes) = read bytes
-read_as read (Err fault) = Err fault
+abbrev pub read_within : {T : Type 0} → (List ℕ → Result T Fault) → Result (List ℕ) Fault → Result T Fault
+read_within read (Ok bytes) = read bytes
+read_within read (Err fault) = Err fault
 
 -- a program, or the fault that its text is refused with
 abbrev pub program_or_fault : Result Program ClFault → Result Program Fault
@@ -28,13 +28,13 @@ program_or_fault (Err fault) = Err (Cl fault)
 
 -- the program that the bytes of a file stand for, unless they are too many
 abbrev pub read_of : List ℕ → Result Program Fault
-read_of bytes = read_as (λ text. program_or_fault (program_of text)) (bytes_within inputs.Cl most_bytes bytes)
+read_of bytes = read_within (λ text. program_or_fault (program_of text)) (bytes_within inputs.Cl most_bytes bytes)
 
 -- what is due was given, or the fault that is; a file that couldn't be read and want of memory leave it open
-abbrev pub Gives : {T : Type 0} → Result T Stopped → Result T Fault → Type 0
-Gives (Ok given) due = due ≡ Ok given
-Gives (Err (Refused fault)) due = due ≡ Err fault
-Gives (Err stopped) due = Unit {0}
+abbrev pub GivesInput : {T : Type 0} → Result T Stopped → Result T Fault → Type 0
+GivesInput (Ok given) due = due ≡ Ok given
+GivesInput (Err (Refused fault)) due = due ≡ Err fault
+GivesInput (Err stopped) due = Unit {0}
 
 -- the same of bytes
 abbrev pub GivesBytes : Result (Vec ℕ Global) Stopped → Result (List ℕ) Fault → Type 0

@@ -2,7 +2,7 @@ ghost use Rattle.std.specs.Prelude.{◌≡◌, ◌≤◌, ◌↔◌, ℕ, List, 
 ghost use Rattle.vf_io.specs.Files.{bytes_of};
 ghost use Rattle.cl_lines.specs.Texts.{most_bytes};
 ghost use Rattle.cl_moves.specs.Moves.{IsMove};
-ghost use Rattle.clverify.specs.Inputs.{Gives, GivesBytes, bytes_within, is_read_fault, read_of};
+ghost use Rattle.clverify.specs.Inputs.{GivesInput, GivesBytes, bytes_within, is_read_fault, read_of};
 ghost use Rattle.clverify.specs.Outside.{ReadsOnce};
 
 use crate::stopped::Stopped;
@@ -42,7 +42,7 @@ pub(crate) fn read_moves<S: Shelf>(
     shelf: &mut S,
 ) -> Result<Program, Stopped>
     requires { S.allows shelf.old file.now }
-    ensures gives { IfSome (S.files shelf.old) (λ files. Gives result (read_of (bytes_of files file.now))) }
+    ensures gives { IfSome (S.files shelf.old) (λ files. GivesInput result (read_of (bytes_of files file.now))) }
     ensures moves { IfOk result (λ program. All IsMove program.moves) }
     ensures read { ReadsOnce S.files S.faults S.failures (is_read_fault result) shelf.old shelf.new }
     ensures later { S.faults shelf.old ≤ S.faults shelf.new }
@@ -57,7 +57,7 @@ pub(crate) fn read_moves<S: Shelf>(
 /// Reads the program of a text.
 fn moves_of(alloc: Global, bytes: &[u8]) -> Result<Program, Stopped>
     requires { length bytes.now ≤ most_bytes }
-    ensures gives { Gives result (read_of bytes.now) }
+    ensures gives { GivesInput result (read_of bytes.now) }
     ensures moves { IfOk result (λ program. All IsMove program.moves) }
     ensures no_read { is_read_fault result ≡ false }
 {

@@ -44,9 +44,9 @@ abbrev pub coordinate_of : Word → Option ℤ
 coordinate_of word = result_ok (length_of Mm (neg_ℤ (pos metre)) (pos metre) word)
 
 -- a point, where it has all three coordinates
-abbrev pub point_at : Option ℤ → Option ℤ → Option ℤ → Option (List ℤ)
-point_at (Some x) (Some y) (Some z) = Some (x ∷ y ∷ z ∷ [])
-point_at _ _ _ = None
+abbrev pub point_by : Option ℤ → Option ℤ → Option ℤ → Option (List ℤ)
+point_by (Some x) (Some y) (Some z) = Some (x ∷ y ∷ z ∷ [])
+point_by _ _ _ = None
 
 -- a question, where it has all three parts
 abbrev pub question_by : Option (List ℤ) → Option ℕ → Option ℕ → Option Question
@@ -56,5 +56,5 @@ question_by _ _ _ = None
 -- the question that the words behind the file's name ask
 abbrev pub question_of : Words → Option Question
 question_of (x ∷ y ∷ z ∷ name ∷ depth ∷ words) =
-    question_by (point_at (coordinate_of x) (coordinate_of y) (coordinate_of z)) (depth_of name depth) (slabs_of words)
+    question_by (point_by (coordinate_of x) (coordinate_of y) (coordinate_of z)) (depth_of name depth) (slabs_of words)
 question_of _ = None

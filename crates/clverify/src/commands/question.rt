@@ -1,7 +1,7 @@
 ghost use Rattle.std.specs.Prelude.{◌≡◌, ◌≤◌, map, unsigned_abs, IfSome, string_bytes};
 ghost use Rattle.space.specs.Ranges.{IsPoint, metre};
 ghost use Rattle.vf_text.specs.Digits.{number_spelt};
-ghost use Rattle.clverify.specs.Commands.Questions.{IsQuestion, coordinate_of, depth_of, point_at, question_of, slabs_of};
+ghost use Rattle.clverify.specs.Commands.Questions.{IsQuestion, coordinate_of, depth_of, point_by, question_of, slabs_of};
 ghost use Rattle.clverify.specs.Commands.Questions.{deepest, most_places, most_slabs};
 ghost use Rattle.clverify.specs.Words.{within};
 
@@ -48,7 +48,7 @@ pub(crate) fn read_question(words: &[String]) -> Option<Question>
 
 /// The point with these coordinates.
 fn read_point(x: &str, y: &str, z: &str) -> Option<[i32; 3]>
-    ensures point { result ≡ point_at (coordinate_of x.now) (coordinate_of y.now) (coordinate_of z.now) }
+    ensures point { result ≡ point_by (coordinate_of x.now) (coordinate_of y.now) (coordinate_of z.now) }
     ensures near { IfSome result IsPoint }
 {
     Some([
