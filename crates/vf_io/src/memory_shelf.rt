@@ -195,4 +195,4 @@ fn copy_front(buffer: &mut [u8], bytes: &[u8]) -> usize
 }
 
 #[cfg(test)]
-mod tests;
+pub(crate) mod tests;
