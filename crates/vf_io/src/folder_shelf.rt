@@ -1,4 +1,5 @@
-ghost use Rattle.std.specs.Prelude.{◌≡◌, ℕ, ◌<◌, ◌≤◌, ◌↔◌, List, None, Some, true, false, min, is_some, is_err, length, IfOk, IfSome, OnOk, OnErr, MatchResult, option_and_then};
+ghost use Rattle.std.specs.Prelude.{◌≡◌, ℕ, ◌<◌, ◌≤◌, ◌↔◌, List, None, Some, true, false, min, length};
+ghost use Rattle.std.specs.Prelude.{is_some, is_err, IfOk, IfSome, OnOk, OnErr, MatchResult, option_and_then};
 ghost use Rattle.vf_io.specs.Causes.{HasCause, Rose, told_failures, one_more_failure};
 ghost use Rattle.vf_io.specs.Memory.{faults_behind, raised};
 ghost use Rattle.vf_io.specs.Reading.{TakesBytes, CountsRead};

@@ -1,4 +1,5 @@
-ghost use Rattle.std.specs.Prelude.{◌≡◌, ℕ, ◌<◌, ◌≤◌, ◌↔◌, ◌||◌, ◌+◌, ◌-◌, ◌^◌, take, drop, List, Some, None, Bool, true, false, min, length, map, is_some, is_err, string_bytes, IfOk, IfSome, OnOk, OnErr, MatchOption};
+ghost use Rattle.std.specs.Prelude.{◌≡◌, ℕ, ◌<◌, ◌≤◌, ◌↔◌, ◌||◌, ◌+◌, ◌-◌, ◌^◌, take, drop, List, Some, None, true, false, min, length};
+ghost use Rattle.std.specs.Prelude.{is_some, is_err, IfOk, IfSome, OnOk, OnErr, MatchOption};
 ghost use Rattle.std.specs.Ordering.{nat_cmp};
 ghost use Rattle.std.specs.Cmp.Lexicographic.{slice_cmp};
 ghost use Rattle.std.specs.FinMap.{find};
@@ -6,7 +7,8 @@ ghost use Rattle.vf_io.specs.Causes.{HasCause, told_failures, one_more_failure};
 ghost use Rattle.vf_io.specs.Files.{bytes_of};
 ghost use Rattle.vf_io.specs.Memory.{IsPlaceOf, contents_at, raised, faults_behind, is_absent};
 ghost use Rattle.vf_io.specs.Reading.{TakesBytes, CountsRead};
-ghost use Rattle.vf_io.specs.Shelved.{listed_files, file_list, told_files, unread_bytes, call_count, fault_count, failing_calls, fails_next};
+ghost use Rattle.vf_io.specs.Shelved.{listed_files, file_list, told_files, unread_bytes};
+ghost use Rattle.vf_io.specs.Shelved.{call_count, fault_count, failing_calls, fails_next};
 
 use crate::answers::Failed;
 use crate::shelf::Shelf;
@@ -126,7 +128,8 @@ impl Shelf for MemShelf {
         requires { 0 < length buffer.old }
         ensures bound { IfOk result (λ n. n ≤ length buffer.new) }
         ensures stays_open { OnOk result (is_some (unread_bytes self.new) ≡ is_some (unread_bytes self.old)) }
-        ensures bytes { is_some (unread_bytes self.old) ≡ true → IfOk result (λ n. IfSome (unread_bytes self.old) (λ told. TakesBytes told (unread_bytes self.new) buffer.new n)) }
+        ensures bytes { is_some (unread_bytes self.old) ≡ true →
+            IfOk result (λ n. IfSome (unread_bytes self.old) (λ told. TakesBytes told (unread_bytes self.new) buffer.new n)) }
         ensures full { IfOk result (λ n. IfSome (unread_bytes self.old) (λ told. n ≡ min (length buffer.old) (length told))) }
         ensures none_open { is_some (unread_bytes self.old) ≡ false → IfOk result (λ n. n ≡ 0) }
         ensures closed { OnErr result (is_some (unread_bytes self.new) ≡ false) }
@@ -156,7 +159,9 @@ impl Shelf for MemShelf {
 
 /// The place of the first file with the name.
 fn place_of(files: &[(String, Vec<u8>)], name: &str) -> Option<usize>
-    ensures { MatchOption result (find (slice_cmp nat_cmp) name.now (listed_files files.now) ≡ None) (λ i. IsPlaceOf (listed_files files.now) name.now i) }
+    ensures { MatchOption result
+        (find (slice_cmp nat_cmp) name.now (listed_files files.now) ≡ None)
+        (λ i. IsPlaceOf (listed_files files.now) name.now i) }
 {
     for (place, file) in files.iter().enumerate() {
         if file.0.as_str() == name {
@@ -195,4 +200,4 @@ fn copy_front(buffer: &mut [u8], bytes: &[u8]) -> usize
 }
 
 #[cfg(test)]
-mod tests;
+pub(crate) mod tests;

@@ -49,7 +49,8 @@ pub trait Shelf {
         requires { 0 < length buffer.old }
         ensures bound { IfOk result (λ n. n ≤ length buffer.new) }
         ensures stays_open { OnOk result (is_open self.new ≡ is_open self.old) }
-        ensures bytes { is_open self.old ≡ true → IfOk result (λ n. IfSome (rest self.old) (λ told. TakesBytes told (rest self.new) buffer.new n)) }
+        ensures bytes { is_open self.old ≡ true →
+            IfOk result (λ n. IfSome (rest self.old) (λ told. TakesBytes told (rest self.new) buffer.new n)) }
         ensures none_open { is_open self.old ≡ false → IfOk result (λ n. n ≡ 0) }
         ensures closed { OnErr result (is_open self.new ≡ false) }
         ensures files { files self.new ≡ files self.old }

@@ -13,9 +13,11 @@ use crate::sink::Sink;
 /// further line is put.
 pub fn put_lines<K: Sink>(sink: &mut K, text: &[u8]) -> Result<(), Failed>
     ensures ok { OnOk result (Appends (K.written sink.old) (K.written sink.new) text.now) }
-    ensures lines { OnOk result (HasPut (K.written sink.old) (K.written sink.new) (K.pieces sink.old) (K.pieces sink.new) (pieces_of text.now)) }
+    ensures lines { OnOk result
+        (HasPut (K.written sink.old) (K.written sink.new) (K.pieces sink.old) (K.pieces sink.new) (pieces_of text.now)) }
     ensures front { OnErr result (AppendsFront (K.written sink.old) (K.written sink.new) text.now) }
-    ensures err { OnErr result (StopsInPiece (K.written sink.old) (K.written sink.new) (K.pieces sink.old) (K.pieces sink.new) (pieces_of text.now)) }
+    ensures err { OnErr result
+        (StopsInPiece (K.written sink.old) (K.written sink.new) (K.pieces sink.old) (K.pieces sink.new) (pieces_of text.now)) }
     ensures cause { HasCause (K.faults sink.old) (K.faults sink.new) result }
 {
     let mut rest = text;

@@ -18,12 +18,17 @@ const CALLS: [(&str, Option<&str>, Result<&str, Failed>); 12] = [
     ("closed by the absent name", None, Ok("")),
 ];
 
-fn shelf_of(alloc: Global) -> Result<MemShelf, Fail> {
-    let mut files = Vec::new(alloc);
-    for (name, bytes) in [("part", "FROM/0,0,1"), ("part", "FINI"), ("last", "FINI")] {
-        files.push((name.to_string(alloc)?, bytes.as_bytes().to_vec(alloc)?))?;
+/// A shelf of these files, of whose calls one fails.
+pub(crate) fn shelf_of(
+    alloc: Global,
+    files: &[(&str, &[u8])],
+    failing: u64,
+) -> Result<MemShelf, Fail> {
+    let mut shelved = Vec::new(alloc);
+    for (name, bytes) in files {
+        shelved.push((name.to_string(alloc)?, bytes.to_vec(alloc)?))?;
     }
-    Ok(MemShelf::new(files, [5].to_vec(alloc)?))
+    Ok(MemShelf::new(shelved, [failing].to_vec(alloc)?))
 }
 
 /// The bytes that a call gave: none for one that opens.
@@ -41,7 +46,12 @@ fn call<'a>(
 
 #[test]
 fn takes_a_file_in_pieces(rt: HostRuntime) -> Result<(), Fail> {
-    let mut shelf = shelf_of(rt.alloc())?;
+    let files: [(&str, &[u8]); 3] = [
+        ("part", b"FROM/0,0,1"),
+        ("part", b"FINI"),
+        ("last", b"FINI"),
+    ];
+    let mut shelf = shelf_of(rt.alloc(), &files, 5)?;
     let mut buffer = [0u8; 4];
     for (about, name, want) in CALLS {
         assert_eq!(rt;

@@ -5,7 +5,7 @@ ghost use Rattle.vf_io.specs.Reading.{TakesBytes, CountsRead};
 
 use super::*;
 use crate::answers::Failed;
-use crate::memory_shelf::MemShelf;
+use crate::memory_shelf::tests::shelf_of;
 use std::test::Fail;
 
 /// More than two buffers of bytes.
@@ -22,16 +22,6 @@ fn long_file(alloc: Global) -> Result<Vec<u8>, Fail> {
     Ok(bytes)
 }
 
-/// A shelf with an empty file, two of one name, and a long one, of whose calls some fail.
-fn shelf_of(alloc: Global, failing: &[u64]) -> Result<MemShelf, Fail> {
-    let mut files = Vec::new(alloc);
-    for (name, bytes) in [("empty", ""), ("part", PART), ("part", "another part")] {
-        files.push((name.to_string(alloc)?, bytes.as_bytes().to_vec(alloc)?))?;
-    }
-    files.push(("long".to_string(alloc)?, long_file(alloc)?))?;
-    Ok(MemShelf::new(files, failing.to_vec(alloc)?))
-}
-
 /// Whether the answer has these bytes, or is this end.
 fn is_same(got: &Result<Vec<u8>, ReadEnd>, bytes: &[u8], end: Option<ReadEnd>) -> bool {
     match got {
@@ -40,17 +30,18 @@ fn is_same(got: &Result<Vec<u8>, ReadEnd>, bytes: &[u8], end: Option<ReadEnd>) -
     }
 }
 
-/// Whether a read of a file gives what is due. After a failure no file is open, and the next read of
+/// Whether a read of one of the files gives what is due. After a failure no file is open, and the next read of
 /// one that is there gives its bytes.
 fn is_read(
     alloc: Global,
+    files: &[(&str, &[u8])],
     name: &str,
     limit: u32,
     failing: u64,
     bytes: &[u8],
     end: Option<ReadEnd>,
 ) -> Result<bool, Fail> {
-    let mut shelf = shelf_of(alloc, &[failing])?;
+    let mut shelf = shelf_of(alloc, files, failing)?;
     let got = read_all(alloc, &mut shelf, name, limit);
     if !is_same(&got, bytes, end) {
         return Ok(false);
@@ -92,13 +83,19 @@ const LIMITS: [(u32, u64, Option<ReadEnd>); 10] = [
 
 #[test]
 fn reads_a_file_or_says_why_not(rt: HostRuntime) -> Result<(), Fail> {
+    let long = long_file(rt.alloc())?;
+    let files: [(&str, &[u8]); 4] = [
+        ("empty", b""),
+        ("part", PART.as_bytes()),
+        ("part", b"another part"),
+        ("long", long.as_slice()),
+    ];
     for (name, limit, text, end) in FILES {
-        let same = is_read(rt.alloc(), name, limit, 99, text.as_bytes(), end)?;
+        let same = is_read(rt.alloc(), &files, name, limit, 99, text.as_bytes(), end)?;
         assert!(rt; same, "{name} up to {limit}");
     }
-    let long = long_file(rt.alloc())?;
     for (limit, failing, end) in LIMITS {
-        let same = is_read(rt.alloc(), "long", limit, failing, &long, end)?;
+        let same = is_read(rt.alloc(), &files, "long", limit, failing, &long, end)?;
         assert!(rt; same, "up to {limit}, call {failing} fails");
     }
     Ok(())
