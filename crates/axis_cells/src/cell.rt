@@ -72,7 +72,8 @@ impl Cell {
         ensures scale { result.scale ≡ pos scale }
         ensures behind { result.is_behind ≡ all_negative (dot_on_cell first.now.offset last.now.offset first.now.axis last.now.axis) }
         ensures n { result.n.c ≡ dot_on_cell first.now.axis last.now.axis first.now.axis last.now.axis }
-        ensures height { let u = dot_on_cell first.now.offset last.now.offset first.now.axis last.now.axis in result.height.c ≡ product22 u u }
+        ensures height { let u = dot_on_cell first.now.offset last.now.offset first.now.axis last.now.axis in
+            result.height.c ≡ product22 u u }
         ensures width { let u = dot_on_cell first.now.offset last.now.offset first.now.axis last.now.axis in
             let n = dot_on_cell first.now.axis last.now.axis first.now.axis last.now.axis in
             let d = dot_on_cell first.now.offset last.now.offset first.now.offset last.now.offset in

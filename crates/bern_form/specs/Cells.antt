@@ -18,7 +18,10 @@ ends first last i = at first i ∷ at last i ∷ []
 
 -- the scalar product of two vectors that are linear on the cell, from their values p, a at its first end and q, c at its last
 abbrev pub dot_on_cell : List ℤ → List ℤ → List ℤ → List ℤ → List ℤ
-dot_on_cell p q a c = sum2 (sum2 (product11 (ends p q 0) (ends a c 0)) (product11 (ends p q 1) (ends a c 1))) (product11 (ends p q 2) (ends a c 2))
+dot_on_cell p q a c =
+    let x = product11 (ends p q 0) (ends a c 0) in
+    let y = product11 (ends p q 1) (ends a c 1) in
+    sum2 (sum2 x y) (product11 (ends p q 2) (ends a c 2))
 
 -- the point's offset and the axis, times S, at both ends of cell k
 abbrev pub start_offset : Motion → List ℤ → ℕ → ℕ → List ℤ

@@ -390,7 +390,7 @@ impl Env for Called<'_> {
 fn a_program_may_be_called_by_any_path(rt: HostRuntime) -> Result<(), Fail> {
     let rows: [(&[&[u8]], &[&str]); 3] = [
         (
-            &[b"/opt/\xff/clverify", b"list", b"a.cls"],
+            &[b"tools/\xff/clverify", b"list", b"a.cls"],
             &["list", "a.cls"],
         ),
         (&[b"clverify", b"list", b"\xff"], &[]),

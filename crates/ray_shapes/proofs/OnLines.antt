@@ -17,7 +17,8 @@ use Rattle.ray_shapes.specs.Sizes.{IsTerm, IsLine}
 use Rattle.ray_shapes.specs.Lines.{position}
 use Rattle.ray_shapes.specs.Planes.{value_at, coefficient_of, plane_holds}
 use borrow.Author.Differences.{abs_is as size_is}
-use Rattle.ray_shapes.proofs.Products.{mul_assoc, times_longer, product_within}
+use Rattle.ray_shapes.proofs.Products.{times_longer, product_within}
+use Rattle.space.proofs.Ring.{mul_assoc_ℤ}
 
 -- the left side rises with the index by the coefficient times the step
 pub value_along : (plane : Plane) (f : Family) (first : List ℤ) (step : ℤ) (l : ℕ)
@@ -36,7 +37,7 @@ pub small_rise : (a step : ℤ) (l : ℕ) → FitsSigned w32 a → IsBetween (po
 small_rise a step l fits span =
     let low = span.from_least in let high = span.to_most in
     let q = product_within a (step *ℤ pos l) 2147483648 2000000 (omega (arith, ints), omega (arith, ints)) (omega (arith, ints), omega (arith, ints)) in
-    subst (λ (z : ℤ). IsTerm z) (sym (mul_assoc a step (pos l)))
+    subst (λ (z : ℤ). IsTerm z) (sym (mul_assoc_ℤ a step (pos l)))
     (let from = q.0 in let to = q.1 in record { from_least = omega (arith, ints); to_most = omega (arith, ints) })
 
 pub small_start : (x y z : ℤ) → IsBetween (negsuc 2147483647999999) (pos 2147483648000000) x → IsBetween (negsuc 2147483647999999) (pos 2147483648000000) y → IsBetween (negsuc 2147483647999999) (pos 2147483648000000) z

@@ -51,7 +51,8 @@ fn part_in(planes: &[Plane], line: &Line) -> Interval
 /// The parts of a line that lie in the bodies, those that are not empty.
 fn parts_in(alloc: Global, bodies: &[Body], line: &Line) -> Result<Vec<Interval>, NoMemory>
     ensures within { IfOk result (λ v. All (λ part. part.hi ≤ line.now.points) v.items) }
-    ensures exact { IfOk result (λ v. (l : ℕ) → covers_some v.items l ≡ (nat_lt l line.now.points && in_bodies bodies.now (point_on line.now l))) }
+    ensures exact { IfOk result (λ v.
+        (l : ℕ) → covers_some v.items l ≡ (nat_lt l line.now.points && in_bodies bodies.now (point_on line.now l))) }
 {
     let mut parts = Vec::new(alloc);
     for body in bodies {

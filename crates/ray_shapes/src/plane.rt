@@ -27,7 +27,8 @@ impl Plane {
         requires within { part.hi ≤ line.now.points }
         ensures order { result.lo ≤ result.hi }
         ensures within { result.hi ≤ part.hi }
-        ensures exact { Selects result.lo result.hi (λ l. (part.lo ≤ l) × (l < part.hi) × IsTrue (plane_holds self.now (point_on line.now l))) }
+        ensures exact { Selects result.lo result.hi (λ l.
+            (part.lo ≤ l) × (l < part.hi) × IsTrue (plane_holds self.now (point_on line.now l))) }
     {
         self.ramp(line).half_line(part)
     }
