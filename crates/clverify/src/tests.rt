@@ -359,16 +359,19 @@ fn limits_are_exact(rt: HostRuntime) -> Result<(), Fail> {
     Ok(())
 }
 
-/// A program's path and its words, by their bytes.
+/// A program's path and one word behind it, by their bytes.
 #[derive(Drop)]
 struct Called<'a> {
-    arguments: &'a [&'a [u8]],
+    path: &'a [u8],
+    word: &'a [u8],
 }
 
 impl Env for Called<'_> {
     fn arg(&self, i: usize, buffer: &mut [u8]) -> Result<usize, FillError> {
-        let Some(argument) = self.arguments.get(i) else {
-            return Err(FillError::NotPresent);
+        let argument = match i {
+            0 => self.path,
+            1 => self.word,
+            _ => return Err(FillError::NotPresent),
         };
         if argument.len() > buffer.len() {
             return Err(FillError::TooLong);
@@ -388,22 +391,22 @@ impl Env for Called<'_> {
 
 #[test]
 fn a_program_may_be_called_by_any_path(rt: HostRuntime) -> Result<(), Fail> {
-    let rows: [(&[&[u8]], &[&str]); 3] = [
-        (
-            &[b"tools/\xff/clverify", b"list", b"a.cls"],
-            &["list", "a.cls"],
-        ),
-        (&[b"clverify", b"list", b"\xff"], &[]),
-        (&[], &[]),
-    ];
-    for (number, (arguments, words)) in rows.iter().enumerate() {
-        let Ok(found) = read_words(rt.alloc(), &Called { arguments }) else {
-            return Err(Fail::from("no memory for the words"));
-        };
-        assert_eq!(rt; found.len(), words.len(), "the words of call {number}");
-        for (word, want) in found.iter().zip(words.iter()) {
-            assert_eq!(rt; word.as_str(), *want, "a word of call {number}");
-        }
-    }
+    let by_bytes = Called {
+        path: b"tools/\xff/clverify",
+        word: b"list",
+    };
+    let Ok(words) = read_words(rt.alloc(), &by_bytes) else {
+        return Err(Fail::from("no memory for the words"));
+    };
+    assert_eq!(rt; words.len(), 1, "the words behind a path that is no text");
+    assert_eq!(rt; words[0].as_str(), "list", "the word behind it");
+    let no_text = Called {
+        path: b"clverify",
+        word: b"\xff",
+    };
+    let Ok(words) = read_words(rt.alloc(), &no_text) else {
+        return Err(Fail::from("no memory for the words"));
+    };
+    assert_eq!(rt; words.len(), 0, "a word that is no text");
     Ok(())
 }
