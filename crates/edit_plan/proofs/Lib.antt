@@ -1,0 +1,4 @@
+pub mod WordLemmas
+pub mod ListLemmas
+pub mod CountLemmas
+pub mod SoundLemmas
