@@ -2,3 +2,4 @@ pub mod WordLemmas
 pub mod ListLemmas
 pub mod CountLemmas
 pub mod SoundLemmas
+pub mod VersionLemmas

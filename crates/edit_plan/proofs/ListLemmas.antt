@@ -1,12 +1,18 @@
 -- The lists of moves that are left and dropped, as edits come.
-use Rattle.std.proofs.Common.{◌≡◌, ℕ, zero, suc, ◌+◌, ◌-◌, ◌<◌, ◌≤◌, ◌&&◌, nat_lt, List, [], ◌∷◌, ◌++◌, Bool, true, false, map, length, take, drop, replicate, append_assoc, append-nil, add-one, length-append, length-take, length-drop, arith, refl, sym, ap, ◌∙◌}
+use Rattle.std.proofs.Common.{◌≡◌, ℕ, zero, suc, ◌+◌, ◌-◌, ◌<◌, ◌≤◌, ◌&&◌, nat_lt, List, [], ◌∷◌, ◌++◌, Bool, true, false, length, replicate, append_assoc, append-nil, length-append, length-take, length-drop, arith, refl, sym, ap, ◌∙◌}
 use Rattle.std.specs.List.{fold, range_with_len}
 use Rattle.std.proofs.lemmas.Bool.{lt-ltb}
-use Rattle.std.proofs.lemmas.List.FromFn.{length-map-range_with_len, length-range_with_len, map-range_with_len_more}
+use Rattle.std.proofs.lemmas.List.FromFn.{length-map-range_with_len, map-range_with_len_more}
 use Rattle.std.proofs.lemmas.List.Sums.{fold-append}
 use Rattle.edit_plan.specs.declared.edit.Edit.{Edit}
 use Rattle.edit_plan.specs.declared.edit.Edit.TheVariants.{Apply, Undo, Redo}
 use Rattle.edit_plan.specs.Edits.{MoveLists, after_edit, all_but_last, all_find, applied_moves, are_sound, dropped_of, finds, last_alone, left_of, lists_after, no_lists}
+
+-- both tests hold where one and the other does
+pub both_true : (a b : Bool) → (a && b) ≡ true → (a ≡ true) × (b ≡ true)
+both_true true true e = (refl, refl)
+both_true true false e = cc
+both_true false b e = cc
 
 -- the moves up to the next one
 pub applied_more : (first number : ℕ) → first ≤ number → applied_moves first (number + 1 - first) ≡ applied_moves first (number - first) ++ Apply number ∷ []

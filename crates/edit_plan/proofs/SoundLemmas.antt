@@ -1,5 +1,5 @@
 -- What one line adds keeps a script sound.
-use Rattle.std.proofs.Common.{◌≡◌, ℕ, zero, suc, ◌+◌, ◌-◌, ◌<◌, ◌≤◌, ◌&&◌, ◌==◌, nat_le, nat_lt, List, [], ◌∷◌, ◌++◌, Bool, true, false, length, get_or, replicate, length-append, Option, Some, None, Result, Ok, Err, arith, refl, sym, ap, ◌∙◌, subst, IsTrue, All, if◌then◌else◌}
+use Rattle.std.proofs.Common.{◌≡◌, ℕ, zero, suc, ◌+◌, ◌-◌, ◌<◌, ◌≤◌, ◌&&◌, ◌==◌, nat_le, nat_lt, List, [], ◌∷◌, ◌++◌, Bool, true, false, length, get_or, replicate, length-append, Option, Some, None, Result, Ok, Err, arith, refl, subst, All, if◌then◌else◌}
 use Rattle.std.proofs.lemmas.Bool.{lt-ltb, ltb-true, ltb-false, leb-true}
 use Rattle.std.proofs.lemmas.List.{get_or_append_left}
 use Rattle.std.proofs.Math.Seq.{get_or-append_seam}
@@ -9,10 +9,10 @@ use Rattle.ray_grid.specs.Families.{first_axis, second_axis}
 use Rattle.ray_grid.specs.Lattice.{IsRay, nodes_of, points_of}
 use Rattle.ray_grid.specs.declared.grid.Grid.{Grid}
 use Rattle.ray_grid.specs.declared.ray.Ray.{Ray}
-use Rattle.edit_plan.specs.Edits.{AppliesBelow, all_find, applied_moves, are_sound, dropped_of, left_of, lists_after, no_lists}
+use Rattle.edit_plan.specs.Edits.{AppliesBelow, all_find, applied_moves, dropped_of, left_of, lists_after, no_lists}
 use Rattle.edit_plan.specs.Limits.{most_edits, most_queries}
 use Rattle.edit_plan.specs.Queries.{AsksOn, IsQuery, is_point_on}
-use Rattle.edit_plan.specs.Script.{are_too_many, no_script, read_on, script_from, whole_of_moves, with_edits, with_line, with_query, with_redos, with_run, with_statement, with_undos}
+use Rattle.edit_plan.specs.Script.{are_too_many, no_script, read_on, script_from, whole_of_moves, with_edits, with_line, with_query, with_statement}
 use Rattle.edit_plan.specs.Sound.{IsScript}
 use Rattle.edit_plan.specs.Statements.{statement_of}
 use Rattle.edit_plan.specs.Words.{WordedLine}
@@ -28,25 +28,21 @@ use Rattle.edit_plan.specs.declared.script.Script.{Script}
 use Rattle.edit_plan.specs.declared.statement.Edition.{Edition}
 use Rattle.edit_plan.specs.declared.statement.Statement.{Statement}
 use Rattle.edit_plan.specs.declared.statement.Statement.TheVariants.{Run, UndoTimes, RedoTimes, ProbePoint, CountPoints}
-use Rattle.edit_plan.proofs.ListLemmas.{all_find-applied, are_sound-append, length-applied, redone, undone}
+use Rattle.edit_plan.proofs.ListLemmas.{all_find-applied, are_sound-append, both_true, length-applied, redone, undone}
 
 -- a ray and a point that the grid has pass the test
 pub is_point_on-has : (grid : Grid) (ray : Ray) (l : ℕ) → IsRay grid ray → l < points_of grid ray.family → is_point_on grid ray l ≡ true
 is_point_on-has grid ray l on below =
     rw (lt-ltb ray.i (nodes_of grid (first_axis ray.family)) on.first, lt-ltb ray.j (nodes_of grid (second_axis ray.family)) on.second, lt-ltb l (points_of grid ray.family) below) refl
 
-both : (a b : Bool) → (a && b) ≡ true → (a ≡ true) × (b ≡ true)
-both true true e = (refl, refl)
-both true false e = cc
-both false b e = cc
-
 -- and only they
 pub has-is_point_on : (grid : Grid) (ray : Ray) (l : ℕ) → is_point_on grid ray l ≡ true → IsRay grid ray × (l < points_of grid ray.family)
 has-is_point_on grid ray l test =
-    let first = both (nat_lt ray.i (nodes_of grid (first_axis ray.family))) (nat_lt ray.j (nodes_of grid (second_axis ray.family)) && nat_lt l (points_of grid ray.family)) test in
-    let second = both (nat_lt ray.j (nodes_of grid (second_axis ray.family))) (nat_lt l (points_of grid ray.family)) first.1 in
-    (record { first = ltb-true ray.i (nodes_of grid (first_axis ray.family)) first.0; second = ltb-true ray.j (nodes_of grid (second_axis ray.family)) second.0 },
-     ltb-true l (points_of grid ray.family) second.1)
+    let first = both_true (nat_lt ray.i (nodes_of grid (first_axis ray.family))) (nat_lt ray.j (nodes_of grid (second_axis ray.family)) && nat_lt l (points_of grid ray.family)) test in
+    let second = both_true (nat_lt ray.j (nodes_of grid (second_axis ray.family))) (nat_lt l (points_of grid ray.family)) first.1 in (
+      record { first = ltb-true ray.i (nodes_of grid (first_axis ray.family)) first.0; second = ltb-true ray.j (nodes_of grid (second_axis ray.family)) second.0 },
+      ltb-true l (points_of grid ray.family) second.1,
+    )
 
 applied_below : (moves first count : ℕ) → first + count ≤ moves → All (AppliesBelow moves) (applied_moves first count)
 applied_below moves first zero below = λ k d within. absurd (omega (arith, within))
@@ -131,7 +127,7 @@ query_added moves grid script ask is on room =
       named = is.named;
       few_edits = is.few_edits;
       queries = All-append (IsQuery grid (length script.edits)) script.queries (last ∷ []) is.queries
-      (All-cons (IsQuery grid (length script.edits)) last [] (record { version = omega arith; point = on }) (λ k d within. absurd (omega (arith, within))));
+          (All-cons (IsQuery grid (length script.edits)) last [] (record { version = omega arith; point = on }) (λ k d within. absurd (omega (arith, within))));
       few_queries = omega (arith, length-append script.queries (last ∷ []), room);
       ordered = λ i j d order within. pushed_at script.queries last d i j (nat_lt j (length script.queries)) refl order within is.ordered (λ k q below. (is.queries k q below).version);
     }
@@ -149,8 +145,8 @@ with_query-sound moves grid script next ask is on e = with_query-by moves grid s
 with_run-by : (moves first last : ℕ) (grid : Grid) (script next : Script) (there : Bool) → (nat_le 1 first && (nat_le first last && nat_le last moves)) ≡ there → IsScript moves grid script
     → (if there then with_edits (applied_moves (first - 1) (last + 1 - first)) script else Err ScriptRange) ≡ done next → IsScript moves grid next
 with_run-by moves first last grid script next true there is e =
-    let some = both (nat_le 1 first) (nat_le first last && nat_le last moves) there in
-    let order = both (nat_le first last) (nat_le last moves) some.1 in
+    let some = both_true (nat_le 1 first) (nat_le first last && nat_le last moves) there in
+    let order = both_true (nat_le first last) (nat_le last moves) some.1 in
     let low = leb-true 1 first some.0 in
     let high = leb-true last moves order.1 in
     with_edits-sound moves grid script next (applied_moves (first - 1) (last + 1 - first)) is

@@ -1,6 +1,6 @@
 -- Words cut off one by one.
 use Rattle.std.proofs.Common.{◌≡◌, ℕ, ◌+◌, ◌<◌, ◌&&◌, List, [], ◌∷◌, Bool, true, false, not, cond, filter, map, length, take, drop, one-add, arith, refl, sym, ap, ◌∙◌}
-use Rattle.std.specs.List.{prefix_len, list_all}
+use Rattle.std.specs.List.{prefix_len}
 use Rattle.vf_io.specs.Pieces.{lead, pieces_of}
 use Rattle.vf_text.specs.Blanks.{is_blank, is_blank_text, behind_blanks}
 use Rattle.vf_text.specs.Lines.{line_of, lines_of}

@@ -51,7 +51,8 @@ impl<'a> Lines<'a> {
 
     /// Takes the next line that has words.
     pub(crate) fn next_line(&mut self) -> Option<Line<'a>>
-        ensures { MatchOption result ((self.old ≡ []) × (self.new ≡ [])) (λ line. self.old ≡ record { number = line.number; words = words_of line.text.now } ∷ self.new) }
+        ensures { MatchOption result ((self.old ≡ []) × (self.new ≡ []))
+            (λ line. self.old ≡ record { number = line.number; words = words_of line.text.now } ∷ self.new) }
     {
         while !self.rest.is_empty() {
             let (piece, behind) = split_line(self.rest);

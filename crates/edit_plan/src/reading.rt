@@ -53,14 +53,10 @@ impl Reading {
     }
 
     /// Adds what a line says.
-    pub(crate) fn add(
-        &mut self,
-        statement: Statement,
-        moves: u32,
-        grid: &Grid,
-    ) -> Result<(), Stop>
+    pub(crate) fn add(&mut self, statement: Statement, moves: u32, grid: &Grid) -> Result<(), Stop>
         requires { moves ≤ most_script_moves }
-        ensures { MatchResult result (λ _. with_statement moves grid.now statement self.old ≡ Ok self.new) (EndsLine (with_statement moves grid.now statement self.old)) }
+        ensures { MatchResult result (λ _. with_statement moves grid.now statement self.old ≡ Ok self.new)
+            (EndsLine (with_statement moves grid.now statement self.old)) }
     {
         match statement {
             Statement::Run { first, last } => self.run(first, last, moves),
@@ -79,7 +75,8 @@ impl Reading {
     /// Applies the moves from one to another, counted from 1.
     fn run(&mut self, first: u32, last: u32, moves: u32) -> Result<(), Stop>
         requires { moves ≤ most_script_moves }
-        ensures { MatchResult result (λ _. with_run moves first last self.old ≡ Ok self.new) (EndsLine (with_run moves first last self.old)) }
+        ensures { MatchResult result (λ _. with_run moves first last self.old ≡ Ok self.new)
+            (EndsLine (with_run moves first last self.old)) }
     {
         if first < 1 || last < first || moves < last {
             return Err(Stop::Refused(ScriptWhy::ScriptRange));
@@ -98,7 +95,8 @@ impl Reading {
 
     /// Undoes the last moves that are left.
     fn undo(&mut self, times: u32) -> Result<(), Stop>
-        ensures { MatchResult result (λ _. with_undos times self.old ≡ Ok self.new) (EndsLine (with_undos times self.old)) }
+        ensures { MatchResult result (λ _. with_undos times self.old ≡ Ok self.new)
+            (EndsLine (with_undos times self.old)) }
     {
         if times == 0 {
             return Err(Stop::Refused(ScriptWhy::ScriptRange));
@@ -122,7 +120,8 @@ impl Reading {
 
     /// Takes back the last moves that were dropped.
     fn redo(&mut self, times: u32) -> Result<(), Stop>
-        ensures { MatchResult result (λ _. with_redos times self.old ≡ Ok self.new) (EndsLine (with_redos times self.old)) }
+        ensures { MatchResult result (λ _. with_redos times self.old ≡ Ok self.new)
+            (EndsLine (with_redos times self.old)) }
     {
         if times == 0 {
             return Err(Stop::Refused(ScriptWhy::ScriptRange));
@@ -146,7 +145,8 @@ impl Reading {
 
     /// Asks at the version that the edits so far make.
     fn query(&mut self, ask: Ask) -> Result<(), Stop>
-        ensures { MatchResult result (λ _. with_query ask self.old ≡ Ok self.new) (EndsLine (with_query ask self.old)) }
+        ensures { MatchResult result (λ _. with_query ask self.old ≡ Ok self.new)
+            (EndsLine (with_query ask self.old)) }
     {
         if self.queries.len() >= MAX_QUERIES {
             return Err(Stop::Refused(ScriptWhy::TooManyQueries));

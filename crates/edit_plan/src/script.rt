@@ -43,7 +43,8 @@ pub fn read_script(
 ) -> Result<Script, ScriptEnd>
     requires bytes { length bytes.now ≤ most_script_bytes }
     requires moves { moves ≤ most_script_moves }
-    ensures script { MatchResult result (λ s. script_of moves grid.now bytes.now ≡ Ok s) (EndsScript (script_of moves grid.now bytes.now)) }
+    ensures script { MatchResult result (λ s. script_of moves grid.now bytes.now ≡ Ok s)
+        (EndsScript (script_of moves grid.now bytes.now)) }
     ensures sound { IfOk result (IsScript moves grid.now) }
 {
     let mut lines = Lines::new(bytes);

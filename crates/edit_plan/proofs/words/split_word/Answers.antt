@@ -1,6 +1,4 @@
-use Rattle.std.proofs.Common.{◌≡◌, ◌<◌, ◌∷◌, ◌∙◌, length, take, drop, arith, rules, refl, sym, ap}
-use Rattle.vf_text.specs.Blanks.{behind_blanks}
-use Rattle.edit_plan.specs.Words.{words_of}
+use Rattle.std.proofs.Common.{◌≡◌, ◌<◌, ◌∙◌, length, rules, refl, sym, ap}
 use Rattle.edit_plan.proofs.WordLemmas.{words_of-first, words_of-none}
 use Rattle.edit_plan.proofs.words.split_word.Goals as goal
 

@@ -1,4 +1,4 @@
-use Rattle.std.proofs.Common.{◌≡◌, ◌+◌, ◌≤◌, ◌∙◌, length, true, false, length-append, arith, rules, sym, ap}
+use Rattle.std.proofs.Common.{◌≡◌, ◌∙◌, length, true, false, length-append, arith, rules, sym, ap}
 use Rattle.vf_text.specs.Blanks.{is_blank_text}
 use Rattle.vf_text.specs.Lines.{line_of}
 use Rattle.edit_plan.specs.Words.{ahead_of_comment}
@@ -22,6 +22,6 @@ loop-self-preserved c =
     let blank : is_blank_text text ≡ true = search rules in
     record {
       same = sym (worded_from-blank c.loop-self.self-inside.number c.loop-self.self-inside.rest.now piece c.split_line.result.1.now text c.split_line.ensures.first is blank)
-      ∙ c.loop-self.invariant.same;
+          ∙ c.loop-self.invariant.same;
       small = omega (arith, ap length c.split_line.ensures.whole, length-append piece c.split_line.result.1.now, c.split_line.ensures.some, c.loop-self.invariant.small);
     }

@@ -1,4 +1,4 @@
-use Rattle.std.proofs.Common.{◌≡◌, true, rules, sym}
+use Rattle.std.proofs.Common.{◌≡◌, true, rules}
 use Rattle.edit_plan.specs.Queries.{is_point_on}
 use Rattle.edit_plan.proofs.SoundLemmas.{is_point_on-has}
 use Rattle.edit_plan.proofs.reading.Reading.add.Goals as goal

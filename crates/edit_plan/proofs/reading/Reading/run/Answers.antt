@@ -1,9 +1,7 @@
-use Rattle.std.proofs.Common.{◌≡◌, ◌+◌, ◌-◌, ◌≤◌, ◌++◌, length, true, false, arith, rules, refl, sym, ap, ◌∙◌}
-use Rattle.edit_plan.specs.Counted.{IsCounted}
+use Rattle.std.proofs.Common.{◌≡◌, ◌+◌, ◌-◌, ◌≤◌, ◌++◌, length, true, false, arith, rules, refl}
 use Rattle.edit_plan.specs.Edits.{applied_moves}
 use Rattle.edit_plan.specs.Limits.{most_edits}
 use Rattle.edit_plan.specs.Script.{are_too_many}
-use Rattle.edit_plan.specs.declared.script.Script.{Script}
 use Rattle.edit_plan.proofs.CountLemmas.{counted_applied, counted_few, has_room, with_run-full, with_run-room}
 use Rattle.edit_plan.proofs.reading.Reading.run.Goals as goal
 
