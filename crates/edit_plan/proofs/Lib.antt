@@ -1,0 +1,5 @@
+pub mod WordLemmas
+pub mod ListLemmas
+pub mod CountLemmas
+pub mod SoundLemmas
+pub mod VersionLemmas
