@@ -2,8 +2,10 @@
 use Rattle.std.proofs.Common.{◌≡◌, ℕ, List, length, Bool, not, ◌&&◌, ap, ◌∙◌, subst}
 use Rattle.std.specs.List.{range_with_len}
 use Rattle.vf_spans.specs.Members.{has, count_below}
-use Rattle.dexel_rays.specs.declared.counts.Counts.{Counts}
-use Rattle.dexel_rays.specs.Findings.{findings}
+use Rattle.job_facts.specs.declared.counts.Counts.{Counts}
+use Rattle.std.proofs.lemmas.List.Sums.{count_by-le-length}
+use Rattle.job_facts.specs.Counts.{AreWithin}
+use Rattle.dexel_rays.specs.Findings.{Seen, findings, is_removed, is_new_possible, is_part_sure, is_part_possible, is_fixture_sure, is_fixture_possible, is_rapid_sure, is_rapid_possible}
 use Rattle.dexel_rays.specs.Sets.{Sets, HaveBound, seen_at}
 
 -- how many indices two sets have, and how many the first two have and the third has not
@@ -39,3 +41,16 @@ found_is i d is sure possible rapid a b c e f g h k size ia ib ic ie jf jg jh jk
     let counts : Counts = record { removed = a; possible = b; part_sure = c; part_possible = e; fix_sure = f; fix_possible = g; rapid_sure = h; rapid_possible = k } in
     subst (λ (z : Sets). counts ≡ findings (seen_at z sure possible rapid) (range_with_len 0 (length z.stock))) is
     (at i sure possible rapid a b c e f g h k size ia ib ic ie jf jg jh jk)
+
+-- no count is above the number of points
+pub findings_within : {P : Type 0} → (see : P → Seen) (points : List P) → AreWithin (length points) (findings see points)
+findings_within see points = record {
+  removed = count_by-le-length (λ p. is_removed (see p)) points;
+  possible = count_by-le-length (λ p. is_new_possible (see p)) points;
+  part_sure = count_by-le-length (λ p. is_part_sure (see p)) points;
+  part_possible = count_by-le-length (λ p. is_part_possible (see p)) points;
+  fix_sure = count_by-le-length (λ p. is_fixture_sure (see p)) points;
+  fix_possible = count_by-le-length (λ p. is_fixture_possible (see p)) points;
+  rapid_sure = count_by-le-length (λ p. is_rapid_sure (see p)) points;
+  rapid_possible = count_by-le-length (λ p. is_rapid_possible (see p)) points;
+}

@@ -1,6 +1,6 @@
 -- What a move finds at a point: eight rules on what is known there, and how many points meet each.
 use Rattle.std.specs.Prelude.{ℕ, Bool, false, not, ◌&&◌, ◌||◌, List, count_by}
-use Rattle.dexel_rays.specs.declared.counts.Counts.{Counts}
+use Rattle.job_facts.specs.declared.counts.Counts.{Counts}
 
 -- what is known of a point at a move: which bodies hold it, of which and at which points some move ahead was sure or possible,
 -- whether this move is, and whether it is rapid
@@ -91,10 +91,6 @@ findings see points = record {
   rapid_sure = count_by (λ p. is_rapid_sure (see p)) points;
   rapid_possible = count_by (λ p. is_rapid_possible (see p)) points;
 }
-
--- nothing was found
-abbrev pub no_counts : Counts
-no_counts = record { removed = 0; possible = 0; part_sure = 0; part_possible = 0; fix_sure = 0; fix_possible = 0; rapid_sure = 0; rapid_possible = 0 }
 
 -- the point is neither part nor fixture, and some move ahead was sure of it, so that one was possible there too
 abbrev pub is_settled : Seen → Bool

@@ -1,11 +1,11 @@
 ghost use Rattle.std.specs.Prelude.{◌≡◌, ℕ, List, Bool, false, length};
 ghost use Rattle.vf_spans.specs.Members.{has};
-ghost use Rattle.dexel_rays.specs.Findings.{no_counts};
+ghost use Rattle.job_facts.specs.Counts.{no_counts};
 ghost use Rattle.dexel_rays.specs.declared.delta.Delta.{Delta};
 ghost use Rattle.dexel_rays.specs.Sets.{Sets, HaveBound};
 ghost use Rattle.dexel_rays.specs.Steps.{IsDelta};
 
-use crate::counts::Counts;
+use job_facts::Counts;
 use std::alloc::Global;
 use vf_spans::Spans;
 
@@ -34,16 +34,7 @@ impl Delta {
         Delta {
             sure: Spans::new(alloc, bound),
             possible: Spans::new(alloc, bound),
-            counts: Counts {
-                removed: 0,
-                possible: 0,
-                part_sure: 0,
-                part_possible: 0,
-                fix_sure: 0,
-                fix_possible: 0,
-                rapid_sure: 0,
-                rapid_possible: 0,
-            },
+            counts: Counts::none(),
         }
     }
 }

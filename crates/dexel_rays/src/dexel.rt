@@ -5,8 +5,8 @@ ghost use Rattle.dexel_rays.specs.Findings.{findings, met, none_met, is_settled,
 ghost use Rattle.dexel_rays.specs.Sets.{Sets, HaveBound, seen_at};
 ghost use Rattle.dexel_rays.specs.Steps.{IsDelta, IsUnited, IsWithout, StaysAt};
 
-use crate::counts::Counts;
 use crate::delta::Delta;
+use job_facts::Counts;
 use std::alloc::Global;
 use std::marker::Model;
 use vf_io::NoMemory;

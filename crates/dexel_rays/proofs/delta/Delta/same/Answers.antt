@@ -1,6 +1,6 @@
 use Rattle.std.proofs.Common.{refl}
 use Rattle.dexel_rays.specs.declared.delta.Delta.{Delta}
-use Rattle.dexel_rays.specs.Findings.{no_counts}
+use Rattle.job_facts.specs.Counts.{no_counts}
 use Rattle.dexel_rays.proofs.Laws.{nothing_new}
 use Rattle.dexel_rays.proofs.delta.Delta.same.Goals as goal
 
