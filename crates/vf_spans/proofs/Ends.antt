@@ -161,3 +161,6 @@ last_here es xs lo same there = subst (λ (z : List ℕ). (0 < length z) × (get
 
 pub room : (bound hi : ℕ) (es : List ℕ) (v : List Bool) → flags_of bound es ≡ v → hi ≤ length v → hi ≤ bound
 room bound hi es v is le = let q = length-flags bound es in let r = ap length is in omega arith
+
+pub one_index : (n i : ℕ) → (leb n i && ltb i (n + 1)) ≡ eqb i n
+one_index n i = grind (arith, nat_tests)

@@ -5,3 +5,5 @@ pub mod Counts
 pub mod Ends
 pub mod Same
 pub mod InRanges
+pub mod Tally
+pub mod Below

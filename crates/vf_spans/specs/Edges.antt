@@ -1,11 +1,15 @@
 -- How a set is kept: by its edges, the first index of each range and the first one past it, in one ascending list.
-use Rattle.std.specs.Prelude.{◌≡◌, ℕ, ◌<◌, ◌≤◌, ◌%◌, Bool, false, not, nat_le, if◌then◌else◌, List, [], ◌∷◌, length, map, slice_index}
+use Rattle.std.specs.Prelude.{◌≡◌, ℕ, ◌<◌, ◌≤◌, ◌%◌, Bool, false, not, nat_le, nat_eq, if◌then◌else◌, List, [], ◌∷◌, length, map, slice_index}
 use Rattle.std.specs.List.{range_with_len}
 
 -- x is inside where an odd number of edges are at most x
 abbrev pub inside : List ℕ → ℕ → Bool
 inside [] x = false
 inside (edge ∷ edges) x = if nat_le edge x then not (inside edges x) else inside edges x
+
+-- past that many edges of a set one is inside it
+abbrev pub is_odd : ℕ → Bool
+is_odd passed = nat_eq (passed % 2) 1
 
 -- the set below a bound that has these edges
 abbrev pub flags_of : ℕ → List ℕ → List Bool

@@ -1,5 +1,6 @@
 -- A set of indices below a bound, as one flag for each index below it: true where the index is in the set.
 use Rattle.std.specs.Prelude.{◌≡◌, ℕ, ◌+◌, Bool, true, false, nat_le, nat_lt, ◌&&◌, List, [], ◌∷◌, length, Option, None, Some, count_by, slice_index_or}
+use Rattle.std.specs.List.{range_with_len}
 
 -- the index is in the set; beyond the bound none is
 abbrev pub has : List Bool → ℕ → Bool
@@ -8,6 +9,10 @@ has set i = slice_index_or set i false
 -- how many indices the set has
 abbrev pub count_of : List Bool → ℕ
 count_of set = count_by (λ flag. flag) set
+
+-- how many indices below the bound meet the test
+abbrev pub count_below : ℕ → (ℕ → Bool) → ℕ
+count_below bound test = count_by test (range_with_len 0 bound)
 
 -- the ranges of a set from an index on, each as its first index and the first one past it, where a range may have begun before
 abbrev pub ranges_from : ℕ → Option ℕ → List Bool → List (ℕ × ℕ)

@@ -3,6 +3,7 @@
 
 mod merge;
 mod spans;
+mod stretches;
 #[cfg(test)]
 mod tests;
 

@@ -25,7 +25,7 @@ impl Operation {
 }
 
 /// The least of the edges that come next.
-fn next_edge(a: &[u32], i: usize, b: &[u32], j: usize) -> u32
+pub fn next_edge(a: &[u32], i: usize, b: &[u32], j: usize) -> u32
     requires { (i < length a.now) ⊎ (j < length b.now) }
     ensures first { i < length a.now → result ≤ slice_index a.now i }
     ensures second { j < length b.now → result ≤ slice_index b.now j }
@@ -42,7 +42,7 @@ fn next_edge(a: &[u32], i: usize, b: &[u32], j: usize) -> u32
 }
 
 /// The place after the edge, if it stands there.
-fn past(edges: &[u32], i: usize, edge: u32) -> usize
+pub fn past(edges: &[u32], i: usize, edge: u32) -> usize
     requires ascends { Ascends edges.now }
     requires within { i ≤ length edges.now }
     requires least { i < length edges.now → edge ≤ slice_index edges.now i }

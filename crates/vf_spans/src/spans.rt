@@ -1,10 +1,11 @@
-ghost use Rattle.std.specs.Prelude.{◌≡◌, ℕ, ◌+◌, ◌-◌, ◌*◌, ◌<◌, ◌≤◌, ◌↔◌, ◌&&◌, ◌||◌, not, nat_le, nat_lt, List, Bool, true, false, Some, IsTrue, IfOk, OnOk, OnErr, length, slice_get, slice_index};
+ghost use Rattle.std.specs.Prelude.{◌≡◌, ℕ, ◌+◌, ◌-◌, ◌*◌, ◌<◌, ◌≤◌, ◌↔◌, ◌&&◌, ◌||◌, not, nat_le, nat_lt, nat_eq, List, Bool, true, false, Some, IsTrue, IfOk, OnOk, OnErr, length, slice_get, slice_index};
 ghost use Rattle.std.specs.List.{list_any};
-ghost use Rattle.vf_spans.specs.Members.{has, count_of, in_range, ranges_of, SameIndices};
+ghost use Rattle.vf_spans.specs.Members.{has, count_of, count_below, in_range, ranges_of, SameIndices};
 ghost use Rattle.vf_spans.specs.Edges.{flags_of, AreEdges};
 ghost use Rattle.vf_spans.specs.Merge.{combined};
 
 use crate::merge::{Operation, combine_edges};
+use crate::stretches::count_numbers;
 use std::alloc::Global;
 use std::marker::Model;
 use vf_io::NoMemory;
@@ -68,6 +69,43 @@ impl Spans {
         total
     }
 
+    /// Whether the set has no index.
+    pub fn is_empty(&self) -> bool
+        ensures { IsTrue result ↔ ((i : ℕ) → has self.now i ≡ false) }
+    {
+        self.edges.is_empty()
+    }
+
+    /// How many indices both sets have. It takes no memory.
+    pub fn count_meet(&self, other: &Spans) -> u32
+        requires { length other.now ≡ length self.now }
+        ensures { result ≡ count_below (length self.now) (λ i. has self.now i && has other.now i) }
+    {
+        count_numbers(self.edges.as_slice(), other.edges.as_slice(), &[])
+    }
+
+    /// How many indices this set has and the other has not. It takes no memory.
+    pub fn count_minus(&self, other: &Spans) -> u32
+        requires { length other.now ≡ length self.now }
+        ensures { result ≡ count_below (length self.now) (λ i. has self.now i && not (has other.now i)) }
+    {
+        let edges = self.edges.as_slice();
+        count_numbers(edges, edges, other.edges.as_slice())
+    }
+
+    /// How many indices this set and the second have and the third has not. It takes no memory.
+    pub fn count_meet_minus(&self, second: &Spans, third: &Spans) -> u32
+        requires second { length second.now ≡ length self.now }
+        requires third { length third.now ≡ length self.now }
+        ensures { result ≡ count_below (length self.now) (λ i. has self.now i && (has second.now i && not (has third.now i))) }
+    {
+        count_numbers(
+            self.edges.as_slice(),
+            second.edges.as_slice(),
+            third.edges.as_slice(),
+        )
+    }
+
     /// How many ranges the set has.
     pub fn ranges(&self) -> u32
         ensures count { result ≡ length (ranges_of self.now) }
@@ -118,6 +156,19 @@ impl Spans {
         }
         self.edges.extend_from_slice(&[lo, hi])?;
         Ok(())
+    }
+
+    /// Adds one index, above all that the set has.
+    pub fn push(&mut self, index: u32) -> Result<(), NoMemory>
+        requires within { index < length self.old }
+        requires above { (i : ℕ) → IsTrue (has self.old i) → i < index }
+        ensures bound { length self.new ≡ length self.old }
+        ensures added { OnOk result ((i : ℕ) → has self.new i ≡ (has self.old i || nat_eq i index)) }
+        ensures unchanged { OnErr result (self.new ≡ self.old) }
+    {
+        // The index is below the bound, which fits.
+        let _bound = self.bound;
+        self.push_range(index, index + 1)
     }
 
     /// The indices that one of the sets has.
