@@ -2,14 +2,14 @@
 use Rattle.std.proofs.Common.{◌≡◌, ℕ, List, [], ◌∷◌, length, cond, ◌+◌, Bool, true, false, not, ◌&&◌, ◌||◌, IsTrue, refl, sym, ap, ap₂, ◌∙◌, subst}
 use Rattle.std.specs.List.{range_with_len, count_by}
 use Rattle.std.proofs.lemmas.List.Sums.{sum_by-cons}
-use Rattle.vf_spans.specs.Members.{has, count_below, SameIndices}
+use Rattle.vf_spans.specs.Members.{has}
 use Rattle.vf_spans.proofs.Same.{same_sets}
 use Rattle.job_facts.specs.declared.counts.Counts.{Counts}
 use Rattle.job_facts.specs.Counts.{no_counts}
 use Rattle.dexel_rays.specs.declared.delta.Delta.{Delta}
-use Rattle.dexel_rays.specs.Findings.{Seen, Rules, met, none_met, findings, is_settled, is_outside}
+use Rattle.dexel_rays.specs.Findings.{Seen, met, none_met, findings, is_settled, is_outside}
 use Rattle.dexel_rays.specs.Sets.{Sets, HaveBound, seen_at}
-use Rattle.dexel_rays.specs.Steps.{IsDelta, IsUnited, IsWithout, StaysAt}
+use Rattle.dexel_rays.specs.Steps.{IsDelta, IsUnited, IsWithout}
 
 -- stock, part, fixture; sure and possible before; sure and possible now; rapid
 abbrev pub point : Bool → Bool → Bool → Bool → Bool → Bool → Bool → Bool → Seen

@@ -1,5 +1,5 @@
 -- What a move finds at a point: eight rules on what is known there, and how many points meet each.
-use Rattle.std.specs.Prelude.{ℕ, Bool, false, not, ◌&&◌, ◌||◌, List, count_by}
+use Rattle.std.specs.Prelude.{Bool, false, not, ◌&&◌, ◌||◌, List, count_by}
 use Rattle.job_facts.specs.declared.counts.Counts.{Counts}
 
 -- what is known of a point at a move: which bodies hold it, of which and at which points some move ahead was sure or possible,
