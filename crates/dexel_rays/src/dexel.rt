@@ -31,7 +31,8 @@ impl Model for Dexel {
 
     ghost view = { λ d. record { stock = d.stock; part = d.part; fixture = d.fixture; sure = d.sure; possible = d.possible } };
 
-    ghost invariant = { λ d. HaveBound (length d.stock) record { stock = d.stock; part = d.part; fixture = d.fixture; sure = d.sure; possible = d.possible } };
+    ghost invariant = { λ d. HaveBound (length d.stock)
+        record { stock = d.stock; part = d.part; fixture = d.fixture; sure = d.sure; possible = d.possible } };
 }
 
 impl Dexel {
