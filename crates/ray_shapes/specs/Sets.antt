@@ -21,5 +21,4 @@ in_solid (Bodies bodies) point = in_bodies bodies point
 -- whatever the closure answers on a ray of the grid with Ok is exactly the solid's points there
 abbrev pub Gives : (Ray → Result (List Bool) NoMemory → Type 0) → Grid → Solid → Type 0
 Gives answers grid solid =
-    (ray : Ray) (answer : Result (List Bool) NoMemory) → IsRay grid ray → answers ray answer
-    → IfOk answer (HoldsPointsOf grid ray (in_solid solid))
+    (ray : Ray) (answer : Result (List Bool) NoMemory) → IsRay grid ray → answers ray answer → IfOk answer (HoldsPointsOf grid ray (in_solid solid))
