@@ -14,6 +14,3 @@ pub use fault::{ClEnd, ClFault, ClWhy};
 pub use number::{NumberFault, Unit, read_length, read_scaled};
 pub use text::{Lines, MAX_BYTES, MAX_TEXT, Text, fits};
 pub use word::Word;
-
-#[cfg(test)]
-mod tests;

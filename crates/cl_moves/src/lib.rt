@@ -10,6 +10,3 @@ mod program;
 pub use cl_records::CutterText;
 pub use moves::{MAX_MOVES, Move, Moves};
 pub use program::{Program, read_program};
-
-#[cfg(test)]
-mod tests;

@@ -15,6 +15,3 @@ mod word;
 pub use cutter::CutterText;
 pub use records::Records;
 pub use statement::Record;
-
-#[cfg(test)]
-mod tests;
