@@ -1,9 +1,9 @@
 ghost use Rattle.std.specs.Prelude.{◌≡◌, ◌++◌, OnOk};
 ghost use Rattle.std.specs.Fmt.{signed_decimal};
-ghost use Rattle.report_text.specs.SetupFaults.{setup_fault_text};
+ghost use Rattle.report_text.specs.SetupFaults.{key_place, setup_fault_text};
 
 use itoa::Buffer;
-use setup_file::SetupFault;
+use setup_file::{KeyName, SetupFault};
 use vf_io::NoMemory;
 use vf_text::Page;
 
@@ -14,17 +14,23 @@ pub(crate) fn write_setup_fault(page: &mut Page, fault: SetupFault) -> Result<()
     match fault {
         SetupFault::SetupSyntax => page.text(b"setup: SetupSyntax"),
         SetupFault::SetupKey(key) => {
-            page.text(b"setup ")?;
-            page.text(key.text())?;
+            write_key(page, key)?;
             page.text(b": SetupKey")
         }
         SetupFault::SetupRange(key, value) => {
-            page.text(b"setup ")?;
-            page.text(key.text())?;
+            write_key(page, key)?;
             page.text(b": SetupRange ")?;
             write_value(page, value)
         }
     }
+}
+
+/// Writes the key where a fault stands.
+fn write_key(page: &mut Page, key: KeyName) -> Result<(), NoMemory>
+    ensures { OnOk result (page.new ≡ page.old ++ key_place key) }
+{
+    page.text(b"setup ")?;
+    page.text(key.text())
 }
 
 fn write_value(page: &mut Page, value: i64) -> Result<(), NoMemory>
