@@ -1,5 +1,6 @@
 -- Where the first line of a text ends.
-use Rattle.std.proofs.Common.{◌≡◌, ℕ, ◌+◌, ◌<◌, ◌≤◌, ◌==◌, List, [], ◌∷◌, Bool, true, false, not, length, take, drop, one-add, add-one, arith, refl, ap}
+use Rattle.std.proofs.Common.{◌≡◌, ℕ, suc, ◌+◌, ◌<◌, ◌≤◌, ◌==◌, List, [], ◌∷◌, Bool, true, false, not, length, take, drop, one-add, add-one, arith, refl}
+use Rattle.std.proofs.Math.Seq.{drop-length, take-length}
 use Rattle.std.specs.List.{prefix_len}
 use Rattle.vf_io.specs.Pieces.{lead, line_feed, pieces_of}
 
@@ -27,7 +28,7 @@ cut_behind : (b : ℕ) (bytes : List ℕ) (here : Bool) → (b == line_feed) ≡
 cut_behind b bytes true here behind lt = rw (ahead_of_end-here b bytes here, pieces_of-here b bytes here) refl
 cut_behind b bytes false later behind lt =
     let shorter : ahead_of_end bytes < length bytes = omega (arith, ahead_of_end-later b bytes later, lt) in
-    rw (ahead_of_end-later b bytes later, pieces_of-later b bytes later, one-add, behind shorter, add-one) refl
+    rw (ahead_of_end-later b bytes later, pieces_of-later b bytes later, one-add, behind shorter, add-one (ahead_of_end bytes), add-one (suc (ahead_of_end bytes))) refl
 
 pub pieces_of-cut : (text : List ℕ) → IsCutBehind text
 pieces_of-cut [] lt = absurd (omega (arith, lt))
@@ -47,3 +48,6 @@ one_line b (c ∷ bytes) false other later some none =
 pub pieces_of-one : (text : List ℕ) → IsOneLine text
 pieces_of-one [] some none = absurd (omega (arith, some))
 pieces_of-one (b ∷ bytes) some none = one_line b bytes (b == line_feed) refl (pieces_of-one bytes) some none
+
+pub pieces_of-all : (text : List ℕ) → 0 < length text → length text ≤ ahead_of_end text → pieces_of text ≡ take (length text) text ∷ pieces_of (drop (length text) text)
+pieces_of-all text some none = rw (take-length text, drop-length text) (pieces_of-one text some none)
