@@ -1,5 +1,6 @@
-ghost use Rattle.std.specs.Prelude.{◌≤◌};
+ghost use Rattle.std.specs.Prelude.{◌≤◌, IfOk};
 ghost use Rattle.edit_plan.specs.Limits.{most_script_moves};
+ghost use Rattle.setup_file.specs.Sound.{IsSetup};
 
 use crate::ending::Ending;
 use edit_plan::{MAX_SCRIPT_BYTES, Script, ScriptEnd, read_script};
@@ -18,7 +19,9 @@ pub(crate) fn setup_in<R: Files>(
     alloc: Global,
     file: &str,
     shelf: &mut FolderShelf<'_, R>,
-) -> Result<Setup, Ending> {
+) -> Result<Setup, Ending>
+    ensures { IfOk result IsSetup }
+{
     let bytes = match read_all(alloc, shelf, file, MAX_SETUP_BYTES) {
         Ok(bytes) => bytes,
         Err(end) => return Err(Ending::of_read(end, Input::Setup)),

@@ -1,3 +1,5 @@
+ghost use Rattle.setup_file.specs.Sound.{IsSetup};
+
 use itoa::Buffer;
 use ray_shapes::{Body, Plane};
 use setup_file::{Setup, shifted};
@@ -7,7 +9,9 @@ use vf_text::Page;
 
 /// A line for each fact of a setup: the grid, the check, the tool, and each plane of each body, the part lowered by the
 /// tolerance and the fixtures raised by the clearance.
-pub(crate) fn setup_text(alloc: Global, setup: &Setup) -> Result<Vec<u8>, NoMemory> {
+pub(crate) fn setup_text(alloc: Global, setup: &Setup) -> Result<Vec<u8>, NoMemory>
+    requires { IsSetup setup.now }
+{
     let mut page = Page::new(alloc);
     page.text(b"inputs_bench setup 1\n")?;
     write_grid(&mut page, setup)?;
