@@ -1,2 +1,4 @@
+pub mod Answers
 pub mod Counts
+pub mod Facts
 pub mod Totals

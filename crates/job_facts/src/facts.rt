@@ -1,6 +1,7 @@
 use crate::counts::Counts;
 use crate::totals::{Answer, Totals};
 use edit_plan::Ask;
+use std::marker::Model;
 
 /// What was found of a move that is left: its number from 1, the line of its record, whether it is rapid, and its counts.
 #[derive(Clone, Copy, Debug, PartialEq, Eq)]
@@ -11,7 +12,7 @@ pub struct Found {
     pub counts: Counts,
 }
 
-/// What is reported of a job.
+/// What is reported of a job. Contracts see it as one value, its lists by their items.
 #[derive(Drop)]
 pub struct Facts {
     /// How many moves the program has, and how many records were passed over.
@@ -23,4 +24,39 @@ pub struct Facts {
     pub answers: Vec<(Ask, Answer)>,
     /// The totals at the last version.
     pub totals: Totals,
+}
+
+impl Model for Facts {
+    ghost use Rattle.job_facts.specs.Facts.{JobFacts};
+
+    ghost Value = { JobFacts };
+
+    ghost view = { λ f. record {
+      moves = f.moves;
+      passed = f.passed;
+      left = f.left.items;
+      answers = f.answers.items;
+      totals = f.totals;
+    } };
+}
+
+impl Facts {
+    ghost use Rattle.std.specs.Prelude.{◌≡◌};
+    ghost use Rattle.job_facts.specs.Facts.{are_answered, is_clean};
+
+    /// Whether each move that is left is safe.
+    pub fn is_clean(&self) -> bool
+        ensures { result ≡ is_clean self.now.left }
+    {
+        self.left.iter().all(|found| found.counts.is_safe())
+    }
+
+    /// Whether each answer is of its question's kind.
+    pub fn is_answered(&self) -> bool
+        ensures { result ≡ are_answered self.now.answers }
+    {
+        self.answers
+            .iter()
+            .all(|answered| answered.1.is_to(&answered.0))
+    }
 }

@@ -1,4 +1,6 @@
 use super::*;
+use edit_plan::Ask;
+use ray_grid::{Family, Ray};
 use std::test::*;
 
 /// Counts of which one may be set.
@@ -27,5 +29,26 @@ fn safe_moves(rt: HostRuntime) {
             *safe,
             "one point at the count {place}"
         );
+    }
+}
+
+#[test]
+fn answers_of_the_questions_kind(rt: HostRuntime) {
+    let ray = Ray {
+        family: Family::X,
+        i: 0,
+        j: 1,
+    };
+    let probe = Ask::Probe { ray, l: 2 };
+    let state = Answer::Probe(PointState::Kept);
+    let totals = Answer::Count(Totals::none());
+    let rows = [
+        (probe, state, true),
+        (probe, totals, false),
+        (Ask::Count, state, false),
+        (Ask::Count, totals, true),
+    ];
+    for (ask, answer, due) in rows {
+        assert_eq!(rt; answer.is_to(&ask), due, "{answer:?} to {ask:?}");
     }
 }

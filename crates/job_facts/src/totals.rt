@@ -1,6 +1,9 @@
 ghost use Rattle.std.specs.Prelude.{◌≡◌};
+ghost use Rattle.job_facts.specs.Answers.{is_answer_to};
 ghost use Rattle.job_facts.specs.Counts.{most_count};
 ghost use Rattle.job_facts.specs.Totals.{TotalsWithin, no_totals, plus_totals};
+
+use edit_plan::Ask;
 
 /// What is known of a point at a version.
 #[derive(Clone, Copy, Debug, PartialEq, Eq)]
@@ -54,6 +57,20 @@ impl Totals {
 /// The answer to a query.
 #[derive(Clone, Copy, Debug, PartialEq, Eq)]
 pub enum Answer {
+    /// The state of the point that is probed.
     Probe(PointState),
+    /// The totals.
     Count(Totals),
+}
+
+impl Answer {
+    /// Whether it is of the question's kind: a point's state to a probe, totals to a count.
+    pub fn is_to(&self, ask: &Ask) -> bool
+        ensures { result ≡ is_answer_to ask.now self.now }
+    {
+        match ask {
+            Ask::Probe { .. } => matches!(self, Answer::Probe(_)),
+            Ask::Count => matches!(self, Answer::Count(_)),
+        }
+    }
 }

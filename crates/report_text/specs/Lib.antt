@@ -1,3 +1,9 @@
+pub mod Answers
 pub mod Listing
 pub mod Marking
 pub mod Refusals
+pub mod Report
+pub mod ScriptFaults
+pub mod Selftest
+pub mod SetupFaults
+pub mod Verdict

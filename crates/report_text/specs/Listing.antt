@@ -26,13 +26,13 @@ cutter_text (Some cutter) =
     signed_decimal cutter.d ++ codes " " ++ signed_decimal cutter.r ++ codes " " ++ height_text cutter.h ++ flank_text cutter.flank
 
 -- the number of a move, its line and its kind
-abbrev pub move_head : ℕ → Move → List ℕ
-move_head number move = codes "move " ++ decimal number ++ codes " line " ++ decimal move.line ++ kind_text move.rapid
+abbrev pub move_head : ℕ → ℕ → Bool → List ℕ
+move_head number at rapid = codes "move " ++ decimal number ++ codes " line " ++ decimal at ++ kind_text rapid
 
 -- a move with its number
 abbrev pub move_line : ℕ → Move → List ℕ
 move_line number move =
-    line (move_head number move ++ codes " from" ++ numbers move.from ++ codes " to" ++ numbers move.to
+    line (move_head number move.line move.rapid ++ codes " from" ++ numbers move.from ++ codes " to" ++ numbers move.to
     ++ codes " axis" ++ numbers move.axis_from ++ codes " to" ++ numbers move.axis_to
     ++ codes " cutter " ++ cutter_text move.cutter)
 

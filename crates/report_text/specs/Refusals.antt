@@ -6,9 +6,11 @@ use Rattle.cl_lines.specs.declared.fault.ClWhy.TheVariants.{LineLong, DanglingDo
 use Rattle.cl_lines.specs.declared.fault.ClWhy.TheVariants.{NumberSyntax, NumberRange, CutterShape, AxisZero, NoPosition, AxisFlip, TooManyMoves}
 use Rattle.cl_lines.specs.Words.{word_name}
 use Rattle.report_text.specs.declared.fault.Fault.{Fault}
-use Rattle.report_text.specs.declared.fault.Fault.TheVariants.{TooLong, Cl, CutterHeight}
+use Rattle.report_text.specs.declared.fault.Fault.TheVariants.{TooLong, Cl, Setup, CutterHeight, Script}
 use Rattle.report_text.specs.declared.fault.Input.{Input}
 use Rattle.report_text.specs.declared.fault.Input.TheVariants as inputs
+use Rattle.report_text.specs.ScriptFaults.{script_fault_text}
+use Rattle.report_text.specs.SetupFaults.{setup_fault_text}
 
 abbrev pub input_name : Input → List ℕ
 input_name inputs.Cl = codes "cl"
@@ -39,6 +41,8 @@ abbrev pub fault_text : Fault → List ℕ
 fault_text (TooLong input) = input_name input ++ codes ": TooLong"
 fault_text (CutterHeight at) = codes "cl line " ++ decimal at ++ codes ": CutterHeight"
 fault_text (Cl fault) = codes "cl line " ++ decimal fault.line ++ codes ": " ++ why_name fault.why ++ refused_word fault.why
+fault_text (Setup fault) = setup_fault_text fault
+fault_text (Script fault) = script_fault_text fault
 
 -- the one line of a refusal
 abbrev pub refusal_of : Fault → List ℕ

@@ -1,7 +1,11 @@
 ghost use Rattle.std.specs.Prelude.{◌≡◌, ◌++◌, IfOk, OnOk};
 ghost use Rattle.report_text.specs.Refusals.{refusal_of, fault_text, input_name, refused_word, why_name};
 
+use crate::script_fault::write_script_fault;
+use crate::setup_fault::write_setup_fault;
 use cl_lines::{ClFault, ClWhy};
+use edit_plan::ScriptFault;
+use setup_file::SetupFault;
 use std::alloc::Global;
 use vf_io::NoMemory;
 use vf_text::Page;
@@ -24,8 +28,12 @@ pub enum Fault {
     TooLong(Input),
     /// The cutter location text has a fault.
     Cl(ClFault),
+    /// The setup has a fault.
+    Setup(SetupFault),
     /// The cutter of the move on this line is less high than its corner radius.
     CutterHeight(u32),
+    /// The script has a fault.
+    Script(ScriptFault),
 }
 
 /// The one line of a refusal.
@@ -59,6 +67,8 @@ fn write_fault(page: &mut Page, fault: &Fault) -> Result<(), NoMemory>
             page.text(name_of_why(fault.why))?;
             write_refused_word(page, fault.why)
         }
+        Fault::Setup(fault) => write_setup_fault(page, *fault),
+        Fault::Script(fault) => write_script_fault(page, fault),
     }
 }
 

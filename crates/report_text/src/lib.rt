@@ -1,13 +1,23 @@
-//! The texts of answers: the listing of moves, the marks of a point, and the one line of a refusal.
+//! The texts of answers: the listing of moves, the marks of a point, the report of a check, and the one line of a refusal.
 #![tactic(auto)]
 
+mod answers;
 mod fault;
 mod listing;
 mod marking;
+mod report;
+mod script_fault;
+mod selftest;
+mod setup_fault;
+mod verdict;
 
 pub use fault::{Fault, Input, refusal_text};
 pub use listing::list_text;
 pub use marking::point_text;
+pub use report::report_text;
+pub use selftest::selftest_text;
 
+#[cfg(test)]
+mod report_tests;
 #[cfg(test)]
 mod tests;

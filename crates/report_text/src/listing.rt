@@ -37,7 +37,7 @@ fn write_moves(page: &mut Page, moves: &[Move]) -> Result<(), NoMemory>
 fn write_move(page: &mut Page, number: usize, next: &Move) -> Result<(), NoMemory>
     ensures { OnOk result (page.new ≡ page.old ++ move_line number next.now) }
 {
-    write_head(page, number, next)?;
+    write_head(page, number, next.line, next.rapid)?;
     page.text(b" from")?;
     page.point(&next.from)?;
     page.text(b" to")?;
@@ -51,14 +51,20 @@ fn write_move(page: &mut Page, number: usize, next: &Move) -> Result<(), NoMemor
     page.end_line()
 }
 
-fn write_head(page: &mut Page, number: usize, next: &Move) -> Result<(), NoMemory>
-    ensures { OnOk result (page.new ≡ page.old ++ move_head number next.now) }
+/// Writes the number of a move, its line and its kind.
+pub(crate) fn write_head(
+    page: &mut Page,
+    number: usize,
+    line: u32,
+    rapid: bool,
+) -> Result<(), NoMemory>
+    ensures { OnOk result (page.new ≡ page.old ++ move_head number line rapid) }
 {
     page.text(b"move ")?;
     page.count(number)?;
     page.text(b" line ")?;
-    page.count(next.line as usize)?;
-    page.text(if next.rapid { b" rapid" } else { b" cut" })
+    page.count(line as usize)?;
+    page.text(if rapid { b" rapid" } else { b" cut" })
 }
 
 fn write_cutter(page: &mut Page, cutter: &Option<CutterText>) -> Result<(), NoMemory>

@@ -2,6 +2,8 @@ use super::*;
 use axis_cells::Mark;
 use cl_lines::{ClFault, ClWhy, Word};
 use cl_moves::{CutterText, Move, Moves, Program};
+use edit_plan::{ScriptFault, ScriptWhy};
+use setup_file::{KeyName, SetupFault};
 use std::alloc::Global;
 use std::test::Fail;
 
@@ -94,27 +96,79 @@ const REASONS: [(ClWhy, &str); 14] = [
     (ClWhy::TooManyMoves, "TooManyMoves"),
 ];
 
-/// Other refusals, whole.
-const REFUSALS: [(Fault, &str); 4] = [
-    (Fault::TooLong(Input::Cl), "refused: cl: TooLong\n"),
-    (Fault::TooLong(Input::Setup), "refused: setup: TooLong\n"),
-    (Fault::TooLong(Input::Script), "refused: script: TooLong\n"),
+/// Faults of a setup, and what is told of them.
+const SETUP_FAULTS: [(SetupFault, &str); 5] = [
+    (SetupFault::SetupSyntax, "setup: SetupSyntax"),
     (
-        Fault::CutterHeight(4_294_967_295),
-        "refused: cl line 4294967295: CutterHeight\n",
+        SetupFault::SetupKey(KeyName::Setup),
+        "setup setup: SetupKey",
+    ),
+    (
+        SetupFault::SetupKey(KeyName::GridPitch),
+        "setup grid.pitch: SetupKey",
+    ),
+    (
+        SetupFault::SetupRange(KeyName::GridPitch, 0),
+        "setup grid.pitch: SetupRange 0",
+    ),
+    (
+        SetupFault::SetupRange(KeyName::StockBox, -9_223_372_036_854_775_808),
+        "setup stock.box: SetupRange -9223372036854775808",
     ),
 ];
+
+/// Why a line of a script is refused, and what is told of it.
+const SCRIPT_REASONS: [(ScriptWhy, &str); 7] = [
+    (ScriptWhy::ScriptSyntax, "ScriptSyntax"),
+    (ScriptWhy::ScriptRange, "ScriptRange"),
+    (ScriptWhy::UndoDepth { asked: 3, left: 2 }, "UndoDepth 3 2"),
+    (ScriptWhy::TooManyEdits, "TooManyEdits"),
+    (ScriptWhy::TooManyQueries, "TooManyQueries"),
+    (ScriptWhy::RedoDepth { asked: 1, left: 0 }, "RedoDepth 1 0"),
+    (
+        ScriptWhy::RedoDepth {
+            asked: 999_999_999,
+            left: 100_000,
+        },
+        "RedoDepth 999999999 100000",
+    ),
+];
+
+/// Other refusals.
+const REFUSALS: [(Fault, &str); 4] = [
+    (Fault::TooLong(Input::Cl), "cl: TooLong"),
+    (Fault::TooLong(Input::Setup), "setup: TooLong"),
+    (Fault::TooLong(Input::Script), "script: TooLong"),
+    (
+        Fault::CutterHeight(4_294_967_295),
+        "cl line 4294967295: CutterHeight",
+    ),
+];
+
+/// Whether the line of a refusal tells this of it.
+fn tells(alloc: Global, fault: &Fault, told: &str) -> Result<bool, Fail> {
+    let due = format!(in alloc; "refused: {told}\n")?;
+    let text = refusal_text(alloc, fault)?;
+    Ok(text.as_slice() == due.as_bytes())
+}
 
 #[test]
 fn refuses_with_one_line(rt: HostRuntime) -> Result<(), Fail> {
     for (why, told) in REASONS {
-        let text = refusal_text(rt.alloc(), &Fault::Cl(ClFault { line: 12, why }))?;
-        let due = format!(in rt.alloc(); "refused: cl line 12: {told}\n")?;
-        assert_eq!(rt; text.as_slice(), due.as_bytes(), "{told}");
+        let fault = Fault::Cl(ClFault { line: 12, why });
+        let told = format!(in rt.alloc(); "cl line 12: {told}")?;
+        assert!(rt; tells(rt.alloc(), &fault, told.as_str())?, "{told}");
     }
-    for (fault, due) in REFUSALS {
-        let text = refusal_text(rt.alloc(), &fault)?;
-        assert_eq!(rt; text.as_slice(), due.as_bytes(), "{due}");
+    for (fault, told) in SETUP_FAULTS {
+        assert!(rt; tells(rt.alloc(), &Fault::Setup(fault), told)?, "{told}");
+    }
+    for (why, told) in SCRIPT_REASONS {
+        let fault = Fault::Script(ScriptFault { line: 2, why });
+        let told = format!(in rt.alloc(); "script line 2: {told}")?;
+        assert!(rt; tells(rt.alloc(), &fault, told.as_str())?, "{told}");
+    }
+    for (fault, told) in REFUSALS {
+        assert!(rt; tells(rt.alloc(), &fault, told)?, "{told}");
     }
     Ok(())
 }

@@ -1,0 +1,46 @@
+ghost use Rattle.std.specs.Prelude.{◌≡◌, ◌++◌, OnOk};
+ghost use Rattle.report_text.specs.ScriptFaults.{depths_text, script_fault_text, script_why_text};
+
+use edit_plan::{ScriptFault, ScriptWhy};
+use vf_io::NoMemory;
+use vf_text::Page;
+
+/// Writes the line where a script's fault stands, and what is wrong there.
+pub(crate) fn write_script_fault(page: &mut Page, fault: &ScriptFault) -> Result<(), NoMemory>
+    ensures { OnOk result (page.new ≡ page.old ++ script_fault_text fault.now) }
+{
+    page.text(b"script line ")?;
+    page.count(fault.line as usize)?;
+    page.text(b": ")?;
+    write_why(page, fault.why)
+}
+
+/// Writes the fault's name, and what goes with it.
+fn write_why(page: &mut Page, why: ScriptWhy) -> Result<(), NoMemory>
+    ensures { OnOk result (page.new ≡ page.old ++ script_why_text why) }
+{
+    match why {
+        ScriptWhy::ScriptSyntax => page.text(b"ScriptSyntax"),
+        ScriptWhy::ScriptRange => page.text(b"ScriptRange"),
+        ScriptWhy::UndoDepth { asked, left } => {
+            page.text(b"UndoDepth")?;
+            write_depths(page, asked, left)
+        }
+        ScriptWhy::TooManyEdits => page.text(b"TooManyEdits"),
+        ScriptWhy::TooManyQueries => page.text(b"TooManyQueries"),
+        ScriptWhy::RedoDepth { asked, left } => {
+            page.text(b"RedoDepth")?;
+            write_depths(page, asked, left)
+        }
+    }
+}
+
+/// Writes how many moves were asked for, and how many there are.
+fn write_depths(page: &mut Page, asked: u32, left: u32) -> Result<(), NoMemory>
+    ensures { OnOk result (page.new ≡ page.old ++ depths_text asked left) }
+{
+    page.space()?;
+    page.count(asked as usize)?;
+    page.space()?;
+    page.count(left as usize)
+}
