@@ -68,6 +68,22 @@ done script = Ok script
 pub has_room : (count : ℕ) (edits : List Edit) (script : Script) → script.edits ≡ edits → are_too_many count script ≡ false → length edits + count ≤ most_edits
 has_room count edits script same room = omega (arith, ltb-false most_edits (length script.edits + count) room, ap length same)
 
+-- more edits behind those that a script has, where they are not too many
+pub record Grows (edits pushed more : List Edit) (times : ℕ) (script : Script) : Type 0 where
+  pub same : script.edits ≡ edits
+  pub room : are_too_many times script ≡ false
+  pub made : pushed ≡ edits ++ more
+
+pub undone_counts : (left dropped times : ℕ) (edits pushed : List Edit) (script : Script) → Grows edits pushed (replicate times Undo) times script
+    → times ≤ left → IsCounted left dropped edits → IsCounted (left - times) (dropped + times) pushed
+undone_counts left dropped times edits pushed script grows few counted =
+    rw grows.made (counted_undone left dropped times edits few (has_room times edits script grows.same grows.room) counted)
+
+pub redone_counts : (left dropped times : ℕ) (edits pushed : List Edit) (script : Script) → Grows edits pushed (replicate times Redo) times script
+    → times ≤ dropped → IsCounted left dropped edits → IsCounted (left + times) (dropped - times) pushed
+redone_counts left dropped times edits pushed script grows few counted =
+    rw grows.made (counted_redone left dropped times edits few (has_room times edits script grows.same grows.room) counted)
+
 -- a run of moves that are there is judged by the room for them
 run_of_moves : (moves first last : ℕ) (script : Script) → 1 ≤ first → first ≤ last → last ≤ moves
     → with_run moves first last script ≡ with_edits (applied_moves (first - 1) (last + 1 - first)) script

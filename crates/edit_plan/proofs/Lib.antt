@@ -3,3 +3,4 @@ pub mod ListLemmas
 pub mod CountLemmas
 pub mod SoundLemmas
 pub mod VersionLemmas
+pub mod LineLemmas

@@ -1,4 +1,6 @@
-ghost use Rattle.std.specs.Prelude.{◌≡◌, ◌∷◌, ◌≤◌, [], length, MatchOption};
+ghost use Rattle.std.specs.Prelude.{◌≡◌, ◌∷◌, ◌++◌, ◌<◌, ◌≤◌, ◌==◌, [], length, not, MatchOption};
+ghost use Rattle.std.specs.List.{prefix_len};
+ghost use Rattle.vf_io.specs.Pieces.{line_feed, pieces_of};
 ghost use Rattle.edit_plan.specs.Limits.{most_script_bytes};
 ghost use Rattle.edit_plan.specs.Script.{behind_edition, edition_of};
 ghost use Rattle.edit_plan.specs.Statements.{is_edition_line};
@@ -7,7 +9,6 @@ ghost use Rattle.edit_plan.specs.Words.{words_of, worded_lines};
 use crate::statement::Edition;
 use crate::words::{cut_comment, is_same, split_word};
 use std::marker::Model;
-use vf_io::split_line;
 use vf_text::{has_only_blanks, trim_line_end};
 
 /// A line with its number, without its line end and its comment.
@@ -55,7 +56,7 @@ impl<'a> Lines<'a> {
             (λ line. self.old ≡ record { number = line.number; words = words_of line.text.now } ∷ self.new) }
     {
         while !self.rest.is_empty() {
-            let (piece, behind) = split_line(self.rest);
+            let (piece, behind) = split_short_line(self.rest);
             let text = cut_comment(trim_line_end(piece));
             let number = self.number;
             self.rest = behind;
@@ -85,6 +86,34 @@ impl<'a> Lines<'a> {
             _ => Edition::First,
         }
     }
+}
+
+/// The first line of a text, with its line end, and the text behind it. The lines of a script are short, so it looks at one byte
+/// after the other.
+fn split_short_line(text: &[u8]) -> (&[u8], &[u8])
+    requires { 0 < length text.now }
+    ensures first { pieces_of text.now ≡ result.0.now ∷ pieces_of result.1.now }
+    ensures whole { text.now ≡ result.0.now ++ result.1.now }
+    ensures some { 0 < length result.0.now }
+{
+    let ahead = line_len(text);
+    if ahead == text.len() {
+        return text.split_at(ahead);
+    }
+    text.split_at(ahead + 1)
+}
+
+/// How many bytes stand ahead of the first line's end.
+fn line_len(text: &[u8]) -> usize
+    ensures count { result ≡ prefix_len (λ b. not (b == line_feed)) text.now }
+    ensures within { result ≤ length text.now }
+{
+    for (i, b) in text.iter().enumerate() {
+        if *b == b'\n' {
+            return i;
+        }
+    }
+    text.len()
 }
 
 /// Whether a line is the one that tells the second edition.

@@ -1,1 +1,10 @@
 pub mod Keys
+pub mod Limits
+pub mod Reads
+pub mod Grids
+pub mod Tables
+pub mod Bodies
+pub mod Unknown
+pub mod Setups
+pub mod Sound
+pub mod Shift

@@ -1,5 +1,5 @@
 ghost use Rattle.std.specs.Prelude.{◌≡◌};
-ghost use Rattle.setup_file.specs.Keys.{key_text};
+ghost use Rattle.setup_file.specs.Keys.{key_text, keys_in, name_of};
 
 /// The keys of a setup, in the order in which they are judged; `Setup` is the top level.
 #[derive(Clone, Copy, Debug, PartialEq, Eq)]
@@ -60,6 +60,71 @@ impl KeyName {
             KeyName::Fixture => b"fixture",
             KeyName::FixtureBox => b"fixture.box",
             KeyName::FixturePlanes => b"fixture.planes",
+        }
+    }
+
+    /// The key as its table holds it.
+    pub(crate) fn name(self) -> &'static str
+        ensures { result.now ≡ name_of self }
+    {
+        match self {
+            KeyName::Setup => "setup",
+            KeyName::Grid => "grid",
+            KeyName::GridOrigin => "origin",
+            KeyName::GridPitch => "pitch",
+            KeyName::GridStep => "step",
+            KeyName::GridCounts => "counts",
+            KeyName::Check => "check",
+            KeyName::CheckTolerance => "tolerance",
+            KeyName::CheckClearance => "clearance",
+            KeyName::CheckSlabs => "slabs",
+            KeyName::CheckDepth => "depth",
+            KeyName::Tool => "tool",
+            KeyName::ToolDiameter => "diameter",
+            KeyName::ToolRadius => "radius",
+            KeyName::ToolHeight => "height",
+            KeyName::Stock => "stock",
+            KeyName::Part => "part",
+            KeyName::Fixture => "fixture",
+            KeyName::StockBox | KeyName::PartBox | KeyName::FixtureBox => "box",
+            KeyName::StockPlanes | KeyName::PartPlanes | KeyName::FixturePlanes => "planes",
+        }
+    }
+
+    /// The keys that the table may hold, or each body of the list of bodies.
+    pub(crate) fn keys(self) -> &'static [KeyName]
+        ensures { result.now ≡ keys_in self }
+    {
+        match self {
+            KeyName::Setup => &[
+                KeyName::Grid,
+                KeyName::Check,
+                KeyName::Tool,
+                KeyName::Stock,
+                KeyName::Part,
+                KeyName::Fixture,
+            ],
+            KeyName::Grid => &[
+                KeyName::GridOrigin,
+                KeyName::GridPitch,
+                KeyName::GridStep,
+                KeyName::GridCounts,
+            ],
+            KeyName::Check => &[
+                KeyName::CheckTolerance,
+                KeyName::CheckClearance,
+                KeyName::CheckSlabs,
+                KeyName::CheckDepth,
+            ],
+            KeyName::Tool => &[
+                KeyName::ToolDiameter,
+                KeyName::ToolRadius,
+                KeyName::ToolHeight,
+            ],
+            KeyName::Stock => &[KeyName::StockBox, KeyName::StockPlanes],
+            KeyName::Part => &[KeyName::PartBox, KeyName::PartPlanes],
+            KeyName::Fixture => &[KeyName::FixtureBox, KeyName::FixturePlanes],
+            _ => &[],
         }
     }
 }

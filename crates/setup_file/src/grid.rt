@@ -1,0 +1,121 @@
+ghost use Rattle.std.specs.Prelude.{◌≡◌, ◌≤◌, pos, neg_ℤ, ◌≤ℤ◌, All, IfOk, OnOk, Ok, Err, true, MatchResult};
+ghost use Rattle.space.specs.Ranges.{IsBetween, metre};
+ghost use Rattle.space.specs.Vectors.{at};
+ghost use Rattle.ray_grid.specs.Ranges.{most_nodes, most_per_node};
+ghost use Rattle.toml.specs.View.{table_view};
+ghost use Rattle.setup_file.specs.Grids.{axes, count_along, divides_pitch, is_count, last_point, points_a_node};
+ghost use Rattle.setup_file.specs.Reads.{each};
+ghost use Rattle.setup_file.specs.Tables.{grid_of, grid_with};
+
+use crate::fault::SetupFault;
+use crate::key::KeyName;
+use crate::read::{METRE, all_ranged, number_at, numbers_at, only_if};
+use ray_grid::Grid;
+use toml::Table;
+
+/// The most nodes along an axis, and the most points of a ray for each node.
+const MOST_NODES: i64 = 400;
+
+const MOST_PER_NODE: u64 = 1000;
+
+/// The grid of its table.
+pub(crate) fn read_grid(table: &Table) -> Result<Grid, SetupFault>
+    ensures { result ≡ grid_of (table_view table.now) }
+{
+    let origin = numbers_at::<3>(table, KeyName::GridOrigin)?;
+    all_ranged(&origin, KeyName::GridOrigin, -METRE, METRE)?;
+    let pitch = number_at(table, KeyName::GridPitch, 1, METRE)?;
+    let step = number_at(table, KeyName::GridStep, 1, pitch)?;
+    only_if(divides_pitch(pitch, step), KeyName::GridStep, step)?;
+    let counts = numbers_at::<3>(table, KeyName::GridCounts)?;
+    all_counts(&origin, pitch, step, &counts)?;
+    Ok(grid_with(&origin, pitch, step, &counts))
+}
+
+/// How many points a ray has for each node.
+fn points_a_node(pitch: i64, step: i64) -> u64
+    requires { pos 1 ≤ℤ step }
+    ensures { result ≡ points_a_node pitch step }
+{
+    pitch.unsigned_abs() / step.unsigned_abs()
+}
+
+/// Whether the step divides the pitch, into few enough.
+fn divides_pitch(pitch: i64, step: i64) -> bool
+    requires { pos 1 ≤ℤ step }
+    ensures { result ≡ divides_pitch pitch step }
+{
+    pitch.unsigned_abs() % step.unsigned_abs() == 0 && points_a_node(pitch, step) <= MOST_PER_NODE
+}
+
+/// The last point of a ray along an axis that has so many nodes.
+fn last_point(origin: i64, pitch: i64, step: i64, count: i64) -> i64
+    requires origin { IsBetween (neg_ℤ (pos metre)) (pos metre) origin }
+    requires pitch { IsBetween (pos 1) (pos metre) pitch }
+    requires step { IsBetween (pos 1) pitch step }
+    requires fine { points_a_node pitch step ≤ most_per_node }
+    requires count { IsBetween (pos 1) (pos most_nodes) count }
+    ensures { result ≡ last_point origin pitch step count }
+{
+    let points = count.unsigned_abs() * points_a_node(pitch, step);
+    origin + ((points - 1) * step.unsigned_abs()) as i64
+}
+
+/// Whether an axis may have so many nodes.
+fn is_count(origin: i64, pitch: i64, step: i64, count: i64) -> bool
+    requires origin { IsBetween (neg_ℤ (pos metre)) (pos metre) origin }
+    requires pitch { IsBetween (pos 1) (pos metre) pitch }
+    requires step { IsBetween (pos 1) pitch step }
+    requires fine { points_a_node pitch step ≤ most_per_node }
+    ensures { result ≡ is_count origin pitch step count }
+{
+    1 <= count && count <= MOST_NODES && last_point(origin, pitch, step, count) <= METRE
+}
+
+/// The first number of nodes that its axis may not have is told, where there is one.
+fn all_counts(origin: &[i64; 3], pitch: i64, step: i64, counts: &[i64; 3]) -> Result<(), SetupFault>
+    requires origin { All (IsBetween (neg_ℤ (pos metre)) (pos metre)) origin.now }
+    requires pitch { IsBetween (pos 1) (pos metre) pitch }
+    requires step { IsBetween (pos 1) pitch step }
+    requires divides { divides_pitch pitch step ≡ true }
+    ensures { MatchResult result (λ _. CountsFit origin.now pitch step counts.now)
+        (λ fault. each (count_along origin.now pitch step counts.now) axes ≡ Err fault) }
+{
+    let [x, y, z] = *origin;
+    let [along_x, along_y, along_z] = *counts;
+    only_if(
+        is_count(x, pitch, step, along_x),
+        KeyName::GridCounts,
+        along_x,
+    )?;
+    only_if(
+        is_count(y, pitch, step, along_y),
+        KeyName::GridCounts,
+        along_y,
+    )?;
+    only_if(
+        is_count(z, pitch, step, along_z),
+        KeyName::GridCounts,
+        along_z,
+    )?;
+    Ok(())
+}
+
+/// The grid of numbers that make one.
+fn grid_with(origin: &[i64; 3], pitch: i64, step: i64, counts: &[i64; 3]) -> Grid
+    requires origin { All (IsBetween (neg_ℤ (pos metre)) (pos metre)) origin.now }
+    requires pitch { IsBetween (pos 1) (pos metre) pitch }
+    requires step { IsBetween (pos 1) pitch step }
+    requires divides { divides_pitch pitch step ≡ true }
+    requires counts { CountsFit origin.now pitch step counts.now }
+    ensures { grid_with origin.now pitch step counts.now ≡ Ok result }
+{
+    let [x, y, z] = *origin;
+    let [along_x, along_y, along_z] = *counts;
+    Grid {
+        origin: [x as i32, y as i32, z as i32],
+        pitch: pitch as i32,
+        step: step as i32,
+        counts: [along_x as u32, along_y as u32, along_z as u32],
+    }
+}

@@ -1,0 +1,35 @@
+ghost use Rattle.std.specs.Prelude.{◌≡◌, IfOk};
+ghost use Rattle.toml.specs.View.{table_view};
+ghost use Rattle.setup_file.specs.Sound.{IsTool};
+ghost use Rattle.setup_file.specs.Tables.{tool_of};
+
+use crate::fault::SetupFault;
+use crate::key::KeyName;
+use crate::read::{number_at, only_if};
+use cutter_slabs::Cutter;
+use toml::Table;
+
+/// The tool's greatest sizes, in micrometres.
+const MOST_DIAMETER: i64 = 200_000;
+
+const MOST_RADIUS: i64 = 100_000;
+
+const MOST_HEIGHT: i64 = 300_000;
+
+/// The tool of its table, with an upright flank.
+pub(crate) fn read_tool(table: &Table) -> Result<Cutter, SetupFault>
+    ensures tool { result ≡ tool_of (table_view table.now) }
+    ensures valid { IfOk result IsTool }
+{
+    let diameter = number_at(table, KeyName::ToolDiameter, 1, MOST_DIAMETER)?;
+    let radius = number_at(table, KeyName::ToolRadius, 0, MOST_RADIUS)?;
+    only_if(2 * radius <= diameter, KeyName::ToolRadius, radius)?;
+    let height = number_at(table, KeyName::ToolHeight, 1, MOST_HEIGHT)?;
+    only_if(radius <= height, KeyName::ToolHeight, height)?;
+    Ok(Cutter {
+        d: diameter as i32,
+        r: radius as i32,
+        h: height as i32,
+        flank: 0,
+    })
+}
