@@ -8,3 +8,6 @@ pub mod Places
 pub mod Exclusion
 pub mod Reach
 pub mod Sizes
+pub mod Halves
+pub mod HalfSigns
+pub mod Finer

@@ -2,5 +2,6 @@ pub mod Forms
 pub mod Roots
 pub mod Slab
 pub mod Cells
+pub mod Between
 pub mod Marks
 pub mod Sizes

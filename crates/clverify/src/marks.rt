@@ -8,7 +8,7 @@ use crate::commands::Question;
 use crate::cutters::{Usual, cutter_of, sweep_of};
 use axis_cells::Mark;
 use cl_moves::Move;
-use cutter_marks::mark_of;
+use box_bisect::mark_point_uncounted;
 use cutter_slabs::{Cutter, Stacks};
 use std::alloc::Global;
 use std::marker::Model;
@@ -72,7 +72,7 @@ impl Marker {
             return Ok(None);
         };
         let stacks = self.take_stacks(alloc, cutter)?;
-        let mark = mark_of(
+        let mark = mark_point_uncounted(
             &sweep_of(next),
             &stacks,
             self.question.point,

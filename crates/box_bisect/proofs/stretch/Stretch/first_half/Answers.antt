@@ -1,0 +1,9 @@
+use Rattle.box_bisect.proofs.stretch.Stretch.first_half.Goals as goal
+
+pub invariant_of-result : goal.invariant_of-result
+invariant_of-result c =
+    let s = c.args.self.now in record {
+      u_small = c.first_half.ensures.small _ s.u_small;
+      n_small = c.first_half-2.ensures.small _ s.n_small;
+      d_small = c.first_half-3.ensures.small _ s.d_small;
+    }

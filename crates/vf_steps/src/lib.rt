@@ -1,0 +1,6 @@
+//! A counter of steps that takes no bytes.
+#![tactic(auto)]
+
+mod steps;
+
+pub use steps::Steps;
