@@ -17,7 +17,7 @@ use std::process::ExitCode;
 use vf_io::{FolderShelf, NoMemory, StdSink, put_lines};
 
 const USAGE: &[u8] =
-    b"usage: inputs_bench setup SETUP [--count] | script SETUP MOVES SCRIPT [--count]\n";
+    b"usage: inputs_bench setup SETUP [--count] | script SETUP MOVES [SCRIPT [--count]]\n";
 
 fn main(rt: HostRuntime) -> ExitCode {
     let alloc = rt.alloc();

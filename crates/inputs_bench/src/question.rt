@@ -5,6 +5,7 @@ use crate::ending::Ending;
 use crate::files::{script_in, setup_in};
 use crate::script_page::{script_counts, script_text};
 use crate::setup_page::{setup_counts, setup_text};
+use edit_plan::whole_script;
 use std::alloc::Global;
 use std::rt::Files;
 use vf_io::FolderShelf;
@@ -27,6 +28,7 @@ pub(crate) fn answer<R: Files>(
         [what, setup, count] if is_word(what, "setup") && is_word(count, "--count") => {
             setup_answer(alloc, setup, true, shelf)
         }
+        [what, setup, moves] if is_word(what, "script") => whole_answer(alloc, setup, moves, shelf),
         [what, setup, moves, script] if is_word(what, "script") => {
             script_answer(alloc, setup, moves, script, false, shelf)
         }
@@ -74,6 +76,21 @@ fn script_answer<R: Files>(
     if counts {
         return Ok(script_counts(alloc, &script)?);
     }
+    Ok(script_text(alloc, &script)?)
+}
+
+/// What is written where there is no script: each move once. The setup is read ahead of it.
+fn whole_answer<R: Files>(
+    alloc: Global,
+    setup: &str,
+    moves: &str,
+    shelf: &mut FolderShelf<'_, R>,
+) -> Result<Vec<u8>, Ending> {
+    let Some(moves) = moves_in(moves) else {
+        return Err(Ending::Usage);
+    };
+    setup_in(alloc, setup, shelf)?;
+    let script = whole_script(alloc, moves)?;
     Ok(script_text(alloc, &script)?)
 }
 
