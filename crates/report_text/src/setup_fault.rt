@@ -1,4 +1,5 @@
 ghost use Rattle.std.specs.Prelude.{◌≡◌, ◌++◌, OnOk};
+ghost use Rattle.std.specs.Fmt.{signed_decimal};
 ghost use Rattle.report_text.specs.SetupFaults.{key_place, range_text, setup_fault_text};
 
 use itoa::Buffer;
@@ -26,6 +27,12 @@ fn write_range(page: &mut Page, key: KeyName, value: i64) -> Result<(), NoMemory
 {
     write_key(page, key)?;
     page.text(b": SetupRange ")?;
+    write_value(page, value)
+}
+
+fn write_value(page: &mut Page, value: i64) -> Result<(), NoMemory>
+    ensures { OnOk result (page.new ≡ page.old ++ signed_decimal value) }
+{
     page.text(Buffer::new().format(value).as_bytes())
 }
 
