@@ -4,6 +4,9 @@ use Rattle.std.proofs.lemmas.List.Concat.{flat_map-append}
 use Rattle.vf_text.specs.Pages.{line}
 use Rattle.report_text.specs.Verdict.{text_of_lines}
 
+pub three_texts : (page a b c : List ℕ) → ((page ++ a) ++ b) ++ c ≡ page ++ ((a ++ b) ++ c)
+three_texts page a b c = simp append_assoc
+
 pub four_texts : (page a b c d : List ℕ) → (((page ++ a) ++ b) ++ c) ++ d ≡ page ++ (((a ++ b) ++ c) ++ d)
 four_texts page a b c d = simp append_assoc
 
