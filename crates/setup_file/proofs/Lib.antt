@@ -1,2 +1,3 @@
 pub mod Listed
-pub mod GridShown
+pub mod Points
+pub mod Unknowns

@@ -17,6 +17,7 @@ const MOST_RADIUS: i64 = 100_000;
 const MOST_HEIGHT: i64 = 300_000;
 
 /// The tool of its table, with an upright flank.
+#[tactic(auto, unfolding(crate::specs::Tables::tool_of))]
 pub(crate) fn read_tool(table: &Table) -> Result<Cutter, SetupFault>
     ensures tool { result ≡ tool_of (table_view table.now) }
     ensures valid { IfOk result IsTool }
