@@ -1,12 +1,14 @@
 -- Lists that are read item by item.
-use Rattle.std.proofs.Common.{◌≡◌, ℕ, ◌+◌, ◌<◌, ◌≤◌, List, [], ◌∷◌, ◌++◌, length, get_or, take, drop, map, Option, Some, None, Result, Ok, Err, refl, sym, ap, ◌∙◌, arith, append_assoc}
-use Rattle.std.proofs.lemmas.List.{drop_more, drop-map, at_drop_all, append-nil}
-use Rattle.toml.specs.Data.{Data}
+use Rattle.std.proofs.Common.{◌≡◌, ℕ, ◌+◌, ◌<◌, ◌≤◌, List, [], ◌∷◌, ◌++◌, length, get_or, take, drop, map, Option, Some, None, is_some, true, false, Result, Ok, Err, refl, sym, ap, ◌∙◌, arith, append_assoc}
+use Rattle.std.proofs.lemmas.List.{drop_more, drop-map, at_drop_all, append-nil, length-map}
+use Rattle.std.proofs.lemmas.Bool.{false≢true}
+use Rattle.std.proofs.lemmas.Bool.Decides.{nat_tests}
+use Rattle.toml.specs.Data.{Data, as_array, as_integer, as_table}
 use Rattle.toml.specs.View.{items_view, view}
 use Rattle.toml.specs.declared.value.Value.{Value}
 use Rattle.setup_file.specs.declared.fault.SetupFault.{SetupFault}
 use Rattle.std.specs.Option.{option_and_then, option_map}
-use Rattle.setup_file.specs.Reads.{◌>>=◌, all_of, each, values_listed}
+use Rattle.setup_file.specs.Reads.{◌>>=◌, all_of, each, numbers_among, numbers_in, values_listed}
 
 -- the values of a list of the code's are those that it shows
 pub values_listed-view : (vs : List Value) → values_listed (items_view vs) ≡ map view vs
@@ -82,3 +84,34 @@ pub all_of-done : {A B : Type 0} (kind : A → Option B) (due : Option (List B))
     → due ≡ found ys (all_of kind (drop i all)) → length all ≤ i → due ≡ Some ys
 all_of-done kind due all i ys so_far over =
     so_far ∙ ap (found ys) (at_drop_all (all_of kind) all i over) ∙ ap Some (append-nil ys)
+
+some_one : {B : Type 0} (o : Option B) (r : Option (List B)) → is_some o ≡ true → is_some (option_and_then (λ y. option_map (λ ys. y ∷ ys) r) o) ≡ is_some r
+some_one (Some y) (Some ys) h = refl
+some_one (Some y) None h = refl
+some_one None r h = absurd (false≢true h)
+
+some_none : {B : Type 0} (o : Option B) (r : Option (List B)) → is_some o ≡ false → is_some (option_and_then (λ y. option_map (λ ys. y ∷ ys) r) o) ≡ false
+some_none (Some y) r h = absurd (false≢true (sym h))
+some_none None r h = refl
+
+-- whether all values from an index on are tables, by the first of them
+pub tables-more : (vs : List Value) (i : ℕ) (v : Value) → i < length vs → v ≡ get_or vs i v → is_some (as_table (view v)) ≡ true
+    → is_some (all_of as_table (drop i (map view vs))) ≡ is_some (all_of as_table (drop (i + 1) (map view vs)))
+tables-more vs i v lt is tabled =
+    ap (λ xs. is_some (all_of as_table xs)) (view_drop vs i v lt is) ∙ some_one (as_table (view v)) (all_of as_table (drop (i + 1) (map view vs))) tabled
+
+pub tables-stop : (vs : List Value) (i : ℕ) (v : Value) → i < length vs → v ≡ get_or vs i v → is_some (as_table (view v)) ≡ false
+    → is_some (all_of as_table (drop i (map view vs))) ≡ false
+tables-stop vs i v lt is other =
+    ap (λ xs. is_some (all_of as_table xs)) (view_drop vs i v lt is) ∙ some_none (as_table (view v)) (all_of as_table (drop (i + 1) (map view vs))) other
+
+-- the whole numbers of a list that the code has as values
+pub numbers_in-list : (n : ℕ) (value : Data) (vs : List Value) → Some (items_view vs) ≡ as_array value → numbers_in n value ≡ numbers_among n (map view vs)
+numbers_in-list n value vs is =
+    ap (λ o. option_and_then (numbers_among n) (option_map values_listed o)) (sym is) ∙ ap (numbers_among n) (values_listed-view vs)
+
+pub numbers_among-other : (n : ℕ) (vs : List Value) → (length vs ≡ n → ⊥) → numbers_among n (map view vs) ≡ None
+numbers_among-other n vs other = let same = length-map vs view in grind (arith, nat_tests)
+
+pub numbers_among-same : (n : ℕ) (vs : List Value) → length vs ≡ n → numbers_among n (map view vs) ≡ all_of as_integer (map view vs)
+numbers_among-same n vs is = let same = length-map vs view in grind (arith, nat_tests)
