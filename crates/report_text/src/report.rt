@@ -29,8 +29,9 @@ pub fn report_text(alloc: Global, facts: &Facts) -> Result<Vec<u8>, NoMemory>
 {
     let mut page = Page::with_room(alloc, room_for(facts))?;
     page.text(b"clverify 1\n")?;
-    write_heading(&mut page, facts.moves, facts.left.len(), facts.passed)?;
-    write_left(&mut page, facts.left.as_slice())?;
+    let left = facts.left.as_slice();
+    write_heading(&mut page, facts.moves, left.len(), facts.passed)?;
+    write_left(&mut page, left)?;
     write_answers(&mut page, facts.answers.as_slice())?;
     write_total(&mut page, &facts.totals)?;
     write_verdict(&mut page, facts.is_clean())?;

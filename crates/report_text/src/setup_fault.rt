@@ -1,9 +1,8 @@
 ghost use Rattle.std.specs.Prelude.{◌≡◌, ◌++◌, OnOk};
-ghost use Rattle.std.specs.Fmt.{signed_decimal};
-ghost use Rattle.report_text.specs.SetupFaults.{setup_fault_text};
+ghost use Rattle.report_text.specs.SetupFaults.{key_place, range_text, setup_fault_text};
 
 use itoa::Buffer;
-use setup_file::SetupFault;
+use setup_file::{KeyName, SetupFault};
 use vf_io::NoMemory;
 use vf_text::Page;
 
@@ -14,21 +13,26 @@ pub(crate) fn write_setup_fault(page: &mut Page, fault: SetupFault) -> Result<()
     match fault {
         SetupFault::SetupSyntax => page.text(b"setup: SetupSyntax"),
         SetupFault::SetupKey(key) => {
-            page.text(b"setup ")?;
-            page.text(key.text())?;
+            write_key(page, key)?;
             page.text(b": SetupKey")
         }
-        SetupFault::SetupRange(key, value) => {
-            page.text(b"setup ")?;
-            page.text(key.text())?;
-            page.text(b": SetupRange ")?;
-            write_value(page, value)
-        }
+        SetupFault::SetupRange(key, value) => write_range(page, key, value),
     }
 }
 
-fn write_value(page: &mut Page, value: i64) -> Result<(), NoMemory>
-    ensures { OnOk result (page.new ≡ page.old ++ signed_decimal value) }
+/// Writes the key, and the number that is out of its range.
+fn write_range(page: &mut Page, key: KeyName, value: i64) -> Result<(), NoMemory>
+    ensures { OnOk result (page.new ≡ page.old ++ range_text key value) }
 {
+    write_key(page, key)?;
+    page.text(b": SetupRange ")?;
     page.text(Buffer::new().format(value).as_bytes())
+}
+
+/// Writes the key where a fault stands.
+fn write_key(page: &mut Page, key: KeyName) -> Result<(), NoMemory>
+    ensures { OnOk result (page.new ≡ page.old ++ key_place key) }
+{
+    page.text(b"setup ")?;
+    page.text(key.text())
 }
