@@ -11,9 +11,8 @@ use crate::ending::Ending;
 use crate::question::answer;
 use report_text::refusal_text;
 use std::alloc::Global;
-use std::env;
-use std::io;
 use std::process::ExitCode;
+use std::{env, io};
 use vf_io::{FolderShelf, NoMemory, StdSink, put_lines};
 
 const USAGE: &[u8] =

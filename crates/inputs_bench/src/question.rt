@@ -33,8 +33,7 @@ pub(crate) fn answer<R: Files>(
             script_answer(alloc, setup, moves, script, false, shelf)
         }
         [what, setup, moves, script, count]
-            if is_word(what, "script") && is_word(count, "--count") =>
-        {
+            if is_word(what, "script") && is_word(count, "--count") => {
             script_answer(alloc, setup, moves, script, true, shelf)
         }
         _ => Err(Ending::Usage),

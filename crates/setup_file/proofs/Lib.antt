@@ -1,2 +1,7 @@
 pub mod Listed
-pub mod GridShown
+pub mod Points
+pub mod Unknowns
+pub mod Casts
+pub mod Tools
+pub mod Raised
+pub mod Ends

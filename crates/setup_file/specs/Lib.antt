@@ -2,6 +2,7 @@ pub mod Keys
 pub mod Limits
 pub mod Reads
 pub mod Grids
+pub mod GridShown
 pub mod Tables
 pub mod Bodies
 pub mod Unknown

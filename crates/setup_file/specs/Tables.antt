@@ -4,7 +4,7 @@ use Rattle.toml.specs.Data.{Members}
 use Rattle.space.specs.Ranges.{metre}
 use Rattle.cutter_slabs.specs.Cutter.{CutterSize}
 use Rattle.ray_grid.specs.declared.grid.Grid.{Grid}
-use Rattle.setup_file.proofs.GridShown.{IsGrid-shown}
+use Rattle.setup_file.specs.GridShown.{IsGrid-shown}
 use Rattle.setup_file.specs.declared.check.Check.{Check}
 use Rattle.setup_file.specs.declared.fault.SetupFault.{SetupFault}
 use Rattle.setup_file.specs.declared.fault.SetupFault.TheVariants.{SetupKey}

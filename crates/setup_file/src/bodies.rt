@@ -1,4 +1,4 @@
-ghost use Rattle.std.specs.Prelude.{◌≡◌, IfOk, IfErr, Ok, Err, map, is_some};
+ghost use Rattle.std.specs.Prelude.{◌≡◌, IfOk, IfErr, Ok, false, map, is_some};
 ghost use Rattle.toml.specs.Data.{as_table};
 ghost use Rattle.toml.specs.View.{table_view, view};
 ghost use Rattle.setup_file.specs.Bodies.{bodies_at, bodies_of};
@@ -28,6 +28,7 @@ pub(crate) fn bodies_at(alloc: Global, setup: &Table, list: &BodyList) -> Result
 }
 
 /// The bodies of a list.
+#[tactic(auto, unfolding(crate::specs::Bodies::bodies_of))]
 fn read_bodies(alloc: Global, value: &Value, list: &BodyList) -> Result<Bodies, SetupEnd>
     ensures ok { IfOk result (λ bodies. bodies_of list.now (view value.now) ≡ Ok bodies) }
     ensures refused { IfErr result (EndsSetup (bodies_of list.now (view value.now))) }

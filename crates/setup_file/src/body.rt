@@ -53,6 +53,7 @@ fn read_box(alloc: Global, value: &Value, key: KeyName) -> Result<Body, SetupEnd
 }
 
 /// The ends of a box: the first ends along x, y and z, then the second.
+#[tactic(auto, unfolding(crate::specs::Bodies::box_of))]
 fn box_ends(value: &Value, key: KeyName) -> Result<[i64; 6], SetupFault>
     ensures ends { MatchResult result (λ ends. box_of key (view value.now) ≡ Ok (box_planes ends))
         (λ fault. box_of key (view value.now) ≡ Err fault) }
@@ -94,6 +95,7 @@ fn plane(a: i32, b: i32, c: i32, d: i64) -> Plane
 }
 
 /// The body of a list of planes.
+#[tactic(auto, unfolding(crate::specs::Bodies::planes_of))]
 fn read_planes(alloc: Global, value: &Value, key: KeyName) -> Result<Body, SetupEnd>
     ensures ok { IfOk result (λ body. planes_of key (view value.now) ≡ Ok body) }
     ensures refused { IfErr result (EndsSetup (planes_of key (view value.now))) }

@@ -27,6 +27,7 @@ const MOST_SLABS: i64 = 256;
 const MOST_DEPTH: i64 = 10;
 
 /// The settings of their table.
+#[tactic(auto, unfolding(crate::specs::Tables::check_of))]
 pub(crate) fn read_check(table: &Table) -> Result<Check, SetupFault>
     ensures settings { result ≡ check_of (table_view table.now) }
     ensures ranges { IfOk result IsCheck }

@@ -1,9 +1,8 @@
-ghost use Rattle.std.specs.Prelude.{◌≡◌, ◌≤◌, pos, neg_ℤ, ◌≤ℤ◌, All, IfOk, OnOk, Ok, Err, true, MatchResult};
+ghost use Rattle.std.specs.Prelude.{◌≡◌, ◌≤◌, pos, neg_ℤ, ◌≤ℤ◌, All, Ok, Err, true, MatchResult};
 ghost use Rattle.space.specs.Ranges.{IsBetween, metre};
-ghost use Rattle.space.specs.Vectors.{at};
 ghost use Rattle.ray_grid.specs.Ranges.{most_nodes, most_per_node};
 ghost use Rattle.toml.specs.View.{table_view};
-ghost use Rattle.setup_file.specs.Grids.{axes, count_along, divides_pitch, is_count, last_point, points_a_node};
+ghost use Rattle.setup_file.specs.Grids.{CountsFit, axes, count_along, divides_pitch, is_count, last_point, points_a_node};
 ghost use Rattle.setup_file.specs.Reads.{each};
 ghost use Rattle.setup_file.specs.Tables.{grid_of, grid_with};
 
@@ -19,6 +18,7 @@ const MOST_NODES: i64 = 400;
 const MOST_PER_NODE: u64 = 1000;
 
 /// The grid of its table.
+#[tactic(auto, unfolding(crate::specs::Tables::grid_of))]
 pub(crate) fn read_grid(table: &Table) -> Result<Grid, SetupFault>
     ensures { result ≡ grid_of (table_view table.now) }
 {

@@ -15,6 +15,7 @@ const MOST_NORMAL: i64 = 10_000;
 const MOST_RIGHT_SIDE: i64 = 100_000_000_000;
 
 /// The plane of a list of four whole numbers.
+#[tactic(auto, unfolding(crate::specs::Bodies::plane_of))]
 pub(crate) fn read_plane(value: &Value, key: KeyName) -> Result<Plane, SetupFault>
     ensures plane { result ≡ plane_of key (view value.now) }
     ensures ranges { IfOk result IsPlane }

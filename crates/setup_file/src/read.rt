@@ -1,4 +1,4 @@
-ghost use Rattle.std.specs.Prelude.{◌≡◌, IfOk, MatchResult, Ok, Err, map, option_map};
+ghost use Rattle.std.specs.Prelude.{◌≡◌, IfOk, IsTrue, OnOk, MatchResult, Ok, Err, map, option_map};
 ghost use Rattle.space.specs.Ranges.{IsBetween};
 ghost use Rattle.toml.specs.View.{table_view, view};
 ghost use Rattle.setup_file.specs.Reads.{each, entry_at, is_between, list_in, number_at, numbers_at, numbers_in, only_if, ranged, table_at};
@@ -33,7 +33,8 @@ pub(crate) const METRE: i64 = 1_000_000;
 
 /// The number, where the test holds; else it is told as out of the key's range.
 pub(crate) fn only_if(holds: bool, key: KeyName, number: i64) -> Result<i64, SetupFault>
-    ensures { result ≡ only_if holds key number }
+    ensures value { result ≡ only_if holds key number }
+    ensures holds { OnOk result (IsTrue holds) }
 {
     if holds {
         Ok(number)
@@ -73,13 +74,18 @@ pub(crate) fn number_at(
 pub(crate) fn numbers_in<const N: usize>(value: &Value) -> Option<[i64; N]>
     ensures { result ≡ numbers_in N (view value.now) }
 {
-    let values = value.as_array()?;
+    let Some(values) = value.as_array() else {
+        return None;
+    };
     if values.len() != N {
         return None;
     }
     let mut numbers = [0; N];
     for i in 0..N {
-        numbers[i] = values[i].as_integer()?;
+        let Some(number) = values[i].as_integer() else {
+            return None;
+        };
+        numbers[i] = number;
     }
     Some(numbers)
 }

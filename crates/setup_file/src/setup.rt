@@ -58,6 +58,7 @@ pub fn read_setup(alloc: Global, bytes: &[u8]) -> Result<Setup, SetupEnd>
 }
 
 /// The setup of a table.
+#[tactic(auto, unfolding(crate::specs::Setups::setup_in))]
 fn read_table(alloc: Global, setup: &Table) -> Result<Setup, SetupEnd>
     ensures ok { IfOk result (λ read. setup_in (table_view setup.now) ≡ Ok read) }
     ensures refused { IfErr result (EndsSetup (setup_in (table_view setup.now))) }
@@ -94,6 +95,7 @@ struct Numbers {
 }
 
 /// The grid, the settings and the tool of a table.
+#[tactic(auto, unfolding(crate::specs::Setups::numbers_of))]
 fn read_numbers(setup: &Table) -> Result<Numbers, SetupFault>
     ensures numbers { result ≡ numbers_of (table_view setup.now) }
     ensures check { IfOk result (λ numbers. IsCheck numbers.check) }

@@ -1,5 +1,7 @@
-ghost use Rattle.std.specs.Prelude.{◌≡◌, map, filter_map, Some};
+ghost use Rattle.std.specs.Prelude.{◌≡◌, map, filter_map, not, Some, string_bytes};
+ghost use Rattle.std.specs.BTreeMap.{keys};
 ghost use Rattle.std.specs.List.{list_any};
+ghost use Rattle.std.specs.Option.{option_to_list};
 ghost use Rattle.toml.specs.Data.{as_table};
 ghost use Rattle.toml.specs.View.{table_view, view};
 ghost use Rattle.setup_file.specs.Keys.{is_known};
@@ -63,18 +65,33 @@ fn list_has_unknown(values: &[Value], key: KeyName) -> bool
     ensures { result ≡ list_any (has_unknown key) (filter_map as_table (map view values.now)) }
 {
     for value in values {
-        if let Some(table) = value.as_table() {
-            if has_unknown(table, key) {
-                return true;
-            }
+        if item_has_unknown(value, key) {
+            return true;
         }
     }
     false
 }
 
+/// Whether an item is a table that holds a key that isn't known.
+fn item_has_unknown(value: &Value, key: KeyName) -> bool
+    ensures { result ≡ list_any (has_unknown key) (option_to_list (as_table (view value.now))) }
+{
+    match value.as_table() {
+        Some(table) => has_unknown(table, key),
+        None => false,
+    }
+}
+
 /// Whether a table holds a key that isn't known.
 fn has_unknown(table: &Table, key: KeyName) -> bool
     ensures { result ≡ has_unknown key (table_view table.now) }
+{
+    has_unknown_name(table, key)
+}
+
+/// Whether some key of a table isn't known.
+fn has_unknown_name(table: &Table, key: KeyName) -> bool
+    ensures { result ≡ list_any (λ name. not (is_known key (string_bytes name))) (keys table.now) }
 {
     table.keys().any(|name| !is_known(key, name.as_bytes()))
 }
