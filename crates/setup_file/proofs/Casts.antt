@@ -42,10 +42,12 @@ is_check t c s d tolerance clearance slabs depth =
     let some : pos 1 ≤ℤ s = slabs.from_least in
     let few : s ≤ℤ pos most_check_slabs = slabs.to_most in
     let size = size_is s in
-    rw (cast_back (pos 0) (pos most_tolerance) t (omega (arith, ints)) (omega (arith, ints)) tolerance,
-    cast_back (pos 0) (pos most_clearance) c (omega (arith, ints)) (omega (arith, ints)) clearance,
-    passed (pos 1) (pos most_check_slabs) s (omega (arith, ints)) (omega (arith, ints)) slabs,
-    passed (pos 0) (pos most_check_depth) d (omega (arith, ints)) (omega (arith, ints)) depth)
+    rw (
+      cast_back (pos 0) (pos most_tolerance) t (omega (arith, ints)) (omega (arith, ints)) tolerance,
+      cast_back (pos 0) (pos most_clearance) c (omega (arith, ints)) (omega (arith, ints)) clearance,
+      passed (pos 1) (pos most_check_slabs) s (omega (arith, ints)) (omega (arith, ints)) slabs,
+      passed (pos 0) (pos most_check_depth) d (omega (arith, ints)) (omega (arith, ints)) depth,
+    )
     record {
       tolerance_in = tolerance;
       clearance_in = clearance;

@@ -11,10 +11,10 @@ use Rattle.setup_file.specs.Grids.{divides_pitch, is_count, is_grid, last_point,
 use Rattle.setup_file.specs.Reads.{is_between}
 use borrow.Author.Differences.{abs_is as size_is}
 
-int_le-true : (a b : ℤ) → int_le a b ≡ true → a ≤ℤ b
+pub int_le-true : (a b : ℤ) → int_le a b ≡ true → a ≤ℤ b
 int_le-true a b h = grind (arith, ints)
 
-int_le-from : (a b : ℤ) → a ≤ℤ b → int_le a b ≡ true
+pub int_le-from : (a b : ℤ) → a ≤ℤ b → int_le a b ≡ true
 int_le-from a b h = grind (arith, ints)
 
 -- a number that passes the test of a range is within it, and the other way round

@@ -1,7 +1,7 @@
 -- The tests of a grid's numbers. Lengths are micrometres.
 use Rattle.std.specs.Prelude.{◌≡◌, true, ℕ, ◌-◌, ◌*◌, ◌/◌, ◌%◌, ◌==◌, ◌&&◌, nat_le, ℤ, pos, neg_ℤ, ◌+ℤ◌, int_le, unsigned_abs, Bool, List, [], ◌∷◌, map, Result}
 use Rattle.std.specs.List.{list_all}
-use Rattle.space.specs.Ranges.{metre}
+use Rattle.space.specs.Ranges.{IsBetween, metre}
 use Rattle.space.specs.Vectors.{at}
 use Rattle.ray_grid.specs.Ranges.{most_nodes, most_per_node}
 use Rattle.setup_file.specs.declared.fault.SetupFault.{SetupFault}
@@ -49,3 +49,9 @@ pub record CountsFit (origin : List ℤ) (pitch step : ℤ) (counts : List ℤ) 
   pub x : is_count (at origin 0) pitch step (at counts 0) ≡ true
   pub y : is_count (at origin 1) pitch step (at counts 1) ≡ true
   pub z : is_count (at origin 2) pitch step (at counts 2) ≡ true
+
+-- three coordinates
+pub record AreCoordinates (origin : List ℤ) : Type 0 where
+  pub x : IsBetween (neg_ℤ (pos metre)) (pos metre) (at origin 0)
+  pub y : IsBetween (neg_ℤ (pos metre)) (pos metre) (at origin 1)
+  pub z : IsBetween (neg_ℤ (pos metre)) (pos metre) (at origin 2)

@@ -1,8 +1,9 @@
-ghost use Rattle.std.specs.Prelude.{◌≡◌, ◌≤◌, pos, neg_ℤ, ◌≤ℤ◌, All, Ok, Err, true, MatchResult};
+ghost use Rattle.std.specs.Prelude.{◌≡◌, ◌<◌, pos, neg_ℤ, ◌≤ℤ◌, Ok, Err, OnOk, true, MatchResult};
+ghost use Rattle.space.specs.Vectors.{at};
 ghost use Rattle.space.specs.Ranges.{IsBetween, metre};
-ghost use Rattle.ray_grid.specs.Ranges.{most_nodes, most_per_node};
+ghost use Rattle.ray_grid.specs.Ranges.{most_nodes};
 ghost use Rattle.toml.specs.View.{table_view};
-ghost use Rattle.setup_file.specs.Grids.{CountsFit, axes, count_along, divides_pitch, is_count, last_point, points_a_node};
+ghost use Rattle.setup_file.specs.Grids.{AreCoordinates, CountsFit, axes, count_along, divides_pitch, is_count, last_point, points_a_node};
 ghost use Rattle.setup_file.specs.Reads.{each};
 ghost use Rattle.setup_file.specs.Tables.{grid_of, grid_with};
 
@@ -53,7 +54,7 @@ fn last_point(origin: i64, pitch: i64, step: i64, count: i64) -> i64
     requires origin { IsBetween (neg_ℤ (pos metre)) (pos metre) origin }
     requires pitch { IsBetween (pos 1) (pos metre) pitch }
     requires step { IsBetween (pos 1) pitch step }
-    requires fine { points_a_node pitch step ≤ most_per_node }
+    requires divides { divides_pitch pitch step ≡ true }
     requires count { IsBetween (pos 1) (pos most_nodes) count }
     ensures { result ≡ last_point origin pitch step count }
 {
@@ -66,7 +67,7 @@ fn is_count(origin: i64, pitch: i64, step: i64, count: i64) -> bool
     requires origin { IsBetween (neg_ℤ (pos metre)) (pos metre) origin }
     requires pitch { IsBetween (pos 1) (pos metre) pitch }
     requires step { IsBetween (pos 1) pitch step }
-    requires fine { points_a_node pitch step ≤ most_per_node }
+    requires divides { divides_pitch pitch step ≡ true }
     ensures { result ≡ is_count origin pitch step count }
 {
     1 <= count && count <= MOST_NODES && last_point(origin, pitch, step, count) <= METRE
@@ -74,36 +75,46 @@ fn is_count(origin: i64, pitch: i64, step: i64, count: i64) -> bool
 
 /// The first number of nodes that its axis may not have is told, where there is one.
 fn all_counts(origin: &[i64; 3], pitch: i64, step: i64, counts: &[i64; 3]) -> Result<(), SetupFault>
-    requires origin { All (IsBetween (neg_ℤ (pos metre)) (pos metre)) origin.now }
+    requires origin { AreCoordinates origin.now }
     requires pitch { IsBetween (pos 1) (pos metre) pitch }
     requires step { IsBetween (pos 1) pitch step }
     requires divides { divides_pitch pitch step ≡ true }
     ensures { MatchResult result (λ _. CountsFit origin.now pitch step counts.now)
         (λ fault. each (count_along origin.now pitch step counts.now) axes ≡ Err fault) }
 {
-    let [x, y, z] = *origin;
-    let [along_x, along_y, along_z] = *counts;
-    only_if(
-        is_count(x, pitch, step, along_x),
-        KeyName::GridCounts,
-        along_x,
-    )?;
-    only_if(
-        is_count(y, pitch, step, along_y),
-        KeyName::GridCounts,
-        along_y,
-    )?;
-    only_if(
-        is_count(z, pitch, step, along_z),
-        KeyName::GridCounts,
-        along_z,
-    )?;
+    count_along(origin, pitch, step, counts, 0)?;
+    count_along(origin, pitch, step, counts, 1)?;
+    count_along(origin, pitch, step, counts, 2)?;
     Ok(())
+}
+
+/// The number of nodes along an axis, where it may have so many.
+fn count_along(
+    origin: &[i64; 3],
+    pitch: i64,
+    step: i64,
+    counts: &[i64; 3],
+    axis: usize,
+) -> Result<i64, SetupFault>
+    requires axis { axis < 3 }
+    requires origin { IsBetween (neg_ℤ (pos metre)) (pos metre) (at origin.now axis) }
+    requires pitch { IsBetween (pos 1) (pos metre) pitch }
+    requires step { IsBetween (pos 1) pitch step }
+    requires divides { divides_pitch pitch step ≡ true }
+    ensures count { result ≡ count_along origin.now pitch step counts.now axis }
+    ensures holds { OnOk result (is_count (at origin.now axis) pitch step (at counts.now axis) ≡ true) }
+{
+    let count = counts[axis];
+    only_if(
+        is_count(origin[axis], pitch, step, count),
+        KeyName::GridCounts,
+        count,
+    )
 }
 
 /// The grid of numbers that make one.
 fn grid_with(origin: &[i64; 3], pitch: i64, step: i64, counts: &[i64; 3]) -> Grid
-    requires origin { All (IsBetween (neg_ℤ (pos metre)) (pos metre)) origin.now }
+    requires origin { AreCoordinates origin.now }
     requires pitch { IsBetween (pos 1) (pos metre) pitch }
     requires step { IsBetween (pos 1) pitch step }
     requires divides { divides_pitch pitch step ≡ true }
