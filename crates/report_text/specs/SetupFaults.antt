@@ -1,10 +1,10 @@
 -- The text of a setup's fault.
 use Rattle.std.specs.Prelude.{ℕ, ℤ, List, ◌++◌, codes}
 use Rattle.std.specs.Fmt.{signed_decimal}
-use Rattle.setup_file.specs.Keys.{key_text}
-use Rattle.setup_file.specs.declared.fault.SetupFault.{SetupFault}
-use Rattle.setup_file.specs.declared.fault.SetupFault.TheVariants.{SetupSyntax, SetupKey, SetupRange}
-use Rattle.setup_file.specs.declared.key.KeyName.{KeyName}
+use Rattle.setup_keys.specs.Keys.{key_text}
+use Rattle.setup_keys.specs.declared.fault.SetupFault.{SetupFault}
+use Rattle.setup_keys.specs.declared.fault.SetupFault.TheVariants.{SetupSyntax, SetupKey, SetupRange}
+use Rattle.setup_keys.specs.declared.key.KeyName.{KeyName}
 
 -- the key where a fault stands
 abbrev pub key_place : KeyName → List ℕ

@@ -5,7 +5,7 @@ use crate::script_fault::write_script_fault;
 use crate::setup_fault::write_setup_fault;
 use cl_lines::{ClFault, ClWhy};
 use edit_plan::ScriptFault;
-use setup_file::SetupFault;
+use setup_keys::SetupFault;
 use std::alloc::Global;
 use vf_io::NoMemory;
 use vf_text::Page;

@@ -3,7 +3,7 @@ ghost use Rattle.std.specs.Fmt.{signed_decimal};
 ghost use Rattle.report_text.specs.SetupFaults.{key_place, range_text, setup_fault_text};
 
 use itoa::Buffer;
-use setup_file::{KeyName, SetupFault};
+use setup_keys::{KeyName, SetupFault};
 use vf_io::NoMemory;
 use vf_text::Page;
 

@@ -3,7 +3,7 @@ use axis_cells::Mark;
 use cl_lines::{ClFault, ClWhy, Word};
 use cl_moves::{CutterText, Move, Moves, Program};
 use edit_plan::{ScriptFault, ScriptWhy};
-use setup_file::{KeyName, SetupFault};
+use setup_keys::{KeyName, SetupFault};
 use std::alloc::Global;
 use std::test::Fail;
 

@@ -6,7 +6,7 @@ use Rattle.std.proofs.lemmas.Bool.Decides.{nat_tests}
 use Rattle.toml.specs.Data.{Data, as_array, as_integer, as_table}
 use Rattle.toml.specs.View.{items_view, view}
 use Rattle.toml.specs.declared.value.Value.{Value}
-use Rattle.setup_file.specs.declared.fault.SetupFault.{SetupFault}
+use Rattle.setup_keys.specs.declared.fault.SetupFault.{SetupFault}
 use Rattle.std.specs.Option.{option_and_then, option_map}
 use Rattle.setup_file.specs.Reads.{◌>>=◌, all_of, each, numbers_among, numbers_in, values_listed}
 

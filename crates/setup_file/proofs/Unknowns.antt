@@ -11,9 +11,9 @@ use Rattle.setup_file.proofs.Listed.{values_listed-view, view_drop}
 use Rattle.std.specs.List.{list_any}
 use Rattle.toml.specs.View.{items_view, members_view}
 use Rattle.toml.specs.declared.value.Value.{Value}
-use Rattle.setup_file.specs.declared.key.KeyName.{KeyName}
-use Rattle.setup_file.specs.Keys.{is_known}
-use Rattle.setup_file.specs.declared.key.KeyName.TheVariants as keys
+use Rattle.setup_keys.specs.declared.key.KeyName.{KeyName}
+use Rattle.setup_keys.specs.Keys.{is_known}
+use Rattle.setup_keys.specs.declared.key.KeyName.TheVariants as keys
 use Rattle.setup_file.specs.Reads.{entry_at, values_listed}
 use Rattle.setup_file.specs.Unknown.{has_unknown, tables_in, tables_named}
 

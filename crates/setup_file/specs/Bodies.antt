@@ -5,10 +5,10 @@ use Rattle.space.specs.Ranges.{metre}
 use Rattle.space.specs.Vectors.{at, is_zero}
 use Rattle.ray_shapes.specs.declared.plane.Plane.{Plane}
 use Rattle.setup_file.specs.declared.body_list.BodyList.{BodyList}
-use Rattle.setup_file.specs.declared.fault.SetupFault.{SetupFault}
-use Rattle.setup_file.specs.declared.fault.SetupFault.TheVariants.{SetupKey}
-use Rattle.setup_file.specs.declared.key.KeyName.{KeyName}
-use Rattle.setup_file.specs.declared.key.KeyName.TheVariants as keys
+use Rattle.setup_keys.specs.declared.fault.SetupFault.{SetupFault}
+use Rattle.setup_keys.specs.declared.fault.SetupFault.TheVariants.{SetupKey}
+use Rattle.setup_keys.specs.declared.key.KeyName.{KeyName}
+use Rattle.setup_keys.specs.declared.key.KeyName.TheVariants as keys
 use Rattle.setup_file.specs.Grids.{axes}
 use Rattle.setup_file.specs.Limits.{most_normal, most_other_bodies, most_planes, most_right_side, most_stock_bodies}
 use Rattle.setup_file.specs.Reads.{◌>>=◌, all_of, each, entry_at, is_between, list_in, numbers_in, of_kind, only_if, ranged}

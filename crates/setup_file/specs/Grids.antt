@@ -4,8 +4,8 @@ use Rattle.std.specs.List.{list_all}
 use Rattle.space.specs.Ranges.{IsBetween, metre}
 use Rattle.space.specs.Vectors.{at}
 use Rattle.ray_grid.specs.Ranges.{most_nodes, most_per_node}
-use Rattle.setup_file.specs.declared.fault.SetupFault.{SetupFault}
-use Rattle.setup_file.specs.declared.key.KeyName.TheVariants as keys
+use Rattle.setup_keys.specs.declared.fault.SetupFault.{SetupFault}
+use Rattle.setup_keys.specs.declared.key.KeyName.TheVariants as keys
 use Rattle.setup_file.specs.Reads.{is_between, only_if}
 
 -- the three axes

@@ -1,4 +1,3 @@
-pub mod Keys
 pub mod Limits
 pub mod Reads
 pub mod Grids

@@ -2,12 +2,12 @@
 use Rattle.std.specs.Prelude.{◌≡◌, ℕ, ℤ, int_le, ◌==◌, ◌&&◌, Bool, List, [], ◌∷◌, length, Option, Some, None, option_and_then, Result, Ok, Err, if◌then◌else◌}
 use Rattle.std.specs.Option.{option_map}
 use Rattle.toml.specs.Data.{Data, Items, no_items, item, Members, get_member, as_array, as_integer, as_table}
-use Rattle.setup_file.specs.declared.fault.SetupEnd.{SetupEnd}
-use Rattle.setup_file.specs.declared.fault.SetupEnd.TheVariants.{Refused, NoMemory}
-use Rattle.setup_file.specs.declared.fault.SetupFault.{SetupFault}
-use Rattle.setup_file.specs.declared.fault.SetupFault.TheVariants.{SetupKey, SetupRange}
-use Rattle.setup_file.specs.declared.key.KeyName.{KeyName}
-use Rattle.setup_file.specs.Keys.{name_of}
+use Rattle.setup_keys.specs.declared.fault.SetupEnd.{SetupEnd}
+use Rattle.setup_keys.specs.declared.fault.SetupEnd.TheVariants.{Refused, NoMemory}
+use Rattle.setup_keys.specs.declared.fault.SetupFault.{SetupFault}
+use Rattle.setup_keys.specs.declared.fault.SetupFault.TheVariants.{SetupKey, SetupRange}
+use Rattle.setup_keys.specs.declared.key.KeyName.{KeyName}
+use Rattle.setup_keys.specs.Keys.{name_of}
 
 infixl 10 ◌>>=◌
 -- what is read behind something that has no fault

@@ -4,10 +4,10 @@ use Rattle.std.specs.Str.{is_utf8}
 use Rattle.toml.specs.Data.{Members}
 use Rattle.toml.specs.Parse.{parse_document}
 use Rattle.ray_shapes.specs.declared.plane.Plane.{Plane}
-use Rattle.setup_file.specs.declared.fault.SetupFault.{SetupFault}
-use Rattle.setup_file.specs.declared.fault.SetupFault.TheVariants.{SetupKey, SetupSyntax}
-use Rattle.setup_file.specs.declared.key.KeyName.{KeyName}
-use Rattle.setup_file.specs.declared.key.KeyName.TheVariants as keys
+use Rattle.setup_keys.specs.declared.fault.SetupFault.{SetupFault}
+use Rattle.setup_keys.specs.declared.fault.SetupFault.TheVariants.{SetupKey, SetupSyntax}
+use Rattle.setup_keys.specs.declared.key.KeyName.{KeyName}
+use Rattle.setup_keys.specs.declared.key.KeyName.TheVariants as keys
 use Rattle.setup_file.specs.declared.setup.Numbers.{Numbers}
 use Rattle.setup_file.specs.declared.setup.Setup.{Setup}
 use Rattle.setup_file.specs.Bodies.{bodies_at, fixture_list, part_list, stock_list}

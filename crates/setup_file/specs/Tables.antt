@@ -6,10 +6,10 @@ use Rattle.cutter_slabs.specs.Cutter.{CutterSize}
 use Rattle.ray_grid.specs.declared.grid.Grid.{Grid}
 use Rattle.setup_file.specs.GridShown.{IsGrid-shown}
 use Rattle.setup_file.specs.declared.check.Check.{Check}
-use Rattle.setup_file.specs.declared.fault.SetupFault.{SetupFault}
-use Rattle.setup_file.specs.declared.fault.SetupFault.TheVariants.{SetupKey}
-use Rattle.setup_file.specs.declared.key.KeyName.{KeyName}
-use Rattle.setup_file.specs.declared.key.KeyName.TheVariants as keys
+use Rattle.setup_keys.specs.declared.fault.SetupFault.{SetupFault}
+use Rattle.setup_keys.specs.declared.fault.SetupFault.TheVariants.{SetupKey}
+use Rattle.setup_keys.specs.declared.key.KeyName.{KeyName}
+use Rattle.setup_keys.specs.declared.key.KeyName.TheVariants as keys
 use Rattle.setup_file.specs.Grids.{axes, count_along, divides_pitch, is_grid, nodes_along}
 use Rattle.setup_file.specs.Limits.{most_check_depth, most_check_slabs, most_clearance, most_tolerance}
 use Rattle.setup_file.specs.Limits.{most_tool_diameter, most_tool_height, most_tool_radius}

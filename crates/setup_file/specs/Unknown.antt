@@ -2,9 +2,9 @@
 use Rattle.std.specs.Prelude.{Bool, ◌||◌, not, false, List, [], ◌∷◌, Option, Some, None, find, filter_map}
 use Rattle.std.specs.List.{list_any}
 use Rattle.toml.specs.Data.{Data, array, table, Members, no_members, member, as_table}
-use Rattle.setup_file.specs.declared.key.KeyName.{KeyName}
-use Rattle.setup_file.specs.declared.key.KeyName.TheVariants as keys
-use Rattle.setup_file.specs.Keys.{is_known, setup_tables}
+use Rattle.setup_keys.specs.declared.key.KeyName.{KeyName}
+use Rattle.setup_keys.specs.declared.key.KeyName.TheVariants as keys
+use Rattle.setup_keys.specs.Keys.{is_known, setup_tables}
 use Rattle.setup_file.specs.Reads.{entry_at, values_listed}
 
 -- a table holds a key that it may not hold

@@ -7,9 +7,9 @@ ghost use Rattle.setup_file.specs.Sound.{AreBodies};
 
 use crate::body::{as_many, read_body};
 use crate::body_list::BodyList;
-use crate::fault::{SetupEnd, SetupFault};
 use crate::read::entry_at;
 use ray_shapes::Bodies;
+use setup_keys::{SetupEnd, SetupFault};
 use std::alloc::Global;
 use toml::{Table, Value};
 

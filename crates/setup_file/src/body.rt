@@ -6,11 +6,10 @@ ghost use Rattle.setup_file.specs.Reads.{EndsSetup};
 ghost use Rattle.setup_file.specs.Sound.{IsBody};
 
 use crate::body_list::BodyList;
-use crate::fault::{SetupEnd, SetupFault};
-use crate::key::KeyName;
 use crate::plane::read_plane;
 use crate::read::{METRE, all_ranged, entry_at, numbers_in, only_if, ranged};
 use ray_shapes::{Body, Plane};
+use setup_keys::{KeyName, SetupEnd, SetupFault};
 use std::alloc::Global;
 use toml::Value;
 use vf_io::NoMemory;

@@ -1,4 +1,4 @@
-use crate::key::KeyName;
+use setup_keys::KeyName;
 
 /// A list of bodies: its key and those of its bodies, how few and how many bodies it may have, and whether it has to be there.
 #[derive(Clone, Copy)]

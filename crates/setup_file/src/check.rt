@@ -3,9 +3,8 @@ ghost use Rattle.toml.specs.View.{table_view};
 ghost use Rattle.setup_file.specs.Sound.{IsCheck};
 ghost use Rattle.setup_file.specs.Tables.{check_of};
 
-use crate::fault::SetupFault;
-use crate::key::KeyName;
 use crate::read::number_at;
+use setup_keys::{KeyName, SetupFault};
 use toml::Table;
 
 /// How the moves are checked: how deep the part may be cut and how far fixtures are kept clear, in micrometres, how many slabs a

@@ -7,10 +7,9 @@ ghost use Rattle.setup_file.specs.Grids.{AreCoordinates, CountsFit, axes, count_
 ghost use Rattle.setup_file.specs.Reads.{each};
 ghost use Rattle.setup_file.specs.Tables.{grid_of, grid_with};
 
-use crate::fault::SetupFault;
-use crate::key::KeyName;
 use crate::read::{METRE, all_ranged, number_at, numbers_at, only_if};
 use ray_grid::Grid;
+use setup_keys::{KeyName, SetupFault};
 use toml::Table;
 
 /// The most nodes along an axis, and the most points of a ray for each node.

@@ -5,9 +5,7 @@ mod bodies;
 mod body;
 mod body_list;
 mod check;
-mod fault;
 mod grid;
-mod key;
 mod plane;
 mod read;
 mod setup;
@@ -15,9 +13,8 @@ mod shift;
 mod tool;
 mod unknown;
 
-pub use fault::{SetupEnd, SetupFault};
-pub use key::KeyName;
 pub use setup::{Setup, read_setup};
+pub use setup_keys::{KeyName, SetupEnd, SetupFault};
 pub use shift::shifted;
 
 #[cfg(test)]

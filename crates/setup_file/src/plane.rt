@@ -3,10 +3,9 @@ ghost use Rattle.toml.specs.View.{view};
 ghost use Rattle.setup_file.specs.Bodies.{plane_of};
 ghost use Rattle.setup_file.specs.Sound.{IsPlane};
 
-use crate::fault::SetupFault;
-use crate::key::KeyName;
 use crate::read::{numbers_in, only_if, ranged};
 use ray_shapes::Plane;
+use setup_keys::{KeyName, SetupFault};
 use toml::Value;
 
 /// How far from 0 a component of a plane's normal may be, and its right side.

@@ -3,8 +3,7 @@ ghost use Rattle.space.specs.Ranges.{IsBetween};
 ghost use Rattle.toml.specs.View.{table_view, view};
 ghost use Rattle.setup_file.specs.Reads.{each, entry_at, is_between, list_in, number_at, numbers_at, numbers_in, only_if, ranged, table_at};
 
-use crate::fault::SetupFault;
-use crate::key::KeyName;
+use setup_keys::{KeyName, SetupFault};
 use toml::{Table, Value};
 
 /// What stands at a key of a table.

@@ -7,15 +7,14 @@ ghost use Rattle.setup_file.specs.Sound.{IsSetup, IsTool, IsCheck};
 use crate::bodies::bodies_at;
 use crate::body_list::{FIXTURE, PART, STOCK};
 use crate::check::{Check, read_check};
-use crate::fault::{SetupEnd, SetupFault};
 use crate::grid::read_grid;
-use crate::key::KeyName;
 use crate::read::table_at;
 use crate::tool::read_tool;
 use crate::unknown::first_unknown;
 use cutter_slabs::Cutter;
 use ray_grid::Grid;
 use ray_shapes::Bodies;
+use setup_keys::{KeyName, SetupEnd, SetupFault};
 use std::alloc::Global;
 use toml::Table;
 

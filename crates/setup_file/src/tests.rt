@@ -1,6 +1,6 @@
 use super::*;
-use crate::key::KeyName as Key;
 use ray_shapes::{Body, Plane};
+use setup_keys::KeyName as Key;
 use std::alloc::{AllocError, Global};
 use std::test::Fail;
 

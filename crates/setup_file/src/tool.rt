@@ -5,10 +5,9 @@ ghost use Rattle.toml.specs.View.{table_view};
 ghost use Rattle.setup_file.specs.Sound.{IsTool};
 ghost use Rattle.setup_file.specs.Tables.{tool_of};
 
-use crate::fault::SetupFault;
-use crate::key::KeyName;
 use crate::read::{number_at, only_if};
 use cutter_slabs::Cutter;
+use setup_keys::{KeyName, SetupFault};
 use toml::Table;
 
 /// The tool's greatest sizes, in micrometres.

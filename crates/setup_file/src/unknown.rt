@@ -4,11 +4,11 @@ ghost use Rattle.std.specs.List.{list_any};
 ghost use Rattle.std.specs.Option.{option_to_list};
 ghost use Rattle.toml.specs.Data.{as_table};
 ghost use Rattle.toml.specs.View.{table_view, view};
-ghost use Rattle.setup_file.specs.Keys.{is_known};
+ghost use Rattle.setup_keys.specs.Keys.{is_known};
 ghost use Rattle.setup_file.specs.Unknown.{first_unknown, has_unknown, tables_in, tables_named};
 
-use crate::key::KeyName;
 use crate::read::entry_at;
+use setup_keys::KeyName;
 use toml::{Table, Value};
 
 /// The tables, in the order in which they are searched.

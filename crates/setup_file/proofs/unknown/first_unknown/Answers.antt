@@ -1,8 +1,8 @@
 use Rattle.std.proofs.Common.{sym, ◌∙◌}
 use Rattle.std.specs.List.{list_any}
 use Rattle.toml.specs.View.{table_view}
-use Rattle.setup_file.specs.declared.key.KeyName.TheVariants as keys
-use Rattle.setup_file.specs.Keys.{setup_tables}
+use Rattle.setup_keys.specs.declared.key.KeyName.TheVariants as keys
+use Rattle.setup_keys.specs.Keys.{setup_tables}
 use Rattle.setup_file.specs.Unknown.{has_unknown, tables_named}
 use Rattle.setup_file.proofs.Unknowns.{find-here, find-more}
 use Rattle.setup_file.proofs.unknown.first_unknown.Goals as goal

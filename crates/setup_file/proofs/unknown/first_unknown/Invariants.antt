@@ -1,7 +1,7 @@
 use Rattle.std.proofs.Common.{◌≡◌, drop, find}
 use Rattle.std.specs.List.{list_any}
 use Rattle.toml.specs.View.{table_view}
-use Rattle.setup_file.specs.Keys.{setup_tables}
+use Rattle.setup_keys.specs.Keys.{setup_tables}
 use Rattle.setup_file.specs.Unknown.{has_unknown, tables_named}
 use Rattle.setup_file.proofs.unknown.first_unknown.Given as goal
 

@@ -2,8 +2,8 @@
 use Rattle.std.specs.Prelude.{ℕ, ◌==◌, List, [], ◌∷◌, Bool, if◌then◌else◌, codes}
 use Rattle.std.specs.List.{after_first, list_any}
 use Rattle.std.specs.Str.{bytes_eq}
-use Rattle.setup_file.specs.declared.key.KeyName.{KeyName}
-use Rattle.setup_file.specs.declared.key.KeyName.TheVariants as keys
+use Rattle.setup_keys.specs.declared.key.KeyName.{KeyName}
+use Rattle.setup_keys.specs.declared.key.KeyName.TheVariants as keys
 
 -- the key as it is printed
 abbrev pub key_text : KeyName → List ℕ

@@ -1,5 +1,5 @@
 ghost use Rattle.std.specs.Prelude.{◌≡◌};
-ghost use Rattle.setup_file.specs.Keys.{key_text, keys_in, name_of};
+ghost use Rattle.setup_keys.specs.Keys.{key_text, keys_in, name_of};
 
 /// The keys of a setup, in the order in which they are judged; `Setup` is the top level.
 #[derive(Clone, Copy, Debug, PartialEq, Eq)]
@@ -64,7 +64,7 @@ impl KeyName {
     }
 
     /// The key as its table holds it.
-    pub(crate) fn name(self) -> &'static str
+    pub fn name(self) -> &'static str
         ensures { result.now ≡ name_of self }
     {
         match self {
@@ -92,7 +92,7 @@ impl KeyName {
     }
 
     /// The keys that the table may hold, or each body of the list of bodies.
-    pub(crate) fn keys(self) -> &'static [KeyName]
+    pub fn keys(self) -> &'static [KeyName]
         ensures { result.now ≡ keys_in self }
     {
         match self {
