@@ -47,6 +47,7 @@ pub(crate) fn only_if(holds: bool, key: KeyName, number: i64) -> Result<i64, Set
 pub(crate) fn ranged(key: KeyName, least: i64, most: i64, number: i64) -> Result<i64, SetupFault>
     ensures value { result ≡ ranged key least most number }
     ensures range { IfOk result (IsBetween least most) }
+    ensures within { OnOk result (IsBetween least most number) }
 {
     only_if(least <= number && number <= most, key, number)
 }
