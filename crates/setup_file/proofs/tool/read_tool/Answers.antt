@@ -18,5 +18,10 @@ returns-clause-tool c =
     let height = c.in_ok-height.height in
     let corner : (pos 2 *ℤ radius) ≤ℤ diameter = search rules in
     let rounded : radius ≤ℤ height = search rules in
-    rw (← c.in_ok-diameter.ensures.value, ← c.in_ok-radius.ensures.value, int_le-from (pos 2 *ℤ radius) diameter corner,
-    ← c.in_ok-height.ensures.value, int_le-from radius height rounded) (ap Ok sizes)
+    rw (
+      ← c.in_ok-diameter.ensures.value,
+      ← c.in_ok-radius.ensures.value,
+      int_le-from (pos 2 *ℤ radius) diameter corner,
+      ← c.in_ok-height.ensures.value,
+      int_le-from radius height rounded,
+    ) (ap Ok sizes)
