@@ -1,4 +1,4 @@
-ghost use Rattle.std.specs.Prelude.{◌≡◌, IfOk, IsTrue, OnOk, MatchResult, Ok, Err, map, option_map};
+ghost use Rattle.std.specs.Prelude.{◌≡◌, All, IfOk, IsTrue, OnOk, MatchResult, Ok, Err, map, option_map};
 ghost use Rattle.space.specs.Ranges.{IsBetween};
 ghost use Rattle.toml.specs.View.{table_view, view};
 ghost use Rattle.setup_file.specs.Reads.{each, entry_at, is_between, list_in, number_at, numbers_at, numbers_in, only_if, ranged, table_at};
@@ -46,6 +46,7 @@ pub(crate) fn only_if(holds: bool, key: KeyName, number: i64) -> Result<i64, Set
 pub(crate) fn ranged(key: KeyName, least: i64, most: i64, number: i64) -> Result<i64, SetupFault>
     ensures value { result ≡ ranged key least most number }
     ensures range { IfOk result (IsBetween least most) }
+    ensures within { OnOk result (IsBetween least most number) }
 {
     only_if(least <= number && number <= most, key, number)
 }
@@ -112,8 +113,9 @@ pub(crate) fn all_ranged(
     least: i64,
     most: i64,
 ) -> Result<(), SetupFault>
-    ensures { MatchResult result (λ _. each (ranged key least most) numbers.now ≡ Ok numbers.now)
+    ensures numbers { MatchResult result (λ _. each (ranged key least most) numbers.now ≡ Ok numbers.now)
         (λ fault. each (ranged key least most) numbers.now ≡ Err fault) }
+    ensures range { OnOk result (All (IsBetween least most) numbers.now) }
 {
     for number in numbers {
         ranged(key, least, most, *number)?;
