@@ -6,3 +6,5 @@ pub mod Coordinates
 pub mod Tools
 pub mod Raised
 pub mod Ends
+pub mod GridShown
+pub mod GridCasts

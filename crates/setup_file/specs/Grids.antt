@@ -4,6 +4,7 @@ use Rattle.std.specs.List.{list_all}
 use Rattle.space.specs.Ranges.{IsBetween, metre}
 use Rattle.space.specs.Vectors.{at}
 use Rattle.ray_grid.specs.Ranges.{most_nodes, most_per_node}
+use Rattle.ray_grid.specs.declared.grid.Grid.{Grid}
 use Rattle.setup_keys.specs.declared.fault.SetupFault.{SetupFault}
 use Rattle.setup_keys.specs.declared.key.KeyName.TheVariants as keys
 use Rattle.setup_file.specs.Reads.{is_between, only_if}
@@ -33,16 +34,23 @@ is_count origin pitch step count =
 abbrev pub count_along : List ℤ → ℤ → ℤ → List ℤ → ℕ → Result ℤ SetupFault
 count_along origin pitch step counts axis = only_if (is_count (at origin axis) pitch step (at counts axis)) keys.GridCounts (at counts axis)
 
--- all of this at once: the numbers make a grid
-abbrev pub is_grid : List ℤ → ℤ → ℤ → List ℤ → Bool
-is_grid origin pitch step counts =
-    (is_between (pos 1) (pos metre) pitch && (is_between (pos 1) pitch step && divides_pitch pitch step))
-    && list_all (λ axis. is_between (neg_ℤ (pos metre)) (pos metre) (at origin axis)
-    && is_count (at origin axis) pitch step (at counts axis)) axes
-
 -- numbers of nodes as they are counted
 abbrev pub nodes_along : List ℤ → List ℕ
 nodes_along counts = map (λ axis. unsigned_abs (at counts axis)) axes
+
+-- a grid by its numbers, those of origin and counts along x, y and z
+pub record GridNumbers : Type 0 where
+  pub origin : List ℤ
+  pub pitch : ℤ
+  pub step : ℤ
+  pub counts : List ℕ
+
+abbrev pub grid_from : List ℤ → ℤ → ℤ → List ℤ → GridNumbers
+grid_from origin pitch step counts = record { origin = map (λ axis. at origin axis) axes; pitch = pitch; step = step; counts = nodes_along counts }
+
+-- the numbers of a grid
+abbrev pub grid_numbers : Grid → GridNumbers
+grid_numbers grid = record { origin = grid.origin; pitch = grid.pitch; step = grid.step; counts = grid.counts }
 
 -- each axis may have its number of nodes
 pub record CountsFit (origin : List ℤ) (pitch step : ℤ) (counts : List ℤ) : Type 0 where

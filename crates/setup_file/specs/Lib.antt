@@ -1,7 +1,6 @@
 pub mod Limits
 pub mod Reads
 pub mod Grids
-pub mod GridShown
 pub mod Tables
 pub mod Bodies
 pub mod Unknown

@@ -1,34 +1,18 @@
 -- The tables `grid`, `check` and `tool`: what each sets, or its first fault. Lengths are micrometres.
-use Rattle.std.specs.Prelude.{◌≡◌, ℤ, pos, neg_ℤ, ◌*ℤ◌, int_le, unsigned_abs, List, Bool, true, false, Result, Ok, Err, refl}
+use Rattle.std.specs.Prelude.{pos, neg_ℤ, ◌*ℤ◌, int_le, unsigned_abs, Result, Ok, Err}
 use Rattle.toml.specs.Data.{Members}
 use Rattle.space.specs.Ranges.{metre}
 use Rattle.cutter_slabs.specs.Cutter.{CutterSize}
-use Rattle.ray_grid.specs.declared.grid.Grid.{Grid}
-use Rattle.setup_file.specs.GridShown.{IsGrid-shown}
 use Rattle.setup_file.specs.declared.check.Check.{Check}
 use Rattle.setup_keys.specs.declared.fault.SetupFault.{SetupFault}
-use Rattle.setup_keys.specs.declared.fault.SetupFault.TheVariants.{SetupKey}
-use Rattle.setup_keys.specs.declared.key.KeyName.{KeyName}
 use Rattle.setup_keys.specs.declared.key.KeyName.TheVariants as keys
-use Rattle.setup_file.specs.Grids.{axes, count_along, divides_pitch, is_grid, nodes_along}
+use Rattle.setup_file.specs.Grids.{GridNumbers, axes, count_along, divides_pitch, grid_from}
 use Rattle.setup_file.specs.Limits.{most_check_depth, most_check_slabs, most_clearance, most_tolerance}
 use Rattle.setup_file.specs.Limits.{most_tool_diameter, most_tool_height, most_tool_radius}
 use Rattle.setup_file.specs.Reads.{◌>>=◌, each, number_at, numbers_at, only_if, ranged}
 
--- what a test shows, where it holds
-abbrev pub shown : {P : Type 0} → (holds : Bool) → (holds ≡ true → P) → KeyName → Result P SetupFault
-shown true proof key = Ok (proof refl)
-shown false proof key = Err (SetupKey key)
-
--- The grid of these numbers, which keeps the proof that they make one. All that the test asks is judged ahead of it, so it
--- refuses nothing.
-abbrev pub grid_with : List ℤ → ℤ → ℤ → List ℤ → Result Grid SetupFault
-grid_with origin pitch step counts = do
-  in_range ← shown (is_grid origin pitch step counts) (IsGrid-shown origin pitch step counts) keys.Grid
-  Ok (record { origin = origin; pitch = pitch; step = step; counts = nodes_along counts; in_range = in_range })
-
 -- the grid: its counts are judged by the last point along each axis too
-unfoldable pub grid_of : Members → Result Grid SetupFault
+unfoldable pub grid_of : Members → Result GridNumbers SetupFault
 grid_of table = do
   numbers ← numbers_at 3 keys.GridOrigin table
   origin ← each (ranged keys.GridOrigin (neg_ℤ (pos metre)) (pos metre)) numbers
@@ -37,7 +21,7 @@ grid_of table = do
   _ ← only_if (divides_pitch pitch step) keys.GridStep step
   counts ← numbers_at 3 keys.GridCounts table
   _ ← each (count_along origin pitch step counts) axes
-  grid_with origin pitch step counts
+  Ok (grid_from origin pitch step counts)
 
 -- the settings of the check
 unfoldable pub check_of : Members → Result Check SetupFault

@@ -3,9 +3,9 @@ ghost use Rattle.space.specs.Vectors.{at};
 ghost use Rattle.space.specs.Ranges.{IsBetween, metre};
 ghost use Rattle.ray_grid.specs.Ranges.{most_nodes};
 ghost use Rattle.toml.specs.View.{table_view};
-ghost use Rattle.setup_file.specs.Grids.{AreCoordinates, CountsFit, axes, count_along, divides_pitch, is_count, last_point, points_a_node};
+ghost use Rattle.setup_file.specs.Grids.{AreCoordinates, CountsFit, axes, count_along, divides_pitch, grid_from, grid_numbers, is_count, last_point, points_a_node};
 ghost use Rattle.setup_file.specs.Reads.{each};
-ghost use Rattle.setup_file.specs.Tables.{grid_of, grid_with};
+ghost use Rattle.setup_file.specs.Tables.{grid_of};
 
 use crate::read::{METRE, all_ranged, number_at, numbers_at, only_if};
 use ray_grid::Grid;
@@ -20,7 +20,8 @@ const MOST_PER_NODE: u64 = 1000;
 /// The grid of its table.
 #[tactic(auto, unfolding(crate::specs::Tables::grid_of))]
 pub(crate) fn read_grid(table: &Table) -> Result<Grid, SetupFault>
-    ensures { result ≡ grid_of (table_view table.now) }
+    ensures { MatchResult result (λ grid. grid_of (table_view table.now) ≡ Ok (grid_numbers grid))
+        (λ fault. grid_of (table_view table.now) ≡ Err fault) }
 {
     let origin = numbers_at::<3>(table, KeyName::GridOrigin)?;
     all_ranged(&origin, KeyName::GridOrigin, -METRE, METRE)?;
@@ -118,14 +119,12 @@ fn grid_with(origin: &[i64; 3], pitch: i64, step: i64, counts: &[i64; 3]) -> Gri
     requires step { IsBetween (pos 1) pitch step }
     requires divides { divides_pitch pitch step ≡ true }
     requires counts { CountsFit origin.now pitch step counts.now }
-    ensures { grid_with origin.now pitch step counts.now ≡ Ok result }
+    ensures { grid_numbers result ≡ grid_from origin.now pitch step counts.now }
 {
-    let [x, y, z] = *origin;
-    let [along_x, along_y, along_z] = *counts;
     Grid {
-        origin: [x as i32, y as i32, z as i32],
+        origin: [origin[0] as i32, origin[1] as i32, origin[2] as i32],
         pitch: pitch as i32,
         step: step as i32,
-        counts: [along_x as u32, along_y as u32, along_z as u32],
+        counts: [counts[0] as u32, counts[1] as u32, counts[2] as u32],
     }
 }

@@ -1,7 +1,7 @@
 use Rattle.std.proofs.Common.{◌≡◌, Ok, pos, ◌*ℤ◌, ◌≤ℤ◌, ap, arith, rules}
 use Rattle.std.proofs.lemmas.Int.{ints}
 use Rattle.setup_file.specs.Limits.{most_tool_diameter, most_tool_height, most_tool_radius}
-use Rattle.setup_file.specs.GridShown.{int_le-from}
+use Rattle.setup_file.proofs.GridShown.{int_le-from}
 use Rattle.setup_file.specs.Tables.{tool_of}
 use Rattle.setup_file.proofs.Casts.{passed}
 use Rattle.setup_file.proofs.tool.read_tool.Goals as goal
