@@ -8,3 +8,4 @@ pub mod Raised
 pub mod Ends
 pub mod GridShown
 pub mod GridCasts
+pub mod Texts
