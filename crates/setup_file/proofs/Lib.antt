@@ -6,3 +6,6 @@ pub mod Coordinates
 pub mod Tools
 pub mod Raised
 pub mod Ends
+pub mod Planes
+pub mod Boxes
+pub mod BodyLists
