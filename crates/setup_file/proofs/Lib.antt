@@ -9,3 +9,6 @@ pub mod Ends
 pub mod GridShown
 pub mod GridCasts
 pub mod Texts
+pub mod Planes
+pub mod Boxes
+pub mod BodyLists

@@ -46,16 +46,19 @@ box_of key value = do
   _ ← each (end_along key ends) axes
   Ok (box_planes ends)
 
--- a plane: four whole numbers a, b, c, d, of which not all of a, b, c are 0
-unfoldable pub plane_of : KeyName → Data → Result Plane SetupFault
-plane_of key value = do
-  numbers ← of_kind key (numbers_in 4 value)
+-- the plane of four numbers a, b, c, d, of which not all of a, b, c are 0
+unfoldable pub plane_by : KeyName → List ℤ → Result Plane SetupFault
+plane_by key numbers = do
   a ← ranged key (neg_ℤ (pos most_normal)) (pos most_normal) (at numbers 0)
   b ← ranged key (neg_ℤ (pos most_normal)) (pos most_normal) (at numbers 1)
   c ← ranged key (neg_ℤ (pos most_normal)) (pos most_normal) (at numbers 2)
   d ← ranged key (neg_ℤ (pos most_right_side)) (pos most_right_side) (at numbers 3)
   _ ← only_if (not (is_zero numbers)) key (pos 0)
   Ok (plane a b c d)
+
+-- a plane: four whole numbers
+unfoldable pub plane_of : KeyName → Data → Result Plane SetupFault
+plane_of key value = of_kind key (numbers_in 4 value) >>= plane_by key
 
 -- a number of items in a list
 abbrev pub as_many : {A : Type 0} → KeyName → ℕ → ℕ → List A → Result ℤ SetupFault

@@ -45,7 +45,10 @@ fn read_bodies(alloc: Global, value: &Value, list: &BodyList) -> Result<Bodies, 
     }
     let mut bodies = Vec::new(alloc);
     for item in values {
-        let body = read_body(alloc, item, list)?;
+        let body = match read_body(alloc, item, list) {
+            Ok(body) => body,
+            Err(end) => return Err(end),
+        };
         if bodies.push(body).is_err() {
             return Err(SetupEnd::NoMemory);
         }

@@ -1,6 +1,9 @@
-ghost use Rattle.std.specs.Prelude.{◌≡◌, IfOk};
+ghost use Rattle.std.specs.Prelude.{◌≡◌, pos, neg_ℤ, IfOk};
+ghost use Rattle.space.specs.Ranges.{IsBetween};
+ghost use Rattle.space.specs.Vectors.{is_zero};
 ghost use Rattle.toml.specs.View.{view};
-ghost use Rattle.setup_file.specs.Bodies.{plane_of};
+ghost use Rattle.setup_file.specs.Bodies.{plane, plane_by, plane_of};
+ghost use Rattle.setup_file.specs.Limits.{most_normal, most_right_side};
 ghost use Rattle.setup_file.specs.Sound.{IsPlane};
 
 use crate::read::{numbers_in, only_if, ranged};
@@ -19,19 +22,47 @@ pub(crate) fn read_plane(value: &Value, key: KeyName) -> Result<Plane, SetupFaul
     ensures plane { result ≡ plane_of key (view value.now) }
     ensures ranges { IfOk result IsPlane }
 {
-    let Some(numbers) = numbers_in::<4>(value) else {
-        return Err(SetupFault::SetupKey(key));
-    };
-    let [a, b, c, d] = numbers;
-    ranged(key, -MOST_NORMAL, MOST_NORMAL, a)?;
-    ranged(key, -MOST_NORMAL, MOST_NORMAL, b)?;
-    ranged(key, -MOST_NORMAL, MOST_NORMAL, c)?;
-    ranged(key, -MOST_RIGHT_SIDE, MOST_RIGHT_SIDE, d)?;
-    only_if(a != 0 || b != 0 || c != 0, key, 0)?;
-    Ok(Plane {
+    match numbers_in::<4>(value) {
+        Some(numbers) => plane_by(numbers, key),
+        None => Err(SetupFault::SetupKey(key)),
+    }
+}
+
+/// The plane of four numbers, each in its range, with a normal.
+#[tactic(auto, unfolding(crate::specs::Bodies::plane_by))]
+fn plane_by(numbers: [i64; 4], key: KeyName) -> Result<Plane, SetupFault>
+    ensures plane { result ≡ plane_by key numbers }
+    ensures ranges { IfOk result IsPlane }
+{
+    let a = ranged(key, -MOST_NORMAL, MOST_NORMAL, numbers[0])?;
+    let b = ranged(key, -MOST_NORMAL, MOST_NORMAL, numbers[1])?;
+    let c = ranged(key, -MOST_NORMAL, MOST_NORMAL, numbers[2])?;
+    let d = ranged(key, -MOST_RIGHT_SIDE, MOST_RIGHT_SIDE, numbers[3])?;
+    only_if(!is_zero(numbers), key, 0)?;
+    Ok(plane_with(a, b, c, d))
+}
+
+/// Whether the first three numbers, a plane's normal, are all 0.
+fn is_zero(numbers: [i64; 4]) -> bool
+    ensures { result ≡ is_zero numbers }
+{
+    let [a, b, c, _] = numbers;
+    a == 0 && b == 0 && c == 0
+}
+
+/// The plane of these numbers.
+fn plane_with(a: i64, b: i64, c: i64, d: i64) -> Plane
+    requires a { IsBetween (neg_ℤ (pos most_normal)) (pos most_normal) a }
+    requires b { IsBetween (neg_ℤ (pos most_normal)) (pos most_normal) b }
+    requires c { IsBetween (neg_ℤ (pos most_normal)) (pos most_normal) c }
+    requires d { IsBetween (neg_ℤ (pos most_right_side)) (pos most_right_side) d }
+    ensures plane { result ≡ plane a b c d }
+    ensures ranges { IsPlane result }
+{
+    Plane {
         a: a as i32,
         b: b as i32,
         c: c as i32,
         d,
-    })
+    }
 }
