@@ -1,5 +1,5 @@
 -- The planes of a box in the code's own bits.
-use Rattle.std.proofs.Common.{◌≡◌, ◌<◌, ℤ, pos, neg_ℤ, ◌-ℤ◌, ◌≤ℤ◌, All, List, [], ◌∷◌, length, to_z, of_z, w64, FitsSigned, ap, ◌∙◌, arith}
+use Rattle.std.proofs.Common.{◌≡◌, ℤ, pos, neg_ℤ, ◌-ℤ◌, ◌≤ℤ◌, All, List, [], ◌∷◌, length, to_z, of_z, w64, FitsSigned, ap, ◌∙◌, arith}
 use Rattle.std.proofs.lemmas.Int.{ints, to_z-of_z}
 use Rattle.std.proofs.lemmas.List.Elements.{All-cons, All-nil}
 use Rattle.space.specs.Ranges.{IsBetween, metre}
@@ -58,35 +58,35 @@ negated_in : (z : ℤ) → IsBetween (neg_ℤ (pos metre)) (pos metre) z → IsB
 negated_in z h =
     let at_least : neg_ℤ (pos metre) ≤ℤ z = h.from_least in
     let at_most : z ≤ℤ pos metre = h.to_most in
-    record { from_least = omega (arith, ints); to_most = omega (arith, ints); }
+    record { from_least = omega (arith, ints); to_most = omega (arith, ints) }
 
 -- a component of an axis that points along it, against it, or stands across it
 abbrev IsUnit : ℤ → Type 0
 IsUnit z = IsBetween (neg_ℤ (pos 1)) (pos 1) z
 
 along : IsUnit (pos 1)
-along = record { from_least = omega (arith, ints); to_most = omega (arith, ints); }
+along = record { from_least = omega (arith, ints); to_most = omega (arith, ints) }
 
 across : IsUnit (pos 0)
-across = record { from_least = omega (arith, ints); to_most = omega (arith, ints); }
+across = record { from_least = omega (arith, ints); to_most = omega (arith, ints) }
 
 against : IsUnit (neg_ℤ (pos 1))
-against = record { from_least = omega (arith, ints); to_most = omega (arith, ints); }
+against = record { from_least = omega (arith, ints); to_most = omega (arith, ints) }
 
 unit_in : (z : ℤ) → IsUnit z → IsBetween (neg_ℤ (pos most_normal)) (pos most_normal) z
 unit_in z h =
     let at_least : neg_ℤ (pos 1) ≤ℤ z = h.from_least in
     let at_most : z ≤ℤ pos 1 = h.to_most in
-    record { from_least = omega (arith, ints); to_most = omega (arith, ints); }
+    record { from_least = omega (arith, ints); to_most = omega (arith, ints) }
 
 right_side_in : (z : ℤ) → IsBetween (neg_ℤ (pos metre)) (pos metre) z → IsBetween (neg_ℤ (pos most_right_side)) (pos most_right_side) z
 right_side_in z h =
     let at_least : neg_ℤ (pos metre) ≤ℤ z = h.from_least in
     let at_most : z ≤ℤ pos metre = h.to_most in
-    record { from_least = omega (arith, ints); to_most = omega (arith, ints); }
+    record { from_least = omega (arith, ints); to_most = omega (arith, ints) }
 
 side : (a b c d : ℤ) → IsUnit a → IsUnit b → IsUnit c → IsBetween (neg_ℤ (pos metre)) (pos metre) d → IsPlane (plane a b c d)
-side a b c d x y z w = record { a_in = unit_in a x; b_in = unit_in b y; c_in = unit_in c z; d_in = right_side_in d w; }
+side a b c d x y z w = record { a_in = unit_in a x; b_in = unit_in b y; c_in = unit_in c z; d_in = right_side_in d w }
 
 all_six : (p q r s t u : Plane) → IsPlane p → IsPlane q → IsPlane r → IsPlane s → IsPlane t → IsPlane u → All IsPlane (p ∷ q ∷ r ∷ s ∷ t ∷ u ∷ [])
 all_six p q r s t u h1 h2 h3 h4 h5 h6 =
@@ -99,15 +99,15 @@ box_valid ends e = record {
   some = omega arith;
   few = omega arith;
   planes = all_six
-    (plane (pos 1) (pos 0) (pos 0) (at ends 3)) (plane (neg_ℤ (pos 1)) (pos 0) (pos 0) (neg_ℤ (at ends 0)))
-    (plane (pos 0) (pos 1) (pos 0) (at ends 4)) (plane (pos 0) (neg_ℤ (pos 1)) (pos 0) (neg_ℤ (at ends 1)))
-    (plane (pos 0) (pos 0) (pos 1) (at ends 5)) (plane (pos 0) (pos 0) (neg_ℤ (pos 1)) (neg_ℤ (at ends 2)))
-    (side (pos 1) (pos 0) (pos 0) (at ends 3) along across across e.x1)
-    (side (neg_ℤ (pos 1)) (pos 0) (pos 0) (neg_ℤ (at ends 0)) against across across (negated_in (at ends 0) e.x0))
-    (side (pos 0) (pos 1) (pos 0) (at ends 4) across along across e.y1)
-    (side (pos 0) (neg_ℤ (pos 1)) (pos 0) (neg_ℤ (at ends 1)) across against across (negated_in (at ends 1) e.y0))
-    (side (pos 0) (pos 0) (pos 1) (at ends 5) across across along e.z1)
-    (side (pos 0) (pos 0) (neg_ℤ (pos 1)) (neg_ℤ (at ends 2)) across across against (negated_in (at ends 2) e.z0));
+      (plane (pos 1) (pos 0) (pos 0) (at ends 3)) (plane (neg_ℤ (pos 1)) (pos 0) (pos 0) (neg_ℤ (at ends 0)))
+      (plane (pos 0) (pos 1) (pos 0) (at ends 4)) (plane (pos 0) (neg_ℤ (pos 1)) (pos 0) (neg_ℤ (at ends 1)))
+      (plane (pos 0) (pos 0) (pos 1) (at ends 5)) (plane (pos 0) (pos 0) (neg_ℤ (pos 1)) (neg_ℤ (at ends 2)))
+      (side (pos 1) (pos 0) (pos 0) (at ends 3) along across across e.x1)
+      (side (neg_ℤ (pos 1)) (pos 0) (pos 0) (neg_ℤ (at ends 0)) against across across (negated_in (at ends 0) e.x0))
+      (side (pos 0) (pos 1) (pos 0) (at ends 4) across along across e.y1)
+      (side (pos 0) (neg_ℤ (pos 1)) (pos 0) (neg_ℤ (at ends 1)) across against across (negated_in (at ends 1) e.y0))
+      (side (pos 0) (pos 0) (pos 1) (at ends 5) across across along e.z1)
+      (side (pos 0) (pos 0) (neg_ℤ (pos 1)) (neg_ℤ (at ends 2)) across across against (negated_in (at ends 2) e.z0));
 }
 
 six_same : (p q r s t u a b c d e f : Plane) → p ≡ a → q ≡ b → r ≡ c → s ≡ d → t ≡ e → u ≡ f

@@ -1,5 +1,5 @@
 -- Three coordinates of a list.
-use Rattle.std.proofs.Common.{◌≡◌, ◌<◌, ℤ, pos, neg_ℤ, All, List, length, arith}
+use Rattle.std.proofs.Common.{◌≡◌, ℤ, pos, neg_ℤ, All, List, length, arith}
 use Rattle.space.specs.Ranges.{IsBetween, metre}
 use Rattle.setup_file.specs.Grids.{AreCoordinates}
 

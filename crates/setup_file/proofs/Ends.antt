@@ -1,9 +1,9 @@
 -- The last point along an axis in the code's own bits.
-use Rattle.std.proofs.Common.{◌≡◌, ℕ, ◌+◌, ◌-◌, ◌*◌, ◌/◌, ◌≤◌, ℤ, pos, neg_ℤ, ◌+ℤ◌, ◌≤ℤ◌, unsigned_abs, to_z, of_z, w64, FitsSigned, ap, ap₂, sym, ◌∙◌, arith}
+use Rattle.std.proofs.Common.{◌≡◌, ℕ, ◌-◌, ◌*◌, ◌≤◌, ℤ, pos, neg_ℤ, ◌+ℤ◌, ◌≤ℤ◌, unsigned_abs, to_z, of_z, w64, FitsSigned, ap, ap₂, ◌∙◌, arith}
 use Rattle.std.proofs.lemmas.Int.{ints, to_z-of_z, to_z_pos}
 use Rattle.space.specs.Ranges.{IsBetween, metre}
-use Rattle.ray_grid.specs.Ranges.{most_nodes, most_per_node}
-use Rattle.setup_file.specs.Grids.{last_point, points_a_node}
+use Rattle.ray_grid.specs.Ranges.{most_nodes}
+use Rattle.setup_file.specs.Grids.{points_a_node}
 use Rattle.setup_file.proofs.Points.{last_within, some_points}
 use borrow.Author.Differences.{abs_is as size_is}
 use Rattle.std.proofs.Math.Nat.{mul-le-mul}

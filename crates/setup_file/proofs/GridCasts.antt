@@ -1,5 +1,5 @@
 -- The numbers of a grid, cast to the bits that they are kept in.
-use Rattle.std.proofs.Common.{◌≡◌, true, ℕ, ◌≤◌, ℤ, pos, neg_ℤ, ◌≤ℤ◌, unsigned_abs, to_z, of_z, w32, w64, List, ap, arith}
+use Rattle.std.proofs.Common.{◌≡◌, true, ℤ, pos, neg_ℤ, ◌≤ℤ◌, unsigned_abs, to_z, of_z, w32, w64, List, ap, arith}
 use Rattle.std.specs.Prelude.{int_le}
 use Rattle.std.proofs.lemmas.Bool.{and_parts}
 use Rattle.std.proofs.lemmas.Int.{ints}

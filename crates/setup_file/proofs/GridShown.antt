@@ -1,5 +1,5 @@
 -- Numbers that pass the tests of a grid make one.
-use Rattle.std.proofs.Common.{◌≡◌, ℕ, ◌<◌, ◌≤◌, ◌%◌, ◌==◌, ◌&&◌, nat_le, ℤ, pos, neg_ℤ, ◌≤ℤ◌, unsigned_abs, Bool, true, List, [], ◌∷◌, refl, arith}
+use Rattle.std.proofs.Common.{◌≡◌, ℕ, ◌%◌, ◌==◌, nat_le, ℤ, pos, neg_ℤ, ◌≤ℤ◌, unsigned_abs, true, List, [], ◌∷◌, refl, arith}
 use Rattle.std.specs.Prelude.{int_le}
 use Rattle.std.proofs.lemmas.Bool.{and_parts}
 use Rattle.std.proofs.lemmas.Int.{ints}

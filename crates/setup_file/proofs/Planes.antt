@@ -1,5 +1,5 @@
 -- A plane's numbers, judged one after the other.
-use Rattle.std.proofs.Common.{◌≡◌, ℤ, pos, neg_ℤ, not, List, Result, Ok, Err, sym, ap, ◌∙◌}
+use Rattle.std.proofs.Common.{◌≡◌, ℤ, pos, neg_ℤ, not, List, Result, Ok, sym, ap, ◌∙◌}
 use Rattle.space.specs.Vectors.{at, is_zero}
 use Rattle.ray_shapes.specs.declared.plane.Plane.{Plane}
 use Rattle.setup_keys.specs.declared.fault.SetupFault.{SetupFault}

@@ -1,9 +1,8 @@
 -- A plane's right side raised, in the code's own bits.
-use Rattle.std.proofs.Common.{◌≡◌, ℕ, ◌*◌, ◌≤◌, ℤ, pos, neg_ℤ, ◌+ℤ◌, ◌*ℤ◌, ◌≤ℤ◌, to_z, of_z, w64, FitsSigned, refl, ap, ap₂, sym, ◌∙◌, arith}
+use Rattle.std.proofs.Common.{◌≡◌, ℕ, ◌≤◌, ℤ, pos, neg_ℤ, ◌+ℤ◌, ◌*ℤ◌, ◌≤ℤ◌, to_z, of_z, w64, FitsSigned, ap, ap₂, ◌∙◌, arith}
 use Rattle.std.proofs.lemmas.Int.{ints, to_z-of_z}
 use Rattle.space.specs.Ranges.{IsBetween}
 use Rattle.ray_shapes.proofs.Products.{product_within}
-use Rattle.ray_shapes.specs.declared.plane.Plane.{Plane}
 use Rattle.setup_file.specs.Bodies.{plane}
 use Rattle.setup_file.specs.Limits.{most_clearance, most_right_side}
 

@@ -1,8 +1,8 @@
 -- A tool of numbers in their ranges is a valid cutter.
-use Rattle.std.proofs.Common.{◌≡◌, ℕ, ◌*◌, ◌≤◌, ℤ, pos, ◌*ℤ◌, ◌≤ℤ◌, unsigned_abs, refl, inl, arith}
+use Rattle.std.proofs.Common.{ℤ, pos, ◌*ℤ◌, ◌≤ℤ◌, unsigned_abs, refl, inl, arith}
 use Rattle.std.proofs.lemmas.Int.{ints}
 use Rattle.space.specs.Ranges.{IsBetween}
-use Rattle.cutter_slabs.specs.Cutter.{CutterSize, IsCutter}
+use Rattle.cutter_slabs.specs.Cutter.{IsCutter}
 use Rattle.setup_file.specs.Limits.{most_tool_diameter, most_tool_height, most_tool_radius}
 use borrow.Author.Differences.{abs_is as size_is}
 

@@ -1,5 +1,5 @@
 -- The lists of bodies `stock`, `part` and `fixture`: what each sets, or its first fault. Lengths are micrometres.
-use Rattle.std.specs.Prelude.{ℕ, ◌+◌, ℤ, pos, neg_ℤ, int_le, not, Bool, true, false, List, [], ◌∷◌, length, Option, Some, None, Result, Ok, Err, if◌then◌else◌}
+use Rattle.std.specs.Prelude.{ℕ, ◌+◌, ℤ, pos, neg_ℤ, int_le, not, true, false, List, [], ◌∷◌, length, Option, Some, None, Result, Ok, Err, if◌then◌else◌}
 use Rattle.toml.specs.Data.{Data, Members, as_table}
 use Rattle.space.specs.Ranges.{metre}
 use Rattle.space.specs.Vectors.{at, is_zero}
@@ -11,7 +11,7 @@ use Rattle.setup_keys.specs.declared.key.KeyName.{KeyName}
 use Rattle.setup_keys.specs.declared.key.KeyName.TheVariants as keys
 use Rattle.setup_file.specs.Grids.{axes}
 use Rattle.setup_file.specs.Limits.{most_normal, most_other_bodies, most_planes, most_right_side, most_stock_bodies}
-use Rattle.setup_file.specs.Reads.{◌>>=◌, all_of, each, entry_at, is_between, list_in, numbers_in, of_kind, only_if, ranged}
+use Rattle.setup_file.specs.Reads.{◌>>=◌, all_of, each, entry_at, list_in, numbers_in, of_kind, only_if, ranged}
 
 -- the lists: their keys, how many bodies each has, and whether it has to be there
 abbrev pub stock_list : BodyList

@@ -1,6 +1,5 @@
 -- The tests of a grid's numbers. Lengths are micrometres.
 use Rattle.std.specs.Prelude.{◌≡◌, true, ℕ, ◌-◌, ◌*◌, ◌/◌, ◌%◌, ◌==◌, ◌&&◌, nat_le, ℤ, pos, neg_ℤ, ◌+ℤ◌, int_le, unsigned_abs, Bool, List, [], ◌∷◌, map, Result}
-use Rattle.std.specs.List.{list_all}
 use Rattle.space.specs.Ranges.{IsBetween, metre}
 use Rattle.space.specs.Vectors.{at}
 use Rattle.ray_grid.specs.Ranges.{most_nodes, most_per_node}

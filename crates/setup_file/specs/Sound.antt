@@ -1,7 +1,6 @@
 -- What is true of every setup that is read. Lengths are micrometres.
-use Rattle.std.specs.Prelude.{◌≡◌, ℕ, ◌≤◌, ℤ, pos, neg_ℤ, List, All, length, false}
+use Rattle.std.specs.Prelude.{◌≡◌, ℕ, ◌≤◌, pos, neg_ℤ, List, All, length}
 use Rattle.space.specs.Ranges.{IsBetween}
-use Rattle.space.specs.Vectors.{is_zero}
 use Rattle.cutter_slabs.specs.Cutter.{CutterSize, IsCutter}
 use Rattle.ray_shapes.specs.declared.plane.Plane.{Plane}
 use Rattle.setup_file.specs.declared.check.Check.{Check}

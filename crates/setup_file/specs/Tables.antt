@@ -1,5 +1,5 @@
 -- The tables `grid`, `check` and `tool`: what each sets, or its first fault. Lengths are micrometres.
-use Rattle.std.specs.Prelude.{pos, neg_ℤ, ◌*ℤ◌, int_le, unsigned_abs, Result, Ok, Err}
+use Rattle.std.specs.Prelude.{pos, neg_ℤ, ◌*ℤ◌, int_le, unsigned_abs, Result, Ok}
 use Rattle.toml.specs.Data.{Members}
 use Rattle.space.specs.Ranges.{metre}
 use Rattle.cutter_slabs.specs.Cutter.{CutterSize}

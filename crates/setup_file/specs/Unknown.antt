@@ -1,5 +1,5 @@
 -- Keys that no table of a setup may hold.
-use Rattle.std.specs.Prelude.{Bool, ◌||◌, not, false, List, [], ◌∷◌, Option, Some, None, find, filter_map}
+use Rattle.std.specs.Prelude.{Bool, ◌||◌, not, false, List, [], ◌∷◌, Option, Some, find, filter_map}
 use Rattle.std.specs.List.{list_any}
 use Rattle.toml.specs.Data.{Data, array, table, Members, no_members, member, as_table}
 use Rattle.setup_keys.specs.declared.key.KeyName.{KeyName}

@@ -16,6 +16,3 @@ mod unknown;
 pub use setup::{Setup, read_setup};
 pub use setup_keys::{KeyName, SetupEnd, SetupFault};
 pub use shift::shifted;
-
-#[cfg(test)]
-mod tests;

@@ -1,7 +1,7 @@
-use Rattle.std.proofs.Common.{◌≡◌, ◌-◌, ◌*◌, ◌+ℤ◌, ◌≤◌, pos, unsigned_abs, to_z, of_z, w64, FitsSigned, ap, ap₂, subst, sym, ◌∙◌, arith}
+use Rattle.std.proofs.Common.{◌-◌, ◌*◌, ◌≤◌, unsigned_abs, ap, ap₂, ◌∙◌, arith}
 use Rattle.std.proofs.lemmas.Int.{ints, to_z-of_z}
 use Rattle.setup_file.specs.Grids.{points_a_node}
-use Rattle.setup_file.proofs.Ends.{LastFits, last_fits}
+use Rattle.setup_file.proofs.Ends.{last_fits}
 use Rattle.setup_file.proofs.grid.last_point.Goals as goal
 
 pub overflow_sub-result : goal.overflow_sub-result

@@ -1,4 +1,4 @@
-use Rattle.std.proofs.Common.{◌≡◌, false, IsTrue}
+use Rattle.std.proofs.Common.{false, IsTrue}
 use Rattle.setup_file.proofs.Texts.{setup_of-read, setup_of-refused}
 use Rattle.setup_file.proofs.setup.read_setup.Goals as goal
 

@@ -1,4 +1,4 @@
-use Rattle.std.proofs.Common.{◌≡◌, map, take}
+use Rattle.std.proofs.Common.{◌≡◌, take}
 use Rattle.setup_file.specs.Shift.{shifted_of}
 use Rattle.setup_file.proofs.shift.shifted.Given as goal
 

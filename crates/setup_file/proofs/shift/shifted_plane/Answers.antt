@@ -1,4 +1,4 @@
-use Rattle.std.proofs.Common.{◌≡◌, pos, ◌+ℤ◌, ◌*ℤ◌, ap, sym, ◌∙◌, rules, w32, w64, FitsSigned}
+use Rattle.std.proofs.Common.{pos, ◌+ℤ◌, ◌*ℤ◌, ap, ◌∙◌, rules, w32, FitsSigned}
 use Rattle.std.proofs.lemmas.Int.{to_z-of_z}
 use Rattle.setup_file.proofs.Raised.{raises, same_plane}
 use Rattle.setup_file.proofs.shift.shifted_plane.Goals as goal

@@ -1,4 +1,4 @@
-use Rattle.std.proofs.Common.{◌≡◌, Ok, pos, ◌*ℤ◌, ◌≤ℤ◌, ap, arith, rules}
+use Rattle.std.proofs.Common.{Ok, pos, ◌*ℤ◌, ◌≤ℤ◌, ap, arith, rules}
 use Rattle.std.proofs.lemmas.Int.{ints}
 use Rattle.setup_file.specs.Limits.{most_tool_diameter, most_tool_height, most_tool_radius}
 use Rattle.setup_file.proofs.GridShown.{int_le-from}

@@ -1,7 +1,4 @@
-use Rattle.std.proofs.Common.{◌≡◌, ◌||◌, true, false, ap, sym, ◌∙◌}
-use Rattle.std.specs.List.{filter_map, list_any}
-use Rattle.toml.specs.Data.{as_table}
-use Rattle.toml.specs.View.{view}
+use Rattle.std.proofs.Common.{sym, ◌∙◌}
 use Rattle.setup_file.proofs.Unknowns.{unknown-more}
 use Rattle.setup_file.proofs.unknown.list_has_unknown.Goals as goal
 

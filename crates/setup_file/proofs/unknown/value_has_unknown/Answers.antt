@@ -1,4 +1,4 @@
-use Rattle.std.proofs.Common.{◌≡◌, map, ap, sym, ◌∙◌}
+use Rattle.std.proofs.Common.{map, ap, sym, ◌∙◌}
 use Rattle.std.specs.List.{filter_map, list_any}
 use Rattle.toml.specs.Data.{as_table}
 use Rattle.toml.specs.View.{view}
