@@ -56,59 +56,8 @@ GODLTA/0,0,15\n\
 END\n\
 FINI\n";
 
-const LISTING: &str = "clverify list 1\n\
-move 1 line 11 rapid from 0 0 50000 to 10000 0 20000 axis 0 0 100000 to 0 0 100000 cutter 10000 1000 50000\n\
-move 2 line 13 cut from 10000 0 20000 to 10000 0 5000 axis 0 0 100000 to 0 17365 98481 cutter 10000 1000 50000\n\
-move 3 line 15 cut from 10000 0 5000 to 10000 0 20000 axis 0 17365 98481 to 0 17365 98481 cutter 10000 1000 50000\n\
-moves 3 passed 6\n";
-
 /// A conical cutter that stands still, upright.
 const CONE: &[u8] = b"CUTTER/2,0,1,0,0,45,5\nFROM/1,1,0\nGOTO/1,1,0\n";
-
-const CONE_LISTING: &str = "clverify list 1\n\
-move 1 line 3 cut from 1000 1000 0 to 1000 1000 0 axis 0 0 100000 to 0 0 100000 cutter 2000 0 5000 flank 45\n\
-moves 1 passed 0\n";
-
-#[test]
-fn lists_and_refuses_files(rt: HostRuntime) -> Result<(), Fail> {
-    let rows: [(&[u8], u8, &str); 9] = [
-        (SAMPLE, 0, LISTING),
-        (b"", 0, "clverify list 1\nmoves 0 passed 0\n"),
-        (b"GOTO/1,x,2\n", 3, "refused: cl line 1: NumberSyntax\n"),
-        (b"\ntllft/1", 3, "refused: cl line 2: Unsupported TLLFT\n"),
-        (CONE, 0, CONE_LISTING),
-        (
-            b"CUTTER/2,0,1,0,0,4,5",
-            3,
-            "refused: cl line 1: CutterShape\n",
-        ),
-        (
-            b"CUTTER/2,0,1,0,0,45",
-            3,
-            "refused: cl line 1: CutterShape\n",
-        ),
-        (
-            b"CUTTER/2,0,1,0,0,45,100",
-            3,
-            "refused: cl line 1: CutterShape\n",
-        ),
-        (
-            b"CUTTER/2,0,1,0,0,45,99",
-            0,
-            "clverify list 1\nmoves 0 passed 0\n",
-        ),
-    ];
-    for (number, (file, code, text)) in rows.iter().enumerate() {
-        let (status, written) = answer(rt.alloc(), &["list", "a.cls"], file, &[], &[])?;
-        assert_eq!(rt; status.code(), *code, "the code of file {number}");
-        assert_eq!(rt;
-            written.as_slice(),
-            text.as_bytes(),
-            "the text of file {number}"
-        );
-    }
-    Ok(())
-}
 
 /// An axis that turns from z to x while the tip stands still.
 const TURNING: &[u8] = b"CUTTER/2,0\nFROM/0,0,0,0,0,1\nGOTO/0,0,0,1,0,0\n";
@@ -319,43 +268,6 @@ fn faults_outside_are_told_apart(rt: HostRuntime) -> Result<(), Fail> {
             "the reads {reads:?} and writes {writes:?}"
         );
     }
-    Ok(())
-}
-
-#[test]
-fn limits_are_exact(rt: HostRuntime) -> Result<(), Fail> {
-    let mut bytes = Vec::new(rt.alloc());
-    bytes.extend_from_slice(b"FROM/0,0,0\n")?;
-    for _ in 0..50_000 {
-        bytes.extend_from_slice(b"GOTO/0,0,1\n")?;
-    }
-    let (status, written) = answer(rt.alloc(), &["list", "a.cls"], &bytes, &[], &[])?;
-    assert_eq!(rt; status, Status::Clean, "50,000 moves");
-    assert!(rt;
-        written.ends_with(b"moves 50000 passed 0\n"),
-        "50,000 moves"
-    );
-    bytes.extend_from_slice(b"GOTO/0,0,1\n")?;
-    let (_, written) = answer(rt.alloc(), &["list", "a.cls"], &bytes, &[], &[])?;
-    assert_eq!(rt;
-        written.as_slice(),
-        b"refused: cl line 50002: TooManyMoves\n".as_slice(),
-        "50,001 moves"
-    );
-    let mut long = vec![in rt.alloc(); b'x'; 67_108_864]?;
-    let (_, written) = answer(rt.alloc(), &["list", "a.cls"], &long, &[], &[])?;
-    assert_eq!(rt;
-        written.as_slice(),
-        b"refused: cl line 1: LineLong\n".as_slice(),
-        "67,108,864 bytes"
-    );
-    long.push(b'x')?;
-    let (_, written) = answer(rt.alloc(), &["list", "a.cls"], &long, &[], &[])?;
-    assert_eq!(rt;
-        written.as_slice(),
-        b"refused: cl: TooLong\n".as_slice(),
-        "67,108,865 bytes"
-    );
     Ok(())
 }
 

@@ -19,11 +19,7 @@ const CALLS: [(&str, Option<&str>, Result<&str, Failed>); 12] = [
 ];
 
 /// A shelf of these files, of whose calls one fails.
-pub(crate) fn shelf_of(
-    alloc: Global,
-    files: &[(&str, &[u8])],
-    failing: u64,
-) -> Result<MemShelf, Fail> {
+fn shelf_of(alloc: Global, files: &[(&str, &[u8])], failing: u64) -> Result<MemShelf, Fail> {
     let mut shelved = Vec::new(alloc);
     for (name, bytes) in files {
         shelved.push((name.to_string(alloc)?, bytes.to_vec(alloc)?))?;
