@@ -14,3 +14,6 @@ pub use edit::{Edit, Edits, MAX_EDITS};
 pub use fault::{ScriptEnd, ScriptFault, ScriptWhy};
 pub use query::{Ask, MAX_QUERIES, Queries, Query};
 pub use script::{MAX_SCRIPT_BYTES, Script, fits_script, read_script, whole_script};
+
+#[cfg(test)]
+mod tests;

@@ -1,7 +1,0 @@
-pub mod Listed
-pub mod Points
-pub mod Unknowns
-pub mod Casts
-pub mod Tools
-pub mod Raised
-pub mod Ends
