@@ -7,8 +7,8 @@ ghost use Rattle.clverify.specs.Marks.{AreTrueMarks, IsMarkedTruly, mark_for, ma
 use crate::commands::Question;
 use crate::cutters::{Usual, cutter_of, sweep_of};
 use axis_cells::Mark;
-use cl_moves::Move;
 use box_bisect::mark_point_uncounted;
+use cl_moves::Move;
 use cutter_slabs::{Cutter, Stacks};
 use std::alloc::Global;
 use std::marker::Model;
