@@ -2,7 +2,8 @@
 use Rattle.std.specs.Prelude.{ℕ, List, ◌++◌, codes, decimal}
 use Rattle.edit_plan.specs.declared.fault.ScriptFault.{ScriptFault}
 use Rattle.edit_plan.specs.declared.fault.ScriptWhy.{ScriptWhy}
-use Rattle.edit_plan.specs.declared.fault.ScriptWhy.TheVariants.{ScriptSyntax, ScriptRange, UndoDepth, TooManyEdits, TooManyQueries, RedoDepth}
+use Rattle.edit_plan.specs.declared.fault.ScriptWhy.TheVariants.{ScriptSyntax, ScriptRange, UndoDepth}
+use Rattle.edit_plan.specs.declared.fault.ScriptWhy.TheVariants.{TooManyEdits, TooManyQueries, RedoDepth}
 
 -- how many moves were asked for, and how many there are
 abbrev pub depths_text : ℕ → ℕ → List ℕ
