@@ -1,0 +1,20 @@
+use Rattle.std.proofs.Common.{◌≡◌, ◌≤ℤ◌, ◌*ℤ◌, ◌+ℤ◌, ◌-ℤ◌, ◌*◌, ℤ, pos, unsigned_abs, FitsSigned, arith, rules, refl, subst, sym}
+use Rattle.std.proofs.lemmas.Int.{ints, to_z-of_z}
+use mir.Syntax.{w128}
+use borrow.Author.Differences.{abs_is}
+use Rattle.space.specs.Vectors.{at}
+use Rattle.sweep_boxes.proofs.Numbers.{change_below, squares_below}
+use Rattle.sweep_boxes.proofs.change.change_limit.Goals as goal
+
+pub returns-clause-value : goal.returns-clause-value
+returns-clause-value c v e near small =
+    let x : FitsSigned w128 c.change_along.result = search rules in
+    let y : FitsSigned w128 c.change_along-2.result = search rules in
+    let z : FitsSigned w128 c.change_along-3.result = search rules in
+    let r : FitsSigned w128 c.length_up.result = search rules in
+    let t = c.args.turn.now in let f = c.args.far.now in let d = c.args.c.now in
+    simp to_z-of_z (squares_below _ _ _ c.change_along.result c.change_along-2.result c.change_along-3.result _
+    (change_below (at d 0) (at v 1) (at v 2) (at e 1) (at e 2) (at f 1) (at f 2) (at t 1) (at t 2) c.change_along.result near.y near.z small.y small.z c.change_along.ensures.value)
+    (change_below (at d 1) (at v 2) (at v 0) (at e 2) (at e 0) (at f 2) (at f 0) (at t 2) (at t 0) c.change_along-2.result near.z near.x small.z small.x c.change_along-2.ensures.value)
+    (change_below (at d 2) (at v 0) (at v 1) (at e 0) (at e 1) (at f 0) (at f 1) (at t 0) (at t 1) c.change_along-3.result near.x near.y small.x small.y c.change_along-3.ensures.value)
+    (simp to_z-of_z at c.length_up.ensures.value))

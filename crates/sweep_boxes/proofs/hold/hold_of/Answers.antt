@@ -1,0 +1,49 @@
+use Rattle.std.proofs.Common.{◌≡◌, ◌≤◌, ◌≤ℤ◌, ◌*ℤ◌, ◌+ℤ◌, ◌-ℤ◌, ◌*◌, ◌+◌, ◌^◌, List, ℕ, ℤ, pos, to_z, of_z, unsigned_abs, FitsSigned, arith, rules, refl, subst, sym}
+use Rattle.std.proofs.lemmas.Int.{ints, to_z-of_z}
+use mir.Syntax.{w32, w128}
+use borrow.Author.Differences.{abs_is}
+use Rattle.space.specs.Vectors.{dot}
+use Rattle.sweep_boxes.specs.Pieces.{IsHeldOn, middle_axis, middle_offset}
+use Rattle.sweep_boxes.specs.Vectors.{cross}
+use Rattle.sweep_boxes.specs.Held.{IsGrown}
+use Rattle.sweep_boxes.proofs.Holding.{held_on}
+use Rattle.sweep_boxes.proofs.hold.hold_of.Goals as goal
+
+above_lift : (lift u : ℤ) (n : ℕ) → lift ≡ pos n → (pos 0 -ℤ pos n) ≤ℤ u → (pos 0 -ℤ lift) ≤ℤ u
+above_lift lift u n e h = omega (arith, ints, e, h)
+
+below_top : (top lift u : ℤ) (n : ℕ) → lift ≡ pos n → pos 0 ≤ℤ top → u ≤ℤ pos (unsigned_abs top + n) → u ≤ℤ (top +ℤ lift)
+below_top top lift u n e some h = omega (arith, ints, e, some, h, abs_is top)
+
+beside_all : (grow z : ℤ) (n : ℕ) → grow ≡ pos n → z ≤ℤ pos (n * n) → z ≤ℤ (grow *ℤ grow)
+beside_all grow z n e h = subst (λ (y : ℤ). z ≤ℤ (y *ℤ y)) (sym e) (omega (arith, ints, h))
+
+pub returns : goal.returns
+returns c m k S slabs p of large among left =
+    let a : FitsSigned w128 c.least_of.result = search rules in
+    let b : FitsSigned w128 c.most_of.result = search rules in
+    let d : FitsSigned w128 c.grown.result = search rules in
+    let e : FitsSigned w128 c.lift_of-lift.result = search rules in
+    let f : FitsSigned w128 c.radius-top.result = search rules in
+    let w : FitsSigned w32 c.args.widest = search rules in
+    let t : FitsSigned w32 c.args.highest = search rules in
+    let x : FitsSigned w128 c.args.piece.now.longest = search rules in
+    let v = middle_offset m p k S in let axis = middle_axis m k S in
+    let near = c.farthest-far.ensures.value v among in
+    let lift = c.lift_of-lift.ensures.value in let grow : IsGrown c.grown.result c.args.piece.now c.args.widest c.farthest-far.result =
+        subst (λ (z : ℤ). IsGrown c.grown.result c.args.piece.now z c.farthest-far.result) (to_z-of_z w32 c.args.widest w) c.grown.ensures.value in
+    let held = held_on c.args.piece.now m k S slabs p c.args.widest c.args.highest c.lift_of-lift.result c.grown.result c.radius-top.result c.farthest-far.result of large left near lift grow c.radius-top.ensures.some (simp to_z-of_z at c.radius-top.ensures.value) in
+    let above : (pos 0 -ℤ c.lift_of-lift.result) ≤ℤ dot v axis = above_lift c.lift_of-lift.result (dot v axis) (lift.v + lift.b) lift.total_is held.0 in
+    let below : dot v axis ≤ℤ (c.radius-top.result +ℤ c.lift_of-lift.result) = below_top c.radius-top.result c.lift_of-lift.result (dot v axis) (lift.v + lift.b) lift.total_is c.radius-top.ensures.some held.1 in
+    let least : c.least_of.result ≤ℤ dot v axis =
+        subst (λ (y : List ℤ). c.least_of.result ≤ℤ dot v y) of.axis
+        (c.least_of.ensures.value v among (subst (λ (y : List ℤ). (pos 0 -ℤ to_z w128 (of_z w128 c.lift_of-lift.result)) ≤ℤ dot v y) (sym of.axis) (simp to_z-of_z above))) in
+    let most : dot v axis ≤ℤ c.most_of.result =
+        subst (λ (y : List ℤ). dot v y ≤ℤ c.most_of.result) of.axis
+        (c.most_of.ensures.value v among (subst (λ (y : List ℤ). dot v y ≤ℤ (to_z w128 (of_z w128 c.radius-top.result) +ℤ to_z w128 (of_z w128 c.lift_of-lift.result))) (sym of.axis) (simp to_z-of_z below))) in
+    simp to_z-of_z
+    (record {
+      above = least;
+      below = most;
+      beside = beside_all c.grown.result (dot (cross v axis) (cross v axis)) (grow.r + (grow.m + grow.n)) grow.total_is held.2;
+    })

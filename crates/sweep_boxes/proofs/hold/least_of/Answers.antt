@@ -1,0 +1,20 @@
+use Rattle.std.proofs.Common.{◌≡◌, ◌≤◌, ◌≤ℤ◌, ◌*ℤ◌, ◌+ℤ◌, ◌-ℤ◌, ◌*◌, ◌+◌, ◌^◌, List, ℕ, ℤ, pos, unsigned_abs, FitsSigned, arith, rules, refl, subst, sym}
+use Rattle.std.proofs.lemmas.Int.{ints, to_z-of_z}
+use mir.Syntax.{w32, w128}
+use borrow.Author.Differences.{abs_is}
+use Rattle.space.specs.Vectors.{dot}
+use Rattle.sweep_boxes.proofs.Numbers.{minus_fits}
+use Rattle.sweep_boxes.proofs.hold.least_of.Goals as goal
+
+pub overflow_sub-lift : goal.overflow_sub-lift
+overflow_sub-lift c = let l = c.ranges.lift in let m = minus_fits c.args.lift c.requires.lift in simp to_z-of_z m
+
+pub greater-requires-clause-b : goal.greater-requires-clause-b
+greater-requires-clause-b c = omega (arith, ints, c.requires.lift, abs_is c.args.lift)
+
+pub returns-clause-value : goal.returns-clause-value
+returns-clause-value c v among above =
+    let l = c.ranges.lift in let m = minus_fits c.args.lift c.requires.lift in
+    let r : FitsSigned w128 c.greater.result = search rules in
+    let d : FitsSigned w128 c.least_dot.result = search rules in
+    simp to_z-of_z (c.greater.ensures.value (dot v c.args.axis.now) (simp to_z-of_z (c.least_dot.ensures.value v among)) (simp to_z-of_z above))

@@ -1,0 +1,20 @@
+use Rattle.std.proofs.Common.{◌≡◌, ◌≤ℤ◌, pos, ◌*ℤ◌, FitsSigned, arith, rules}
+use Rattle.std.proofs.lemmas.Int.{ints}
+use mir.Syntax.{w128}
+use borrow.Author.Differences.{abs_is}
+use Rattle.space.specs.Vectors.{at}
+use Rattle.sweep_boxes.proofs.Numbers.{product_anti, product_mono}
+use Rattle.sweep_boxes.proofs.offsets.least_product.Goals as goal
+
+pub returns-then-a-i-lt0-clause-value : goal.returns-then-a-i-lt0-clause-value
+returns-then-a-i-lt0-clause-value c z l h =
+    let a : FitsSigned w128 (at c.args.a.now c.args.i) = search rules in
+    let other : (at c.args.high.now c.args.i *ℤ at c.args.a.now c.args.i) ≤ℤ (z *ℤ at c.args.a.now c.args.i) = product_anti (at c.args.a.now c.args.i) z (at c.args.high.now c.args.i) (omega (arith, ints, a, c.if-a-i-lt0.true)) h in
+    omega (arith, ints, other, c.product.ensures.value, c.product.ensures.small, abs_is c.product.result)
+
+pub returns-else-a-i-lt0-clause-value : goal.returns-else-a-i-lt0-clause-value
+returns-else-a-i-lt0-clause-value c z l h =
+    let a : FitsSigned w128 (at c.args.a.now c.args.i) = search rules in
+    let other : (at c.args.low.now c.args.i *ℤ at c.args.a.now c.args.i) ≤ℤ (z *ℤ at c.args.a.now c.args.i) = product_mono (at c.args.a.now c.args.i) (at c.args.low.now c.args.i) z (omega (arith, ints, a, c.if-a-i-lt0.false)) l in
+    let r = c.product-else-a-i-lt0 in
+    omega (arith, ints, other, r.ensures.value, r.ensures.small, abs_is r.result)

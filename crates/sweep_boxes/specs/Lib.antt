@@ -1,0 +1,6 @@
+pub mod Limits
+pub mod Vectors
+pub mod Pieces
+pub mod Made
+pub mod Boxes
+pub mod Held

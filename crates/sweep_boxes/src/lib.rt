@@ -1,0 +1,13 @@
+//! Boxes that hold all points which a part of a move may meet.
+#![tactic(auto)]
+
+mod change;
+mod cut;
+mod held;
+mod hold;
+mod offsets;
+mod piece;
+mod point_box;
+mod vector;
+
+pub use point_box::PointBox;

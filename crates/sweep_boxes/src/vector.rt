@@ -1,0 +1,122 @@
+ghost use Rattle.std.specs.Prelude.{◌≡◌, ◌*◌, ◌<◌, ◌≤◌, ◌*ℤ◌, ◌-ℤ◌, ℤ, List, pos, ◌≤ℤ◌, ◌+ℤ◌, ◌^◌, unsigned_abs};
+ghost use Rattle.space.specs.Ranges.{IsWithin};
+ghost use Rattle.space.specs.Vectors.{at, dot};
+ghost use Rattle.sweep_boxes.specs.Limits.{place_limit, side_limit};
+ghost use Rattle.sweep_boxes.specs.Vectors.{cross, difference};
+
+use bern_form::isqrt_ceil;
+
+/// A place with a weight.
+#[inline]
+pub fn weighted(weight: u32, place: i32) -> i128
+    requires weight { weight ≤ 256 }
+    requires place { unsigned_abs place ≤ place_limit }
+    ensures value { result ≡ pos weight *ℤ place }
+    ensures small { unsigned_abs result ≤ weight * place_limit }
+{
+    i128::from(weight) * i128::from(place)
+}
+
+/// The product of component `i` of a vector and component `j` of another.
+#[inline]
+pub fn product(p: &[i128; 3], i: usize, a: &[i128; 3], j: usize) -> i128
+    requires i { i < 3 }
+    requires j { j < 3 }
+    requires p { unsigned_abs (at p.now i) ≤ side_limit }
+    requires a { unsigned_abs (at a.now j) ≤ side_limit }
+    ensures value { result ≡ at p.now i *ℤ at a.now j }
+    ensures small { unsigned_abs result ≤ side_limit * side_limit }
+{
+    p[i] * a[j]
+}
+
+/// The scalar product of two vectors.
+pub fn dot(p: &[i128; 3], a: &[i128; 3]) -> i128
+    requires p { IsWithin side_limit p.now }
+    requires a { IsWithin side_limit a.now }
+    ensures value { result ≡ dot p.now a.now }
+    ensures small { unsigned_abs result ≤ 3 * (side_limit * side_limit) }
+{
+    product(p, 0, a, 0) + product(p, 1, a, 1) + product(p, 2, a, 2)
+}
+
+/// The component of a cross product that is made of the components `i` and `j`.
+#[inline]
+fn minor(p: &[i128; 3], a: &[i128; 3], i: usize, j: usize) -> i128
+    requires i { i < 3 }
+    requires j { j < 3 }
+    requires pi { unsigned_abs (at p.now i) ≤ side_limit }
+    requires pj { unsigned_abs (at p.now j) ≤ side_limit }
+    requires ai { unsigned_abs (at a.now i) ≤ side_limit }
+    requires aj { unsigned_abs (at a.now j) ≤ side_limit }
+    ensures value { result ≡ at p.now i *ℤ at a.now j -ℤ at p.now j *ℤ at a.now i }
+    ensures small { unsigned_abs result ≤ 2 * (side_limit * side_limit) }
+{
+    product(p, i, a, j) - product(p, j, a, i)
+}
+
+/// The cross product of two vectors.
+pub fn cross(p: &[i128; 3], a: &[i128; 3]) -> [i128; 3]
+    requires p { IsWithin side_limit p.now }
+    requires a { IsWithin side_limit a.now }
+    ensures value { result ≡ cross p.now a.now }
+    ensures small { IsWithin (2 * (side_limit * side_limit)) result }
+{
+    [minor(p, a, 1, 2), minor(p, a, 2, 0), minor(p, a, 0, 1)]
+}
+
+/// How far apart two ends are along an axis.
+#[inline]
+fn apart(p: &[i32; 3], q: &[i32; 3], i: usize) -> i128
+    requires i { i < 3 }
+    requires p { unsigned_abs (at p.now i) ≤ 1000000 }
+    requires q { unsigned_abs (at q.now i) ≤ 1000000 }
+    ensures value { result ≡ at p.now i -ℤ at q.now i }
+    ensures small { unsigned_abs result ≤ 2000000 }
+{
+    i128::from(p[i]) - i128::from(q[i])
+}
+
+/// How far apart two ends are along each axis.
+pub fn difference(p: &[i32; 3], q: &[i32; 3]) -> [i128; 3]
+    requires p { IsWithin 1000000 p.now }
+    requires q { IsWithin 1000000 q.now }
+    ensures value { result ≡ difference p.now q.now }
+    ensures small { IsWithin side_limit result }
+{
+    [apart(p, q, 0), apart(p, q, 1), apart(p, q, 2)]
+}
+
+/// The square of a number's length.
+#[inline]
+fn square(a: i128) -> i128
+    requires { unsigned_abs a ≤ 4 * (side_limit * side_limit) }
+    ensures value { result ≡ a *ℤ a }
+    ensures some { pos 0 ≤ℤ result }
+    ensures small { unsigned_abs result ≤ 4 * (side_limit * side_limit) * (4 * (side_limit * side_limit)) }
+{
+    a * a
+}
+
+/// A length that a vector with these components is not longer than: the root of the squares' sum, rounded up.
+pub fn length_up(a: i128, b: i128, c: i128) -> i128
+    requires a { unsigned_abs a ≤ 4 * (side_limit * side_limit) }
+    requires b { unsigned_abs b ≤ 4 * (side_limit * side_limit) }
+    requires c { unsigned_abs c ≤ 4 * (side_limit * side_limit) }
+    ensures value { ((a *ℤ a +ℤ b *ℤ b) +ℤ c *ℤ c) ≤ℤ (result *ℤ result) }
+    ensures some { pos 0 ≤ℤ result }
+    ensures small { unsigned_abs result ≤ 10 ^ 18 }
+{
+    root_up(square(a) + square(b) + square(c))
+}
+
+/// The square root, rounded up.
+pub fn root_up(n: i128) -> i128
+    requires some { pos 0 ≤ℤ n }
+    requires small { unsigned_abs n ≤ 10 ^ 36 }
+    ensures value { n ≤ℤ (result *ℤ result) }
+    ensures some { pos 0 ≤ℤ result }
+    ensures small { unsigned_abs result ≤ 10 ^ 18 }
+{
+    isqrt_ceil(n as u128) as i128
+}
