@@ -6,3 +6,4 @@ pub mod Numbers
 pub mod Kept
 pub mod Motions
 pub mod Holding
+pub mod Lined

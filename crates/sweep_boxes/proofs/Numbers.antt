@@ -1,6 +1,8 @@
 -- Sums and products of the numbers that a box is reckoned from.
-use Rattle.std.proofs.Common.{◌≡◌, ℕ, zero, suc, negsuc, ◌+◌, ◌*◌, ◌-◌, ◌^◌, ◌≤◌, ◌<◌, List, [], ◌∷◌, ℤ, pos, ◌+ℤ◌, ◌*ℤ◌, ◌-ℤ◌, ◌≤ℤ◌, unsigned_abs, FitsSigned, arith, refl, sym, subst}
-use Rattle.std.proofs.lemmas.Int.{ints}
+use Rattle.std.proofs.Common.{◌≡◌, ℕ, zero, suc, negsuc, ◌+◌, ◌*◌, ◌-◌, ◌^◌, ◌≤◌, ◌<◌, List, [], ◌∷◌, ℤ, pos, ◌+ℤ◌, ◌*ℤ◌, ◌-ℤ◌, ◌≤ℤ◌, unsigned_abs, ◌⊎◌, inl, inr, ⊎_elim, FitsSigned, int_div, int_rem, arith, refl, sym, subst}
+use Rattle.std.proofs.lemmas.Int.{ints, quot-rem, rem_below}
+use Rattle.std.proofs.lemmas.Bool.{cases_lt}
+use Rattle.std.proofs.Math.Nat.{mul-le-mul}
 use mir.Syntax.{w128}
 use borrow.Author.Differences.{abs_is}
 use Rattle.space.specs.Motion.{between}
@@ -129,3 +131,40 @@ minus_fits z h = omega (arith, ints, h, abs_is z)
 
 pub sum_fits : (a b : ℤ) → unsigned_abs a ≤ 10 ^ 18 → unsigned_abs b ≤ 3 * 10 ^ 18 → FitsSigned w128 (a +ℤ b)
 sum_fits a b h k = omega (arith, ints, h, k, abs_is a, abs_is b)
+
+pub product_fits : (a b : ℤ) (m n : ℕ) → unsigned_abs a ≤ m → unsigned_abs b ≤ n → m * n < 2 ^ 127 → FitsSigned w128 (a *ℤ b)
+product_fits a b m n h k l = fits128 (a *ℤ b) (m * n) (abs_mul a b m n h k) l
+
+pub scaled_some : (s : ℕ) (n : ℤ) → 1 ≤ s → pos 1 ≤ℤ n → pos 1 ≤ℤ (pos s *ℤ n)
+scaled_some s (pos n) h k = let one : 1 ≤ n = omega (arith, ints, k) in let more : 1 * 1 ≤ s * n = mul-le-mul h one in omega (arith, ints, more)
+scaled_some s (negsuc n) h k = absurd (omega (arith, ints, k))
+
+-- a quotient that is rounded towards zero
+most_or_more : (a b : ℤ) → (a ≤ℤ b) ⊎ ((b +ℤ pos 1) ≤ℤ a)
+most_or_more (pos m) (pos n) = ⊎_elim (λ l. inr (omega (arith, ints))) (λ l. inl (omega (arith, ints))) (cases_lt n m)
+most_or_more (pos m) (negsuc n) = inr (omega (arith, ints))
+most_or_more (negsuc m) (pos n) = inl (omega (arith, ints))
+most_or_more (negsuc m) (negsuc n) = ⊎_elim (λ l. inr (omega (arith, ints))) (λ l. inl (omega (arith, ints))) (cases_lt m n)
+
+one_more : (z n : ℤ) → (z +ℤ pos 1) *ℤ n ≡ z *ℤ n +ℤ n
+one_more z n = ring (z ∷ n ∷ []) (mul (add (var 0) (num (pos 1))) (var 1)) (add (mul (var 0) (var 1)) (var 1)) refl
+
+not_last : (q r n b pn qn more : ℤ) → b ≡ qn +ℤ r → unsigned_abs r < unsigned_abs n → pos 1 ≤ℤ n → more ≡ qn +ℤ n → more ≤ℤ pn → pn ≤ℤ b → ⊥
+not_last q r n b pn qn more is small some m_is m h = omega (arith, ints, is, small, some, m_is, m, h, abs_is r, abs_is n)
+
+not_first : (q r n b pn qn more : ℤ) → b ≡ qn +ℤ r → unsigned_abs r < unsigned_abs n → pos 1 ≤ℤ n → more ≡ pn +ℤ n → more ≤ℤ qn → b ≤ℤ pn → ⊥
+not_first q r n b pn qn more is small some m_is m h = omega (arith, ints, is, small, some, m_is, m, h, abs_is r, abs_is n)
+
+pub quotient_last : (b n p : ℤ) → pos 1 ≤ℤ n → (p *ℤ n) ≤ℤ b → p ≤ℤ int_div b n
+quotient_last b n p some h =
+    let q = int_div b n in let r = int_rem b n in
+    ⊎_elim (λ most. most)
+    (λ more. absurd (not_last q r n b (p *ℤ n) (q *ℤ n) ((q +ℤ pos 1) *ℤ n) (sym (quot-rem b n)) (rem_below b n (omega (arith, ints, some, abs_is n))) some (one_more q n) (product_mono n (q +ℤ pos 1) p (omega (arith, ints, some)) more) h))
+    (most_or_more p q)
+
+pub quotient_first : (b n p : ℤ) → pos 1 ≤ℤ n → b ≤ℤ (p *ℤ n) → int_div b n ≤ℤ p
+quotient_first b n p some h =
+    let q = int_div b n in let r = int_rem b n in
+    ⊎_elim (λ most. most)
+    (λ more. absurd (not_first q r n b (p *ℤ n) (q *ℤ n) ((p +ℤ pos 1) *ℤ n) (sym (quot-rem b n)) (rem_below b n (omega (arith, ints, some, abs_is n))) some (one_more p n) (product_mono n (p +ℤ pos 1) q (omega (arith, ints, some)) more) h))
+    (most_or_more q p)

@@ -4,3 +4,4 @@ pub mod Pieces
 pub mod Made
 pub mod Boxes
 pub mod Held
+pub mod Lines

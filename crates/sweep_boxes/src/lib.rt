@@ -5,9 +5,11 @@ mod change;
 mod cut;
 mod held;
 mod hold;
+mod line;
 mod offsets;
 mod piece;
 mod point_box;
+mod side;
 mod vector;
 
 pub use point_box::PointBox;

@@ -1,0 +1,14 @@
+-- The places of a line that are held.
+use Rattle.std.specs.Prelude.{ℕ, ◌*◌, ◌≤◌, ℤ, pos, ◌*ℤ◌, ◌-ℤ◌, ◌≤ℤ◌, unsigned_abs}
+use Rattle.sweep_boxes.specs.declared.held.Hold.{Hold}
+use Rattle.sweep_boxes.specs.declared.line.Line.{Line}
+
+-- The place z is in the line's range, and at the height u, which is held: what of its offset isn't along the axis is at most the
+-- distance from the axis times what of the axis isn't along the line.
+pub record IsOnLine (line : Line) (hold : Hold) (z u : ℤ) : Type 0 where
+  pub after : line.low ≤ℤ z
+  pub before : z ≤ℤ line.high
+  pub above : hold.least ≤ℤ u
+  pub below : u ≤ℤ hold.most
+  pub near : (k : ℕ) → (line.square -ℤ line.axis *ℤ line.axis) ≤ℤ pos (k * k)
+      → unsigned_abs ((pos line.scale *ℤ z -ℤ line.tip) *ℤ line.square -ℤ u *ℤ line.axis) ≤ k * unsigned_abs hold.moment
