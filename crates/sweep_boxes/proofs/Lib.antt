@@ -7,3 +7,4 @@ pub mod Kept
 pub mod Motions
 pub mod Holding
 pub mod Lined
+pub mod Boxed

@@ -6,6 +6,7 @@ mod cut;
 mod held;
 mod hold;
 mod line;
+mod narrow;
 mod offsets;
 mod piece;
 mod point_box;
