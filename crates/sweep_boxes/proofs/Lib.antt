@@ -8,3 +8,4 @@ pub mod Motions
 pub mod Holding
 pub mod Lined
 pub mod Boxed
+pub mod Scales
