@@ -1,6 +1,8 @@
 pub mod EndLemmas
 pub mod Halving
 pub mod Raised
+pub mod Deciding
+pub mod Reaching
 pub mod Searching
 pub mod Counting
 pub mod Fitting

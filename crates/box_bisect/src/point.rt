@@ -4,6 +4,7 @@ ghost use Rattle.space.specs.Ranges.{IsPoint};
 ghost use Rattle.bern_form.specs.Marks.{some_holds};
 ghost use Rattle.bern_form.specs.Sizes.{scale_limit};
 ghost use Rattle.cutter_slabs.specs.Meets.{MeetsLower, MeetsUpper};
+ghost use Rattle.cutter_slabs.specs.Rising.{IsRising};
 ghost use Rattle.cutter_slabs.specs.Stacks.{outer_stack};
 ghost use Rattle.cutter_marks.specs.MarkBy.{is_possible_by, mark_by};
 ghost use Rattle.box_bisect.specs.Between.{IsMarkBetween};
@@ -32,6 +33,8 @@ fn mark_of_whole<L: Ledger>(
     requires scale { scale ≤ scale_limit }
     requires cells { scale ≡ 2 ^ depth }
     requires as_many { length inner.now ≤ length outer.now }
+    requires inner { IsRising inner.now }
+    requires outer { IsRising outer.now }
     ensures mark { (m : Motion) (p : List ℤ) → AreFormsBetween whole.now.u.c whole.now.n.c whole.now.d.c m p 0 scale scale
         → ((i : ℕ) → some_holds inner.now m p i scale ≡ true → some_holds outer.now m p i scale ≡ true)
         → IsMarkBetween result inner.now outer.now m p 0 scale scale }

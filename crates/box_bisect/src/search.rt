@@ -1,6 +1,7 @@
 ghost use Rattle.std.specs.Prelude.{◌≡◌, ℕ, ℤ, List, ◌+◌, ◌*◌, ◌^◌, ◌≤◌, length};
 ghost use Rattle.space.specs.Motion.{Motion};
 ghost use Rattle.bern_form.specs.Sizes.{scale_limit};
+ghost use Rattle.cutter_slabs.specs.Rising.{IsRising};
 ghost use Rattle.box_bisect.specs.Between.{IsMarkBetween, IsSearched};
 ghost use Rattle.box_bisect.specs.SlabTests.{is_held_with, is_left_with};
 ghost use Rattle.box_bisect.specs.Boxes.{undecided_from};
@@ -22,7 +23,8 @@ pub fn is_left<L: Ledger>(
     scale: u32,
     steps: &mut Steps<L>,
 ) -> bool
-    requires { scale ≤ scale_limit }
+    requires scale { scale ≤ scale_limit }
+    requires rising { IsRising slabs.now }
     ensures left { result ≡ is_left_with slabs.now scale stretch.now.u.c stretch.now.n.c stretch.now.d.c }
     ensures cost { steps.new ≤ steps.old + length slabs.now }
 {
@@ -37,7 +39,8 @@ pub fn is_held_last<L: Ledger>(
     scale: u32,
     steps: &mut Steps<L>,
 ) -> bool
-    requires { scale ≤ scale_limit }
+    requires scale { scale ≤ scale_limit }
+    requires rising { IsRising slabs.now }
     ensures held { result ≡ is_held_with 2 slabs.now scale stretch.now.u.c stretch.now.n.c stretch.now.d.c }
     ensures cost { steps.new ≤ steps.old + length slabs.now }
 {
@@ -54,7 +57,8 @@ pub fn is_held_first<L: Ledger>(
     scale: u32,
     steps: &mut Steps<L>,
 ) -> bool
-    requires { scale ≤ scale_limit }
+    requires scale { scale ≤ scale_limit }
+    requires rising { IsRising slabs.now }
     ensures held { result ≡ is_held_with 0 slabs.now scale stretch.now.u.c stretch.now.n.c stretch.now.d.c }
     ensures cost { steps.new ≤ steps.old + length slabs.now }
 {
@@ -76,6 +80,8 @@ pub fn mark_between<L: Ledger>(
 ) -> Mark
     requires scale { scale ≤ scale_limit }
     requires as_many { length inner.now ≤ length outer.now }
+    requires inner { IsRising inner.now }
+    requires outer { IsRising outer.now }
     ensures mark { (m : Motion) (p : List ℤ) (j : ℕ) → IsSearched inner.now outer.now stretch.now.u.c stretch.now.n.c stretch.now.d.c m p scale levels j
         → IsMarkBetween result inner.now outer.now m p j (j + 2 ^ levels) scale }
     ensures cost { (m : Motion) (p : List ℤ) (j : ℕ) → IsSearched inner.now outer.now stretch.now.u.c stretch.now.n.c stretch.now.d.c m p scale levels j
