@@ -11,6 +11,7 @@ mod point;
 mod search;
 mod square;
 mod stretch;
+mod turn;
 
 pub use point::{mark_point, mark_point_uncounted};
 

@@ -3,9 +3,10 @@ ghost use Rattle.bern_form.specs.Sizes.{axis_limit, offset_limit, scale_limit};
 ghost use Rattle.bern_form.specs.Cells.{scaled_square};
 ghost use Rattle.bern_form.specs.Slab.{covers};
 ghost use Rattle.cutter_slabs.specs.Rising.{IsRising};
-ghost use Rattle.box_bisect.specs.SlabTests.{TurnsAt, TurnsBetween, is_reached, some_covers};
+ghost use Rattle.box_bisect.specs.SlabTests.{is_reached, some_covers};
 
 use crate::square::scaled_square;
+use crate::turn::{Reaches, turn};
 use bern_form::Slab;
 use std::sync::ledger::Ledger;
 use vf_steps::Steps;
@@ -53,6 +54,16 @@ pub struct Moment {
     ghost w_small: { unsigned_abs w ≤ 18 * (offset_limit * axis_limit) * (offset_limit * axis_limit) },
 }
 
+impl Reaches for Moment {
+    ghost reached = { λ at. is_reached (pos at.scale) at.u at.n };
+
+    /// Whether the point is as high as the slab begins, where it is ahead of the tip.
+    #[inline]
+    fn reaches(&self, slab: &Slab) -> bool {
+        self.squared(slab.lo) <= self.u * self.u
+    }
+}
+
 impl Moment {
     /// By u, n and d = |p|^2.
     #[inline]
@@ -95,39 +106,6 @@ impl Moment {
         lies_within(self.u, lowest, height, highest, width, widest)
     }
 
-    /// Whether the point is as high as the slab begins, where it is ahead of the tip.
-    #[inline]
-    fn reaches(&self, slab: &Slab) -> bool
-        ensures { result ≡ is_reached (pos self.now.scale) self.now.u self.now.n slab.now }
-    {
-        self.squared(slab.lo) <= self.u * self.u
-    }
-
-    /// Where that turns from the lower slabs to the higher ones, by halving what is between two numbers; each slab that is tried is
-    /// a step.
-    fn turn<L: Ledger>(
-        &self,
-        slabs: &[Slab],
-        low: usize,
-        high: usize,
-        steps: &mut Steps<L>,
-    ) -> usize
-        requires ordered { low ≤ high }
-        requires between { TurnsBetween (is_reached (pos self.now.scale) self.now.u self.now.n) slabs.now low high }
-        ensures turn { TurnsAt (is_reached (pos self.now.scale) self.now.u self.now.n) slabs.now result }
-        ensures cost { steps.new + low ≤ steps.old + high }
-    {
-        if low == high {
-            return low;
-        }
-        steps.tick();
-        let middle = low + (high - low) / 2;
-        if self.reaches(&slabs[middle]) {
-            return self.turn(slabs, middle + 1, high, steps);
-        }
-        self.turn(slabs, low, middle, steps)
-    }
-
     /// Whether some of the slabs holds the point at this sample. The highest that it reaches decides: the point is below the ones
     /// above that, and those below that are no wider.
     pub fn is_covered_by_some<L: Ledger>(&self, slabs: &[Slab], steps: &mut Steps<L>) -> bool
@@ -135,7 +113,7 @@ impl Moment {
         ensures covered { result ≡ some_covers (pos self.now.scale) self.now.u self.now.n self.now.w slabs.now }
         ensures cost { steps.new ≤ steps.old + length slabs.now }
     {
-        let reached = self.turn(slabs, 0, slabs.len(), steps);
+        let reached = turn(self, slabs, 0, slabs.len(), steps);
         if reached == 0 {
             return false;
         }
