@@ -74,6 +74,10 @@ one_decides kept reached up slabs j i x rises turn e is =
     decided kept reached up slabs i rises l (turn.before i e) (λ k f m. let same : j ≡ k = omega (arith, e, f) in rw (← same) (turn.after (omega (arith, same, m))))
     ∙ ap kept (read_as slabs i x l is)
 
+-- which passes the test
+pub one_reached : (test : SlabSize → Bool) (slabs : List SlabSize) (j i : ℕ) (x : SlabSize) → TurnsAt test slabs j → j ≡ i + 1 → x ≡ get_or slabs i x → test x ≡ true
+one_reached test slabs j i x turn e is = let within = turn.within in ap test (sym (read_as slabs i x (omega (arith, e, within)) is)) ∙ turn.before i e
+
 -- where it turns at the first slab, none is kept
 pub none_reached : (kept reached : SlabSize → Bool) → GoesUp kept reached → (slabs : List SlabSize) (j : ℕ) → IsRising slabs → TurnsAt reached slabs j → j ≡ 0 → list_any kept slabs ≡ false
 none_reached kept reached up [] j rises turn e = refl

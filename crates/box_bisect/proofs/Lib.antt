@@ -3,6 +3,7 @@ pub mod Halving
 pub mod Raised
 pub mod Deciding
 pub mod Reaching
+pub mod Leaving
 pub mod Searching
 pub mod Counting
 pub mod Fitting

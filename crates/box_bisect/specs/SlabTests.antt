@@ -15,20 +15,18 @@ some_covers scale u n w slabs = list_any (λ s. covers s scale u n w) slabs
 abbrev pub is_reached : ℤ → ℤ → ℤ → SlabSize → Bool
 is_reached scale u n s = int_le (((scale *ℤ s.lo) *ℤ (scale *ℤ s.lo)) *ℤ n) (u *ℤ u)
 
--- by these coefficients of degree 4 the point is below the slab throughout, above it, or beside it: u^2 is below lo^2 n, or above
--- hi^2 n, or 4 w above dia^2 n; `raised` is n raised to degree 4
+-- by these coefficients of degree 4 the point is below the slab throughout: u^2 is below lo^2 n; `raised` is n raised to degree 4
 abbrev pub is_below_by : ℕ → List ℤ → List ℤ → SlabSize → Bool
 is_below_by S raised height s = all_negative (difference4 height (scaled4 (scaled_square S s.lo) raised))
 
-abbrev pub is_above_by : ℕ → List ℤ → List ℤ → SlabSize → Bool
-is_above_by S raised height s = all_positive (difference4 height (scaled4 (scaled_square S s.hi) raised))
+-- it is above the slab throughout, or beside it: u^2 is above hi^2 n, or 4 w above dia^2 n
+abbrev pub is_past_by : ℕ → List ℤ → List ℤ → List ℤ → SlabSize → Bool
+is_past_by S raised height width s =
+    all_positive (difference4 height (scaled4 (scaled_square S s.hi) raised)) || all_positive (difference4 width (scaled4 (scaled_square S s.dia) raised))
 
-abbrev pub is_beside_by : ℕ → List ℤ → List ℤ → SlabSize → Bool
-is_beside_by S raised width s = all_positive (difference4 width (scaled4 (scaled_square S s.dia) raised))
-
--- the slab is excluded by them, or where u is below 0 throughout
+-- the slab is excluded: u is below 0 throughout, or the point is below the slab, above it or beside it
 abbrev pub is_excluded_by : ℕ → Bool → List ℤ → List ℤ → List ℤ → SlabSize → Bool
-is_excluded_by S behind raised height width s = behind || (is_below_by S raised height s || (is_above_by S raised height s || is_beside_by S raised width s))
+is_excluded_by S behind raised height width s = behind || (is_below_by S raised height s || is_past_by S raised height width s)
 
 -- some of the slabs is not
 abbrev pub is_left_by : ℕ → Bool → List ℤ → List ℤ → List ℤ → List SlabSize → Bool

@@ -1,11 +1,13 @@
-ghost use Rattle.std.specs.Prelude.{◌≡◌, ◌+◌, ◌*◌, ◌≤◌, ◌*ℤ◌, int_lt, length, pos, unsigned_abs};
+ghost use Rattle.std.specs.Prelude.{◌≡◌, ◌+◌, ◌*◌, ◌≤◌, ◌*ℤ◌, int_lt, length, pos, unsigned_abs, true, false, not};
 ghost use Rattle.bern_form.specs.Forms.{all_negative, all_positive, difference4, lifted, product22, scaled4};
 ghost use Rattle.bern_form.specs.Cells.{scaled_square};
 ghost use Rattle.bern_form.specs.Sizes.{IsBounded4, axis_limit, length_limit, offset_limit, scale_limit};
-ghost use Rattle.box_bisect.specs.SlabTests.{is_excluded_by, is_left_by};
+ghost use Rattle.cutter_slabs.specs.Rising.{IsRising};
+ghost use Rattle.box_bisect.specs.SlabTests.{is_below_by, is_excluded_by, is_left_by, is_past_by};
 
 use crate::square::scaled_square;
 use crate::stretch::Stretch;
+use crate::turn::{Reaches, turn};
 use bern_form::{Form4, Slab, lift24, minus4, scale4, times22};
 use std::sync::ledger::Ledger;
 use vf_steps::Steps;
@@ -71,6 +73,20 @@ pub struct Limits {
     ghost raised_small: { IsBounded4 (18 * (axis_limit * axis_limit)) raised.c },
 }
 
+impl Reaches for Limits {
+    ghost reached = { λ l. λ s. not (is_below_by l.scale l.raised.c l.height.c s) };
+
+    /// Whether the point isn't below the slab throughout.
+    #[inline]
+    fn reaches(&self, slab: &Slab) -> bool {
+        !is_under(
+            &self.height,
+            scaled_square(self.scale, slab.lo),
+            &self.raised,
+        )
+    }
+}
+
 impl Limits {
     pub fn of_stretch(stretch: &Stretch, scale: u32) -> Limits
         requires { scale ≤ scale_limit }
@@ -91,21 +107,11 @@ impl Limits {
         }
     }
 
-    /// Whether the slab is excluded between the two samples: the point is behind the tip throughout, or below the slab, or above
-    /// it, or beside it.
-    pub fn excludes(&self, slab: &Slab) -> bool
-        ensures { result ≡ is_excluded_by self.now.scale self.now.is_behind self.now.raised.c self.now.height.c self.now.width.c slab.now }
+    /// Whether the point is above the slab throughout, or beside it.
+    #[inline]
+    fn is_past(&self, slab: &Slab) -> bool
+        ensures { result ≡ is_past_by self.now.scale self.now.raised.c self.now.height.c self.now.width.c slab.now }
     {
-        if self.is_behind {
-            return true;
-        }
-        if is_under(
-            &self.height,
-            scaled_square(self.scale, slab.lo),
-            &self.raised,
-        ) {
-            return true;
-        }
         if is_over(
             &self.height,
             scaled_square(self.scale, slab.hi),
@@ -120,8 +126,22 @@ impl Limits {
         )
     }
 
-    /// Whether some of the slabs is not excluded; each slab that is tried is a step.
-    pub fn leaves_some<L: Ledger>(&self, slabs: &[Slab], steps: &mut Steps<L>) -> bool
+    /// Whether the slab is excluded between the two samples: the point is behind the tip throughout, or below the slab, or above
+    /// it, or beside it.
+    fn excludes(&self, slab: &Slab) -> bool
+        ensures { result ≡ is_excluded_by self.now.scale self.now.is_behind self.now.raised.c self.now.height.c self.now.width.c slab.now }
+    {
+        if self.is_behind {
+            return true;
+        }
+        if !self.reaches(slab) {
+            return true;
+        }
+        self.is_past(slab)
+    }
+
+    /// Whether some of any slabs is not excluded; each slab that is tried is a step.
+    fn leaves_some_of<L: Ledger>(&self, slabs: &[Slab], steps: &mut Steps<L>) -> bool
         ensures left { result ≡ is_left_by self.now.scale self.now.is_behind self.now.raised.c self.now.height.c self.now.width.c slabs.now }
         ensures cost { steps.new ≤ steps.old + length slabs.now }
     {
@@ -132,5 +152,36 @@ impl Limits {
             }
         }
         false
+    }
+
+    /// The same of slabs that rise, where n is above 0 by its coefficients. The highest slab that the point isn't below decides: it
+    /// is below those above that, and above or beside those below where it is above or beside that one.
+    fn leaves_some_by_one<L: Ledger>(&self, slabs: &[Slab], steps: &mut Steps<L>) -> bool
+        requires ahead { self.now.is_behind ≡ false }
+        requires positive { all_positive self.now.raised.c ≡ true }
+        requires rising { IsRising slabs.now }
+        ensures left { result ≡ is_left_by self.now.scale self.now.is_behind self.now.raised.c self.now.height.c self.now.width.c slabs.now }
+        ensures cost { steps.new ≤ steps.old + length slabs.now }
+    {
+        let reached = turn(self, slabs, 0, slabs.len(), steps);
+        if reached == 0 {
+            return false;
+        }
+        !self.is_past(&slabs[reached - 1])
+    }
+
+    /// Whether some of the slabs is not excluded; each slab that is tried is a step.
+    pub fn leaves_some<L: Ledger>(&self, slabs: &[Slab], steps: &mut Steps<L>) -> bool
+        requires { IsRising slabs.now }
+        ensures left { result ≡ is_left_by self.now.scale self.now.is_behind self.now.raised.c self.now.height.c self.now.width.c slabs.now }
+        ensures cost { steps.new ≤ steps.old + length slabs.now }
+    {
+        if self.is_behind {
+            return false;
+        }
+        if !self.raised.all_positive() {
+            return self.leaves_some_of(slabs, steps);
+        }
+        self.leaves_some_by_one(slabs, steps)
     }
 }

@@ -1,6 +1,6 @@
 use Rattle.std.proofs.Common.{◌≡◌, ◌+◌, ◌≤◌, drop}
 use Rattle.box_bisect.specs.SlabTests.{is_left_by}
-use Rattle.box_bisect.proofs.limits.Limits.leaves_some.Given as goal
+use Rattle.box_bisect.proofs.limits.Limits.leaves_some_of.Given as goal
 
 abbrev pub invariant-loop-slab : goal.invariant-loop-slab
 invariant-loop-slab g l =
