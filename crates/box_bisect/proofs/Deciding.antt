@@ -1,6 +1,6 @@
 -- One slab of a rising stack decides: where a test holds up to some slab and no further, and what is kept is kept by each next slab up to
 -- there, some slab is kept exactly where that one is.
-use Rattle.std.proofs.Common.{◌≡◌, Bool, true, false, ◌||◌, ℕ, zero, suc, ◌+◌, ◌≤◌, ◌<◌, [], ◌∷◌, List, length, get_or, arith, refl, ap, subst, sym, ◌∙◌}
+use Rattle.std.proofs.Common.{◌≡◌, Bool, true, false, ◌||◌, ℕ, zero, suc, ◌+◌, ◌<◌, [], ◌∷◌, List, length, get_or, arith, refl, ap, subst, sym, ◌∙◌}
 use Rattle.std.specs.List.{list_any}
 use Rattle.std.proofs.lemmas.List.{get_or_default}
 use Rattle.bern_form.specs.Slab.{IsSlab, SlabSize}

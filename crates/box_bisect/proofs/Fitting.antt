@@ -1,6 +1,5 @@
 -- Numbers of the tests that fit 128 bits.
-use Rattle.std.proofs.Common.{◌≡◌, to_z, of_z, ℕ, zero, suc, ◌+◌, ◌*◌, ◌^◌, ◌≤◌, ◌<◌, List, ℤ, pos, ◌+ℤ◌, ◌*ℤ◌, ◌-ℤ◌, unsigned_abs, FitsSigned, arith, subst}
-use Rattle.std.proofs.lemmas.Int.{to_z-of_z}
+use Rattle.std.proofs.Common.{◌≡◌, ℕ, zero, suc, ◌*◌, ◌≤◌, ◌<◌, List, ℤ, ◌*ℤ◌, ◌-ℤ◌, unsigned_abs, FitsSigned, arith, subst}
 use mir.Syntax.{w128}
 use Rattle.space.specs.Vectors.{at}
 use Rattle.space.proofs.Facts.{fits128}

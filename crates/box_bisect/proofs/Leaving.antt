@@ -1,6 +1,5 @@
 -- The cell rule goes up a rising stack where n is above 0 by its coefficients.
-use Rattle.std.proofs.Common.{◌≡◌, Bool, true, false, not, ◌||◌, ℕ, zero, suc, ◌+◌, ◌*◌, ◌≤◌, ◌<◌, List, length, ℤ, pos, negsuc, ◌*ℤ◌, ◌-ℤ◌, ◌<ℤ◌, ◌≤ℤ◌, arith, refl, ap, subst, sym, ⊎_elim, ◌∙◌}
-use Rattle.std.specs.List.{list_any}
+use Rattle.std.proofs.Common.{◌≡◌, Bool, true, false, not, ◌||◌, ℕ, zero, suc, ◌≤◌, ◌<◌, List, length, ℤ, pos, negsuc, ◌*ℤ◌, ◌-ℤ◌, ◌<ℤ◌, ◌≤ℤ◌, arith, refl, ap, ⊎_elim}
 use Rattle.std.proofs.Math.Nat.{mul-le-mul, mul-le-mul_left, mul-le-mul_right}
 use Rattle.std.proofs.lemmas.Bool.{cases_lt}
 use Rattle.std.proofs.lemmas.Int.{ints}
@@ -10,9 +9,8 @@ use Rattle.space.specs.Vectors.{at}
 use Rattle.space.proofs.Naturals.{square_not_negative}
 use Rattle.bern_form.specs.Cells.{scaled_square}
 use Rattle.bern_form.specs.Forms.{all_negative, all_positive, difference4, scaled4}
-use Rattle.bern_form.specs.Slab.{IsSlab, SlabSize}
+use Rattle.bern_form.specs.Slab.{SlabSize}
 use Rattle.bern_form.proofs.Decided.{decides_negative, decides_positive}
-use Rattle.cutter_slabs.specs.Rising.{LiesOn}
 use Rattle.box_bisect.specs.SlabTests.{is_below_by, is_excluded_by, is_left_by, is_past_by}
 use Rattle.box_bisect.proofs.Deciding.{GoesUp}
 use Rattle.box_bisect.proofs.Raised.{all_over, all_under}

@@ -1,9 +1,9 @@
 -- The tests of slabs at a sample and between two go up a rising stack.
-use Rattle.std.proofs.Common.{◌≡◌, Bool, true, false, not, ◌||◌, ◌&&◌, ℕ, zero, suc, ◌+◌, ◌*◌, ◌≤◌, ◌<◌, List, ℤ, pos, negsuc, ◌*ℤ◌, ◌-ℤ◌, ◌<ℤ◌, ◌≤ℤ◌, int_le, arith, refl, subst, sym, [], ◌∷◌, ◌∙◌}
+use Rattle.std.proofs.Common.{◌≡◌, Bool, true, false, ◌&&◌, ℕ, zero, suc, ◌*◌, ◌≤◌, ℤ, pos, negsuc, ◌*ℤ◌, ◌<ℤ◌, ◌≤ℤ◌, int_le, arith, refl, subst, sym, [], ◌∷◌, ◌∙◌}
 use Rattle.std.proofs.Math.Nat.{mul-le-mul, mul-le-mul_left, mul-le-mul_right}
 use Rattle.std.proofs.lemmas.Int.{ints}
 use Rattle.space.proofs.Naturals.{square_not_negative}
-use Rattle.space.proofs.Solver.{add, mul, num, ring, var}
+use Rattle.space.proofs.Solver.{mul, num, ring, var}
 use Rattle.space.proofs.Tests.{decides_le}
 use Rattle.bern_form.specs.Slab.{IsSlab, SlabSize, covers}
 use Rattle.bern_form.proofs.Decided.{decides_covers}

@@ -4,3 +4,4 @@ pub mod Stretches
 pub mod Boxes
 pub mod Between
 pub mod SlabTests
+pub mod Sides

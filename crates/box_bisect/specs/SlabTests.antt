@@ -2,7 +2,7 @@
 use Rattle.std.specs.Prelude.{◌≡◌, Bool, true, false, not, ◌||◌, List, length, get_or, ℕ, ℤ, ◌+◌, ◌≤◌, ◌<◌, pos, ◌*ℤ◌, ◌-ℤ◌, int_le}
 use Rattle.std.specs.List.{list_any}
 use Rattle.space.specs.Vectors.{at}
-use Rattle.bern_form.specs.Forms.{all_negative, all_positive, difference4, scaled4}
+use Rattle.bern_form.specs.Forms.{all_negative, all_positive, difference4, product22, scaled4}
 use Rattle.bern_form.specs.Between.{is_excluded_with}
 use Rattle.bern_form.specs.Cells.{scaled_square}
 use Rattle.bern_form.specs.Slab.{SlabSize, covers}
@@ -15,6 +15,10 @@ some_covers scale u n w slabs = list_any (λ s. covers s scale u n w) slabs
 abbrev pub is_reached : ℤ → ℤ → ℤ → SlabSize → Bool
 is_reached scale u n s = int_le (((scale *ℤ s.lo) *ℤ (scale *ℤ s.lo)) *ℤ n) (u *ℤ u)
 
+-- the coefficients of 4 (d n - u^2), which is four times the squared distance from the axis times n
+abbrev pub width_of : List ℤ → List ℤ → List ℤ → List ℤ
+width_of u n d = scaled4 (pos 4) (difference4 (product22 d n) (product22 u u))
+
 -- by these coefficients of degree 4 the point is below the slab throughout: u^2 is below lo^2 n; `raised` is n raised to degree 4
 abbrev pub is_below_by : ℕ → List ℤ → List ℤ → SlabSize → Bool
 is_below_by S raised height s = all_negative (difference4 height (scaled4 (scaled_square S s.lo) raised))
@@ -22,7 +26,8 @@ is_below_by S raised height s = all_negative (difference4 height (scaled4 (scale
 -- it is above the slab throughout, or beside it: u^2 is above hi^2 n, or 4 w above dia^2 n
 abbrev pub is_past_by : ℕ → List ℤ → List ℤ → List ℤ → SlabSize → Bool
 is_past_by S raised height width s =
-    all_positive (difference4 height (scaled4 (scaled_square S s.hi) raised)) || all_positive (difference4 width (scaled4 (scaled_square S s.dia) raised))
+    all_positive (difference4 height (scaled4 (scaled_square S s.hi) raised))
+    || all_positive (difference4 width (scaled4 (scaled_square S s.dia) raised))
 
 -- the slab is excluded: u is below 0 throughout, or the point is below the slab, above it or beside it
 abbrev pub is_excluded_by : ℕ → Bool → List ℤ → List ℤ → List ℤ → SlabSize → Bool

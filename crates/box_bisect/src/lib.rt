@@ -1,6 +1,7 @@
 //! The mark of one point by halving the time of a move, with its tests counted.
 #![tactic(auto)]
 
+mod compare;
 mod end;
 mod forms;
 mod halves;

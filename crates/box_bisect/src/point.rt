@@ -81,7 +81,8 @@ pub fn mark_point<L: Ledger>(
     ensures value { result ≡ mark_by stacks.now.cutter stacks.now.slabs sweep.now point (2 ^ depth) }
     ensures removed { result ≡ Mark.Removed → MeetsLower stacks.now.cutter sweep.now point }
     ensures clear { result ≡ Mark.Clear → ¬ MeetsUpper stacks.now.cutter sweep.now point }
-    ensures possible { result ≡ Mark.Removed → is_possible_by stacks.now.cutter stacks.now.slabs sweep.now point (2 ^ depth) ≡ true }
+    ensures possible { result ≡ Mark.Removed
+        → is_possible_by stacks.now.cutter stacks.now.slabs sweep.now point (2 ^ depth) ≡ true }
     ensures cost { let outer = outer_stack stacks.now.cutter stacks.now.slabs in
         steps.new ≤ steps.old + length outer * (3 + 4 * undecided_boxes outer sweep.now point depth) }
 {

@@ -82,9 +82,11 @@ pub fn mark_between<L: Ledger>(
     requires as_many { length inner.now ≤ length outer.now }
     requires inner { IsRising inner.now }
     requires outer { IsRising outer.now }
-    ensures mark { (m : Motion) (p : List ℤ) (j : ℕ) → IsSearched inner.now outer.now stretch.now.u.c stretch.now.n.c stretch.now.d.c m p scale levels j
+    ensures mark { let s = stretch.now in (m : Motion) (p : List ℤ) (j : ℕ)
+        → IsSearched inner.now outer.now s.u.c s.n.c s.d.c m p scale levels j
         → IsMarkBetween result inner.now outer.now m p j (j + 2 ^ levels) scale }
-    ensures cost { (m : Motion) (p : List ℤ) (j : ℕ) → IsSearched inner.now outer.now stretch.now.u.c stretch.now.n.c stretch.now.d.c m p scale levels j
+    ensures cost { let s = stretch.now in (m : Motion) (p : List ℤ) (j : ℕ)
+        → IsSearched inner.now outer.now s.u.c s.n.c s.d.c m p scale levels j
         → steps.new ≤ steps.old + length outer.now * (1 + 3 * undecided_from outer.now m p scale levels j) }
 {
     if !is_left(stretch, outer, scale, steps) {

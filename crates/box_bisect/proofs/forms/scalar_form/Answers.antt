@@ -1,4 +1,4 @@
-use Rattle.std.proofs.Common.{FitsSigned, rules, refl, ◌≡◌, ap}
+use Rattle.std.proofs.Common.{FitsSigned, rules}
 use Rattle.box_bisect.proofs.EndLemmas.{cross_is}
 use Rattle.std.proofs.lemmas.Int.{to_z-of_z}
 use mir.Syntax.{w128}

@@ -1,4 +1,4 @@
-use Rattle.std.proofs.Common.{ℕ, ◌^◌, ◌*◌, ◌%◌, ◌<◌, ◌≤◌, ◌≡◌, arith, subst, sym}
+use Rattle.std.proofs.Common.{ℕ, ◌^◌, ◌*◌, ◌%◌, ◌≤◌, ◌≡◌, arith, subst, sym}
 use Rattle.std.proofs.Math.Pow.{pow_mono}
 use Rattle.box_bisect.proofs.point.cells_of.Goals as goal
 

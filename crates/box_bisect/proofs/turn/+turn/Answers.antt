@@ -1,4 +1,4 @@
-use Rattle.std.proofs.Common.{arith, sym, ◌-◌, ◌+◌, ◌/◌, ◌≤◌, ◌<◌, ◌≡◌, ◌∙◌}
+use Rattle.std.proofs.Common.{arith, sym, ◌-◌, ◌+◌, ◌/◌, ◌<◌, ◌∙◌}
 use Rattle.box_bisect.proofs.Deciding.{turned_down, turned_up}
 use Rattle.box_bisect.proofs.turn.+turn.Goals as goal
 

@@ -1,6 +1,5 @@
 use Rattle.std.proofs.Common.{refl}
 use Rattle.std.proofs.lemmas.Int.{to_z-of_z}
-use mir.Syntax.{w128}
 use Rattle.box_bisect.proofs.Fitting.{moment_fits}
 use Rattle.box_bisect.proofs.moment.Moment.of.Goals as goal
 

@@ -1,4 +1,4 @@
-use Rattle.std.proofs.Common.{◌≡◌, pos, ◌*ℤ◌, int_le, FitsSigned, rules, ap, ◌∙◌}
+use Rattle.std.proofs.Common.{pos, ◌*ℤ◌, int_le, FitsSigned, rules, ap, ◌∙◌}
 use Rattle.std.proofs.lemmas.Int.{to_z-of_z}
 use mir.Syntax.{w32, w128}
 use Rattle.axis_cells.proofs.Fits.{height_fits}

@@ -1,6 +1,5 @@
-use Rattle.std.proofs.Common.{◌≡◌, ℕ, ◌*◌, pos, List, ℤ, subst, sym, ap, ap₂, ◌∙◌}
-use Rattle.space.specs.Motion.{Motion, axis_at, offset_at}
-use Rattle.bern_form.specs.Cells.{dot_on_cell}
+use Rattle.std.proofs.Common.{◌*◌, subst, sym}
+use Rattle.space.specs.Motion.{Motion}
 use Rattle.bern_form.specs.Sizes.{IsBounded2, axis_limit, offset_limit}
 use Rattle.axis_cells.proofs.Bounds.{cross_bounded}
 use Rattle.box_bisect.specs.Stretches.{AreFormsBetween}
