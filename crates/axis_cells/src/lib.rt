@@ -16,6 +16,3 @@ pub use plain::plain_mark;
 pub use point::{at_sample, cell_excludes};
 pub use reach::in_reach;
 pub use sweep::Sweep;
-
-#[cfg(test)]
-mod tests;

@@ -15,6 +15,3 @@ mod stretch;
 mod turn;
 
 pub use point::{mark_point, mark_point_uncounted};
-
-#[cfg(test)]
-mod tests;
