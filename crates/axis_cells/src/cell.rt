@@ -36,7 +36,7 @@ fn component_product(p: &[i64; 3], q: &[i64; 3], a: &[i64; 3], c: &[i64; 3], i: 
 /// The scalar product of two vectors that are linear on a cell, from their values `p` and `a` at its first end and `q` and
 /// `c` at its last: the sum of the convolutions of their components.
 #[inline]
-fn scalar_product_on_cell(p: &[i64; 3], q: &[i64; 3], a: &[i64; 3], c: &[i64; 3]) -> Form2
+pub fn scalar_product_on_cell(p: &[i64; 3], q: &[i64; 3], a: &[i64; 3], c: &[i64; 3]) -> Form2
     requires p { IsWithin offset_limit p.now }
     requires q { IsWithin offset_limit q.now }
     requires a { IsWithin offset_limit a.now }

@@ -1,4 +1,4 @@
-pub mod EndLemmas
+pub mod Poses
 pub mod Halving
 pub mod Raised
 pub mod Deciding

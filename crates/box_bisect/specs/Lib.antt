@@ -1,4 +1,3 @@
-pub mod Ends
 pub mod Halved
 pub mod Stretches
 pub mod Boxes

@@ -2,8 +2,6 @@
 #![tactic(auto)]
 
 mod compare;
-mod end;
-mod forms;
 mod halves;
 mod joined;
 mod limits;

@@ -13,7 +13,7 @@ ghost use Rattle.box_bisect.specs.Stretches.{AreFormsBetween};
 
 use crate::search::{is_held_first, is_held_last, is_left, mark_between};
 use crate::stretch::Stretch;
-use axis_cells::{Mark, Sweep, in_reach};
+use axis_cells::{Mark, Sweep, cells_of, in_reach};
 use bern_form::Slab;
 use cutter_slabs::Stacks;
 use std::marker::Brand;
@@ -52,16 +52,6 @@ fn mark_of_whole<L: Ledger>(
         return Mark::Removed;
     }
     mark_between(whole, inner, outer, scale, depth, steps)
-}
-
-/// How many cells a depth has: 2^depth.
-#[inline]
-fn cells_of(depth: u32) -> u32
-    requires { depth ≤ 10 }
-    ensures cells { result ≡ 2 ^ depth }
-    ensures few { result ≤ scale_limit }
-{
-    1 << depth
 }
 
 /// The mark of a point by the stacks and the reach of a cutter, at the samples and on the cells of a depth, found by halving the
