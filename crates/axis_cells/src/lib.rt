@@ -12,9 +12,11 @@ mod sample;
 mod sweep;
 
 pub use cell::scalar_product_on_cell;
+pub use length::scaled_square;
 pub use mark::Mark;
 pub use plain::plain_mark;
 pub use point::{at_sample, cell_excludes, cells_of};
 pub use pose::Pose;
 pub use reach::in_reach;
+pub use sample::Sample;
 pub use sweep::Sweep;

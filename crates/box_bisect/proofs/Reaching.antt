@@ -1,7 +1,8 @@
 -- The tests of slabs at a sample and between two go up a rising stack.
-use Rattle.std.proofs.Common.{◌≡◌, Bool, true, false, ◌&&◌, ℕ, zero, suc, ◌*◌, ◌≤◌, ℤ, pos, negsuc, ◌*ℤ◌, ◌<ℤ◌, ◌≤ℤ◌, int_le, arith, refl, subst, sym, [], ◌∷◌, ◌∙◌}
+use Rattle.std.proofs.Common.{List, ◌≡◌, Bool, true, false, ◌&&◌, ℕ, zero, suc, ◌*◌, ◌≤◌, ℤ, pos, negsuc, ◌*ℤ◌, ◌<ℤ◌, ◌≤ℤ◌, int_le, arith, refl, subst, sym, [], ◌∷◌, ◌∙◌}
 use Rattle.std.proofs.Math.Nat.{mul-le-mul, mul-le-mul_left, mul-le-mul_right}
 use Rattle.std.proofs.lemmas.Int.{ints}
+use Rattle.std.proofs.lemmas.List.Folds.{list_any_none}
 use Rattle.space.proofs.Naturals.{square_not_negative}
 use Rattle.space.proofs.Solver.{mul, num, ring, var}
 use Rattle.space.proofs.Tests.{decides_le}
@@ -9,7 +10,7 @@ use Rattle.bern_form.specs.Slab.{IsSlab, SlabSize, covers}
 use Rattle.bern_form.proofs.Decided.{decides_covers}
 use Rattle.bern_form.proofs.Relations.{Covers}
 use Rattle.cutter_slabs.specs.Rising.{LiesOn}
-use Rattle.box_bisect.specs.SlabTests.{is_reached}
+use Rattle.box_bisect.specs.SlabTests.{is_reached, some_covers}
 use Rattle.box_bisect.proofs.Deciding.{GoesUp}
 
 -- the square of a length that is taken S times, times n
@@ -78,3 +79,8 @@ sample_goes_up S u n w = record {
   carried = λ s t vs vt on met is.
       (decides_covers t (pos S) u n w).1 (covers_up s t vs vt on S u n w ((decides_le (times S t.lo n) (u *ℤ u)).0 met) ((decides_covers s (pos S) u n w).0 is));
 }
+
+-- behind the tip no slab holds the point
+pub none_behind : (S : ℕ) (u n w : ℤ) (slabs : List SlabSize) → u <ℤ pos 0 → some_covers (pos S) u n w slabs ≡ false
+none_behind S (negsuc u) n w slabs h = list_any_none (λ s. covers s (pos S) (negsuc u) n w) slabs (λ k d l. refl)
+none_behind S (pos u) n w slabs h = absurd (omega (arith, ints, h))

@@ -3,12 +3,11 @@
 
 mod compare;
 mod halves;
+mod held;
 mod joined;
 mod limits;
-mod moment;
 mod point;
 mod search;
-mod square;
 mod stretch;
 mod turn;
 

@@ -6,9 +6,9 @@ ghost use Rattle.cutter_slabs.specs.Rising.{IsRising};
 ghost use Rattle.box_bisect.specs.SlabTests.{is_below_by, is_excluded_by, is_left_by, is_past_by, width_of};
 
 use crate::compare::{Side, are_on};
-use crate::square::scaled_square;
 use crate::stretch::Stretch;
 use crate::turn::{Reaches, turn};
+use axis_cells::scaled_square;
 use bern_form::{Form4, Slab, lift24, minus4, scale4, times22};
 use std::sync::ledger::Ledger;
 use vf_steps::Steps;

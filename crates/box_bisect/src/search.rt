@@ -6,11 +6,11 @@ ghost use Rattle.box_bisect.specs.Between.{IsMarkBetween, IsSearched};
 ghost use Rattle.box_bisect.specs.SlabTests.{is_held_with, is_left_with};
 ghost use Rattle.box_bisect.specs.Boxes.{undecided_from};
 
+use crate::held::is_covered_by_some;
 use crate::joined::{is_removed, joined};
 use crate::limits::Limits;
-use crate::moment::Moment;
 use crate::stretch::Stretch;
-use axis_cells::Mark;
+use axis_cells::{Mark, Sample};
 use bern_form::Slab;
 use std::sync::ledger::Ledger;
 use vf_steps::Steps;
@@ -44,9 +44,8 @@ pub fn is_held_last<L: Ledger>(
     ensures held { result ≡ is_held_with 2 slabs.now scale stretch.now.u.c stretch.now.n.c stretch.now.d.c }
     ensures cost { steps.new ≤ steps.old + length slabs.now }
 {
-    Moment::of(scale, stretch.u.c[2], stretch.n.c[2], stretch.d.c[2]).is_covered_by_some(
-        slabs, steps,
-    )
+    let sample = Sample::of(scale, stretch.u.c[2], stretch.n.c[2], stretch.d.c[2]);
+    is_covered_by_some(&sample, slabs, steps)
 }
 
 /// The same at the first sample.
@@ -62,9 +61,8 @@ pub fn is_held_first<L: Ledger>(
     ensures held { result ≡ is_held_with 0 slabs.now scale stretch.now.u.c stretch.now.n.c stretch.now.d.c }
     ensures cost { steps.new ≤ steps.old + length slabs.now }
 {
-    Moment::of(scale, stretch.u.c[0], stretch.n.c[0], stretch.d.c[0]).is_covered_by_some(
-        slabs, steps,
-    )
+    let sample = Sample::of(scale, stretch.u.c[0], stretch.n.c[0], stretch.d.c[0]);
+    is_covered_by_some(&sample, slabs, steps)
 }
 
 /// The mark of the point whose forms these are on a stretch of 2^`levels` cells, at whose two ends no inner slab holds it. Where

@@ -1,5 +1,5 @@
 -- The stacks of a cutter rise: their bounds do, and its profile with them.
-use Rattle.std.proofs.Common.{◌≡◌, ℕ, zero, suc, ◌+◌, ◌*◌, ◌-◌, ◌/◌, ◌≤◌, ◌<◌, ◌≤ℤ◌, List, [], ◌∷◌, ◌++◌, int_lt, ℤ, pos, map, arith, refl, sym, subst, append-nil}
+use Rattle.std.proofs.Common.{◌≡◌, ℕ, zero, suc, ◌+◌, ◌*◌, ◌-◌, ◌/◌, ◌≤◌, ◌<◌, ◌≤ℤ◌, List, [], ◌∷◌, ◌++◌, int_lt, pos, map, arith, refl, sym, subst, append-nil}
 use Rattle.std.specs.List.{filter, range_with_len}
 use Rattle.std.proofs.Math.Nat.{div-mul-le_self, mul-le-mul, mul-le-mul_left, mul-le-mul_right}
 use Rattle.std.proofs.lemmas.Bool.{cond_both, ltb-true, ltb-false}
@@ -7,7 +7,7 @@ use Rattle.std.proofs.lemmas.Int.{ints}
 use Rattle.std.proofs.lemmas.Nat.{le-div, mul-lt}
 use Rattle.space.specs.Flanks.{least_widening, lower_tangent, most_widening}
 use Rattle.bern_form.specs.Roots.{ceil_root, floor_root}
-use Rattle.bern_form.specs.Slab.{IsSlab, SlabSize}
+use Rattle.bern_form.specs.Slab.{SlabSize}
 use Rattle.bern_form.proofs.Roots.{ceil_root-least, ceil_root-reaches, floor_root-greatest, floor_root-within, root_le}
 use Rattle.cutter_slabs.specs.Cutter.{CutterSize, IsCutter, flat_of, top_diameter}
 use Rattle.cutter_slabs.specs.Rising.{IsRising}

@@ -3,7 +3,7 @@ use Rattle.std.proofs.lemmas.Int.{to_z-of_z}
 use mir.Syntax.{w32, w128}
 use Rattle.axis_cells.proofs.Fits.{height_fits}
 use Rattle.box_bisect.specs.SlabTests.{is_reached}
-use Rattle.box_bisect.proofs.moment.MomentReaches.reaches.Goals as goal
+use Rattle.box_bisect.proofs.held.SampleReaches.reaches.Goals as goal
 
 pub returns : goal.returns
 returns c =
