@@ -1,5 +1,5 @@
 -- The cell rule goes up a rising stack where n is above 0 by its coefficients.
-use Rattle.std.proofs.Common.{◌≡◌, Bool, true, false, not, ◌||◌, ℕ, zero, suc, ◌≤◌, ◌<◌, List, length, ℤ, pos, negsuc, ◌*ℤ◌, ◌-ℤ◌, ◌<ℤ◌, ◌≤ℤ◌, arith, refl, ap, ⊎_elim}
+use Rattle.std.proofs.Common.{◌≡◌, Bool, true, false, not, ◌||◌, ℕ, ◌≤◌, ◌<◌, List, length, ℤ, pos, negsuc, ◌*ℤ◌, ◌<ℤ◌, ◌≤ℤ◌, arith, refl, ap, ⊎_elim}
 use Rattle.std.proofs.Math.Nat.{mul-le-mul, mul-le-mul_left, mul-le-mul_right}
 use Rattle.std.proofs.lemmas.Bool.{cases_lt}
 use Rattle.std.proofs.lemmas.Int.{ints}
@@ -10,10 +10,10 @@ use Rattle.space.proofs.Naturals.{square_not_negative}
 use Rattle.bern_form.specs.Cells.{scaled_square}
 use Rattle.bern_form.specs.Forms.{all_negative, all_positive, difference4, scaled4}
 use Rattle.bern_form.specs.Slab.{SlabSize}
-use Rattle.bern_form.proofs.Decided.{decides_negative, decides_positive}
+use Rattle.bern_form.proofs.Decided.{decides_positive}
 use Rattle.box_bisect.specs.SlabTests.{is_below_by, is_excluded_by, is_left_by, is_past_by}
 use Rattle.box_bisect.proofs.Deciding.{GoesUp}
-use Rattle.box_bisect.proofs.Raised.{all_over, all_under}
+use Rattle.box_bisect.proofs.Raised.{all_over, all_under, less_or_not, not_over, not_under}
 
 -- a limit rises with its length, and its products with it
 square_rises : (S : ℕ) (x y : ℤ) → pos 0 ≤ℤ x → x ≤ℤ y → scaled_square S x ≤ℤ scaled_square S y
@@ -34,27 +34,14 @@ not_negative r k above =
     ⊎_elim (λ l. let e = (decides_positive r).0 above k (pos 0) l in omega (arith, ints, e)) (λ l. let e : at r k ≡ pos 0 = get_or_past r k (pos 0) l in omega (arith, ints, e)) (cases_lt k (length r))
 
 -- what the comparisons with a limit say of each coefficient
-less_by : (a b : ℤ) → (a -ℤ b) <ℤ pos 0 → a <ℤ b
-less_by a b h = omega (arith, ints)
-
-more_by : (a b : ℤ) → pos 0 <ℤ (a -ℤ b) → b <ℤ a
-more_by a b h = omega (arith, ints)
+both_ways : (b : Bool) → b ≡ true → b ≡ false → ⊥
+both_ways b e f = cc
 
 each_under : (c r : List ℤ) (f : ℤ) → all_negative (difference4 c (scaled4 f r)) ≡ true → (k : ℕ) → k < 5 → at c k <ℤ (f *ℤ at r k)
-each_under c r f h zero l = less_by (at c 0) (f *ℤ at r 0) ((decides_negative (difference4 c (scaled4 f r))).0 h 0 (pos 0) (omega arith))
-each_under c r f h (suc zero) l = less_by (at c 1) (f *ℤ at r 1) ((decides_negative (difference4 c (scaled4 f r))).0 h 1 (pos 0) (omega arith))
-each_under c r f h (suc (suc zero)) l = less_by (at c 2) (f *ℤ at r 2) ((decides_negative (difference4 c (scaled4 f r))).0 h 2 (pos 0) (omega arith))
-each_under c r f h (suc (suc (suc zero))) l = less_by (at c 3) (f *ℤ at r 3) ((decides_negative (difference4 c (scaled4 f r))).0 h 3 (pos 0) (omega arith))
-each_under c r f h (suc (suc (suc (suc zero)))) l = less_by (at c 4) (f *ℤ at r 4) ((decides_negative (difference4 c (scaled4 f r))).0 h 4 (pos 0) (omega arith))
-each_under c r f h (suc (suc (suc (suc (suc k))))) l = absurd (omega (arith, l))
+each_under c r f under k l = ⊎_elim (λ less. less) (λ out. absurd (both_ways _ under (not_under c r f k l out))) (less_or_not (at c k) (f *ℤ at r k))
 
 each_over : (c r : List ℤ) (f : ℤ) → all_positive (difference4 c (scaled4 f r)) ≡ true → (k : ℕ) → k < 5 → (f *ℤ at r k) <ℤ at c k
-each_over c r f h zero l = more_by (at c 0) (f *ℤ at r 0) ((decides_positive (difference4 c (scaled4 f r))).0 h 0 (pos 0) (omega arith))
-each_over c r f h (suc zero) l = more_by (at c 1) (f *ℤ at r 1) ((decides_positive (difference4 c (scaled4 f r))).0 h 1 (pos 0) (omega arith))
-each_over c r f h (suc (suc zero)) l = more_by (at c 2) (f *ℤ at r 2) ((decides_positive (difference4 c (scaled4 f r))).0 h 2 (pos 0) (omega arith))
-each_over c r f h (suc (suc (suc zero))) l = more_by (at c 3) (f *ℤ at r 3) ((decides_positive (difference4 c (scaled4 f r))).0 h 3 (pos 0) (omega arith))
-each_over c r f h (suc (suc (suc (suc zero)))) l = more_by (at c 4) (f *ℤ at r 4) ((decides_positive (difference4 c (scaled4 f r))).0 h 4 (pos 0) (omega arith))
-each_over c r f h (suc (suc (suc (suc (suc k))))) l = absurd (omega (arith, l))
+each_over c r f over k l = ⊎_elim (λ more. more) (λ out. absurd (both_ways _ over (not_over c r f k l out))) (less_or_not (f *ℤ at r k) (at c k))
 
 less_then : (a b c : ℤ) → a <ℤ b → b ≤ℤ c → a <ℤ c
 less_then a b c h k = omega (arith, ints)

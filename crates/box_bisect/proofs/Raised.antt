@@ -106,7 +106,7 @@ pub not_over : (c r : List ℤ) (f : ℤ) (i : ℕ) → i < 5 → at c i ≤ℤ 
 not_over c r f i l h = says_no (AllPositive (difference4 c (scaled4 f r))) (all_positive (difference4 c (scaled4 f r))) (decides_positive (difference4 c (scaled4 f r))) (over_at c r f i l h)
 
 -- the same by the test of each coefficient
-less_or_not : (a b : ℤ) → (a <ℤ b) ⊎ (b ≤ℤ a)
+pub less_or_not : (a b : ℤ) → (a <ℤ b) ⊎ (b ≤ℤ a)
 less_or_not (pos m) (pos n) = ⊎_elim (λ l. inl (omega (arith, ints))) (λ l. inr (omega (arith, ints))) (cases_lt m n)
 less_or_not (pos m) (negsuc n) = inr (omega (arith, ints))
 less_or_not (negsuc m) (pos n) = inl (omega (arith, ints))
