@@ -1,8 +1,8 @@
 -- Numbers that fit their types.
-use Rattle.std.proofs.Common.{◌≡◌, to_z, of_z, ◌*◌, ◌≤◌, List, ℤ, pos, ◌*ℤ◌, unsigned_abs, FitsSigned, arith}
+use Rattle.std.proofs.Common.{◌≡◌, to_z, of_z, ◌*◌, ◌≤◌, List, ℤ, pos, ◌*ℤ◌, ◌-ℤ◌, unsigned_abs, FitsSigned, arith}
 use Rattle.std.proofs.lemmas.Int.{to_z-of_z}
 use mir.Syntax.{w128}
-use Rattle.space.specs.Vectors.{dot, spread}
+use Rattle.space.specs.Vectors.{dot}
 use Rattle.space.specs.Ranges.{IsWithin}
 use Rattle.bern_form.specs.Sizes.{axis_limit, length_limit, offset_limit, scale_limit}
 use Rattle.bern_form.proofs.Sizes.{dot_small}
@@ -17,45 +17,45 @@ pub scaled_square_small : (scale length : ℤ) → unsigned_abs scale ≤ scale_
     → unsigned_abs ((scale *ℤ length) *ℤ (scale *ℤ length)) ≤ length_limit * length_limit
 scaled_square_small scale length h k = let x = scaled_small scale length h k in abs_mul (scale *ℤ length) (scale *ℤ length) length_limit length_limit x x
 
--- the steps of a sample: its numbers, whose bits give them back, and the products
-pub record SampleFits (p a : List ℤ) : Type 0 where
+-- the scalar products of a sample, whose bits give them back
+pub record ProductsFit (p a : List ℤ) : Type 0 where
   pub u_small : unsigned_abs (dot p a) ≤ 3 * (offset_limit * axis_limit)
   pub n_small : unsigned_abs (dot a a) ≤ 3 * (axis_limit * axis_limit)
-  pub w_small : unsigned_abs (spread p a) ≤ 18 * (offset_limit * axis_limit) * (offset_limit * axis_limit)
+  pub d_small : unsigned_abs (dot p p) ≤ 3 * (offset_limit * offset_limit)
   pub u_back : to_z w128 (of_z w128 (dot p a)) ≡ dot p a
   pub n_back : to_z w128 (of_z w128 (dot a a)) ≡ dot a a
   pub d_back : to_z w128 (of_z w128 (dot p p)) ≡ dot p p
-  pub both_back : to_z w128 (of_z w128 (dot p p *ℤ dot a a)) ≡ dot p p *ℤ dot a a
-  pub height_back : to_z w128 (of_z w128 (dot p a *ℤ dot p a)) ≡ dot p a *ℤ dot p a
-  pub w_back : to_z w128 (of_z w128 (spread p a)) ≡ spread p a
-  pub both : FitsSigned w128 (dot p p *ℤ dot a a)
-  pub height : FitsSigned w128 (dot p a *ℤ dot p a)
-  pub whole : FitsSigned w128 (spread p a)
 
-pub sample_fits : (p a : List ℤ) → IsWithin offset_limit p → IsWithin axis_limit a → SampleFits p a
-sample_fits p a h k =
+pub products_fit : (p a : List ℤ) → IsWithin offset_limit p → IsWithin axis_limit a → ProductsFit p a
+products_fit p a h k =
     let d = dot_small p p offset_limit offset_limit h h in
     let n = dot_small a a axis_limit axis_limit k k in
-    let u = dot_small p a offset_limit axis_limit h k in
-    let product = abs_mul (dot p p) (dot a a) (3 * (offset_limit * offset_limit)) (3 * (axis_limit * axis_limit)) d n in
-    let square = abs_mul (dot p a) (dot p a) (3 * (offset_limit * axis_limit)) (3 * (offset_limit * axis_limit)) u u in
-    let difference = abs_sub (dot p p *ℤ dot a a) (dot p a *ℤ dot p a) in
-    let w : unsigned_abs (spread p a) ≤ 18 * (offset_limit * axis_limit) * (offset_limit * axis_limit) = omega arith in
-    let both = fits128 (dot p p *ℤ dot a a) (3 * (offset_limit * offset_limit) * (3 * (axis_limit * axis_limit))) product (omega arith) in
-    let height = fits128 (dot p a *ℤ dot p a) (3 * (offset_limit * axis_limit) * (3 * (offset_limit * axis_limit))) square (omega arith) in
-    let whole = fits128 (spread p a) (18 * (offset_limit * axis_limit) * (offset_limit * axis_limit)) w (omega arith) in record {
+    let u = dot_small p a offset_limit axis_limit h k in record {
       u_small = u;
       n_small = n;
-      w_small = w;
+      d_small = d;
       u_back = to_z-of_z w128 (dot p a) (fits128 (dot p a) (3 * (offset_limit * axis_limit)) u (omega arith));
       n_back = to_z-of_z w128 (dot a a) (fits128 (dot a a) (3 * (axis_limit * axis_limit)) n (omega arith));
       d_back = to_z-of_z w128 (dot p p) (fits128 (dot p p) (3 * (offset_limit * offset_limit)) d (omega arith));
-      both_back = to_z-of_z w128 (dot p p *ℤ dot a a) both;
-      height_back = to_z-of_z w128 (dot p a *ℤ dot p a) height;
-      w_back = to_z-of_z w128 (spread p a) whole;
-      both = both;
-      height = height;
-      whole = whole;
+    }
+
+-- w by u, n and d
+pub record SampleFits (u n d : ℤ) : Type 0 where
+  pub both : FitsSigned w128 (d *ℤ n)
+  pub height : FitsSigned w128 (u *ℤ u)
+  pub whole : FitsSigned w128 (d *ℤ n -ℤ u *ℤ u)
+  pub w_small : unsigned_abs (d *ℤ n -ℤ u *ℤ u) ≤ 18 * (offset_limit * axis_limit) * (offset_limit * axis_limit)
+
+pub sample_fits : (u n d : ℤ) → unsigned_abs u ≤ 3 * (offset_limit * axis_limit) → unsigned_abs n ≤ 3 * (axis_limit * axis_limit) → unsigned_abs d ≤ 3 * (offset_limit * offset_limit) → SampleFits u n d
+sample_fits u n d hu hn hd =
+    let product = abs_mul d n (3 * (offset_limit * offset_limit)) (3 * (axis_limit * axis_limit)) hd hn in
+    let square = abs_mul u u (3 * (offset_limit * axis_limit)) (3 * (offset_limit * axis_limit)) hu hu in
+    let difference = abs_sub (d *ℤ n) (u *ℤ u) in
+    let w : unsigned_abs (d *ℤ n -ℤ u *ℤ u) ≤ 18 * (offset_limit * axis_limit) * (offset_limit * axis_limit) = omega arith in record {
+      both = fits128 (d *ℤ n) (3 * (offset_limit * offset_limit) * (3 * (axis_limit * axis_limit))) product (omega arith);
+      height = fits128 (u *ℤ u) (3 * (offset_limit * axis_limit) * (3 * (offset_limit * axis_limit))) square (omega arith);
+      whole = fits128 (d *ℤ n -ℤ u *ℤ u) (18 * (offset_limit * axis_limit) * (offset_limit * axis_limit)) w (omega arith);
+      w_small = w;
     }
 
 -- the steps of the four tests at a sample

@@ -36,7 +36,7 @@ fn component_product(p: &[i64; 3], q: &[i64; 3], a: &[i64; 3], c: &[i64; 3], i: 
 /// The scalar product of two vectors that are linear on a cell, from their values `p` and `a` at its first end and `q` and
 /// `c` at its last: the sum of the convolutions of their components.
 #[inline]
-fn scalar_product_on_cell(p: &[i64; 3], q: &[i64; 3], a: &[i64; 3], c: &[i64; 3]) -> Form2
+pub fn scalar_product_on_cell(p: &[i64; 3], q: &[i64; 3], a: &[i64; 3], c: &[i64; 3]) -> Form2
     requires p { IsWithin offset_limit p.now }
     requires q { IsWithin offset_limit q.now }
     requires a { IsWithin offset_limit a.now }
@@ -54,12 +54,12 @@ fn scalar_product_on_cell(p: &[i64; 3], q: &[i64; 3], a: &[i64; 3], c: &[i64; 3]
 /// distance from the axis times n.
 #[derive(Drop)]
 pub struct Cell {
-    pub scale: i128,
+    pub scale: u32,
     pub is_behind: bool,
     pub n: Form2,
     pub height: Form4,
     pub width: Form4,
-    ghost scale_small: { unsigned_abs scale ≤ scale_limit },
+    ghost scale_small: { scale ≤ scale_limit },
     ghost n_small: { IsBounded2 (3 * (axis_limit * axis_limit)) n.c },
     ghost height_small: { IsBounded4 (54 * (offset_limit * axis_limit) * (offset_limit * axis_limit)) height.c },
     ghost width_small: { IsBounded4 (432 * (offset_limit * axis_limit) * (offset_limit * axis_limit)) width.c },
@@ -69,7 +69,7 @@ impl Cell {
     /// The cell between two neighbouring samples.
     pub fn between(first: &Pose, last: &Pose, scale: u32) -> Cell
         requires { scale ≤ scale_limit }
-        ensures scale { result.scale ≡ pos scale }
+        ensures scale { result.scale ≡ scale }
         ensures behind { result.is_behind ≡ all_negative (dot_on_cell first.now.offset last.now.offset first.now.axis last.now.axis) }
         ensures n { result.n.c ≡ dot_on_cell first.now.axis last.now.axis first.now.axis last.now.axis }
         ensures height { let u = dot_on_cell first.now.offset last.now.offset first.now.axis last.now.axis in
@@ -85,7 +85,7 @@ impl Cell {
         let height = times22(&u, &u);
         let spread = minus4(&times22(&d, &n), &height);
         Cell {
-            scale: i128::from(scale),
+            scale,
             is_behind: u.all_negative(),
             n,
             height,
@@ -98,7 +98,7 @@ impl Cell {
         requires point { IsPoint point.now }
         requires within { k < scale }
         requires scale { scale ≤ scale_limit }
-        ensures { IsCellOf result.scale result.is_behind result.n.c result.height.c result.width.c sweep.now point.now k scale }
+        ensures { IsCellOf (pos result.scale) result.is_behind result.n.c result.height.c result.width.c sweep.now point.now k scale }
     {
         let first = Pose::at_sample(sweep, point, k, scale);
         let last = Pose::at_sample(sweep, point, k + 1, scale);
@@ -109,7 +109,7 @@ impl Cell {
     #[inline]
     fn squared(&self, length: i32) -> Form4
         requires { unsigned_abs length ≤ 300000 }
-        ensures list { result.c ≡ squared self.now.scale length self.now.n.c }
+        ensures list { result.c ≡ squared (pos self.now.scale) length self.now.n.c }
         ensures small { IsBounded4 (18 * (length_limit * axis_limit) * (length_limit * axis_limit)) result.c }
     {
         lift24(&scale2(&self.n, scaled_square(self.scale, length)))
@@ -118,7 +118,7 @@ impl Cell {
     /// Whether u^2 stays below lo^2 n throughout.
     fn is_below(&self, lo: i32) -> bool
         requires { unsigned_abs lo ≤ 300000 }
-        ensures { result ≡ all_negative (difference4 self.now.height.c (squared self.now.scale lo self.now.n.c)) }
+        ensures { result ≡ all_negative (difference4 self.now.height.c (squared (pos self.now.scale) lo self.now.n.c)) }
     {
         minus4(&self.height, &self.squared(lo)).all_negative()
     }
@@ -126,7 +126,7 @@ impl Cell {
     /// Whether u^2 stays above hi^2 n throughout.
     fn is_above(&self, hi: i32) -> bool
         requires { unsigned_abs hi ≤ 300000 }
-        ensures { result ≡ all_positive (difference4 self.now.height.c (squared self.now.scale hi self.now.n.c)) }
+        ensures { result ≡ all_positive (difference4 self.now.height.c (squared (pos self.now.scale) hi self.now.n.c)) }
     {
         minus4(&self.height, &self.squared(hi)).all_positive()
     }
@@ -134,7 +134,7 @@ impl Cell {
     /// Whether 4 w stays above dia^2 n throughout.
     fn is_beside(&self, dia: i32) -> bool
         requires { unsigned_abs dia ≤ 300000 }
-        ensures { result ≡ all_positive (difference4 self.now.width.c (squared self.now.scale dia self.now.n.c)) }
+        ensures { result ≡ all_positive (difference4 self.now.width.c (squared (pos self.now.scale) dia self.now.n.c)) }
     {
         minus4(&self.width, &self.squared(dia)).all_positive()
     }
@@ -142,7 +142,7 @@ impl Cell {
     /// Whether the slab is excluded on this cell: the point is behind the tip throughout, or below the slab, or above it, or
     /// beside it.
     pub fn excludes(&self, slab: &Slab) -> bool
-        ensures { result ≡ excluded_by self.now.scale self.now.is_behind self.now.n.c self.now.height.c self.now.width.c slab.now }
+        ensures { result ≡ excluded_by (pos self.now.scale) self.now.is_behind self.now.n.c self.now.height.c self.now.width.c slab.now }
     {
         if self.is_behind {
             return true;
@@ -158,7 +158,7 @@ impl Cell {
 
     /// Whether some of the slabs is not excluded on this cell.
     pub fn leaves_some(&self, slabs: &[Slab]) -> bool
-        ensures { result ≡ leaves_some self.now.scale self.now.is_behind self.now.n.c self.now.height.c self.now.width.c slabs.now }
+        ensures { result ≡ leaves_some (pos self.now.scale) self.now.is_behind self.now.n.c self.now.height.c self.now.width.c slabs.now }
     {
         for slab in slabs {
             if !self.excludes(slab) {

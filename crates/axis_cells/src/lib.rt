@@ -11,11 +11,12 @@ mod reach;
 mod sample;
 mod sweep;
 
+pub use cell::scalar_product_on_cell;
+pub use length::scaled_square;
 pub use mark::Mark;
 pub use plain::plain_mark;
-pub use point::{at_sample, cell_excludes};
+pub use point::{at_sample, cell_excludes, cells_of};
+pub use pose::Pose;
 pub use reach::in_reach;
+pub use sample::Sample;
 pub use sweep::Sweep;
-
-#[cfg(test)]
-mod tests;

@@ -1,7 +1,8 @@
-ghost use Rattle.std.specs.Prelude.{◌≡◌, ◌*◌, ◌<◌, ◌≤◌, ◌&&◌, ◌*ℤ◌, pos, int_le, unsigned_abs};
+ghost use Rattle.std.specs.Prelude.{◌≡◌, ◌*◌, ◌<◌, ◌≤◌, ◌&&◌, ◌*ℤ◌, ◌-ℤ◌, pos, int_le, unsigned_abs};
 ghost use Rattle.space.specs.Ranges.{IsWithin};
 ghost use Rattle.space.specs.Vectors.{at, dot, spread};
 ghost use Rattle.bern_form.specs.Sizes.{axis_limit, offset_limit, scale_limit};
+ghost use Rattle.bern_form.specs.Cells.{scaled_square};
 ghost use Rattle.bern_form.specs.Slab.{covers};
 ghost use Rattle.axis_cells.specs.Exclusion.{covered_by_some};
 
@@ -64,20 +65,40 @@ fn lies_within(
 /// w = |p|^2 n - u^2, the squared distance from the axis times n.
 #[derive(Drop)]
 pub struct Sample {
-    pub scale: i128,
+    pub scale: u32,
     pub u: i128,
     pub n: i128,
     pub w: i128,
-    ghost scale_small: { unsigned_abs scale ≤ scale_limit },
+    ghost scale_small: { scale ≤ scale_limit },
     ghost u_small: { unsigned_abs u ≤ 3 * (offset_limit * axis_limit) },
     ghost n_small: { unsigned_abs n ≤ 3 * (axis_limit * axis_limit) },
     ghost w_small: { unsigned_abs w ≤ 18 * (offset_limit * axis_limit) * (offset_limit * axis_limit) },
 }
 
 impl Sample {
+    /// By u, n and d = |p|^2.
+    #[inline]
+    pub fn of(scale: u32, u: i128, n: i128, d: i128) -> Sample
+        requires scale { scale ≤ scale_limit }
+        requires u { unsigned_abs u ≤ 3 * (offset_limit * axis_limit) }
+        requires n { unsigned_abs n ≤ 3 * (axis_limit * axis_limit) }
+        requires d { unsigned_abs d ≤ 3 * (offset_limit * offset_limit) }
+        ensures scale { result.scale ≡ scale }
+        ensures u { result.u ≡ u }
+        ensures n { result.n ≡ n }
+        ensures w { result.w ≡ d *ℤ n -ℤ u *ℤ u }
+    {
+        Sample {
+            scale,
+            u,
+            n,
+            w: d * n - u * u,
+        }
+    }
+
     pub fn of_pose(pose: &Pose, scale: u32) -> Sample
         requires { scale ≤ scale_limit }
-        ensures scale { result.scale ≡ pos scale }
+        ensures scale { result.scale ≡ scale }
         ensures u { result.u ≡ dot pose.now.offset pose.now.axis }
         ensures n { result.n ≡ dot pose.now.axis pose.now.axis }
         ensures w { result.w ≡ spread pose.now.offset pose.now.axis }
@@ -85,26 +106,21 @@ impl Sample {
         let u = scalar_product(&pose.offset, &pose.axis);
         let n = scalar_product(&pose.axis, &pose.axis);
         let d = scalar_product(&pose.offset, &pose.offset);
-        Sample {
-            scale: i128::from(scale),
-            u,
-            n,
-            w: d * n - u * u,
-        }
+        Sample::of(scale, u, n, d)
     }
 
     /// n times the square of a length.
     #[inline]
-    fn squared(&self, length: i32) -> i128
+    pub fn squared(&self, length: i32) -> i128
         requires { unsigned_abs length ≤ 300000 }
-        ensures { result ≡ ((self.now.scale *ℤ length) *ℤ (self.now.scale *ℤ length)) *ℤ self.now.n }
+        ensures { result ≡ scaled_square self.now.scale length *ℤ self.now.n }
     {
         scaled_square(self.scale, length) * self.n
     }
 
     /// Whether the slab holds the point at this sample.
     pub fn is_covered_by(&self, slab: &Slab) -> bool
-        ensures { result ≡ covers slab.now self.now.scale self.now.u self.now.n self.now.w }
+        ensures { result ≡ covers slab.now (pos self.now.scale) self.now.u self.now.n self.now.w }
     {
         let lowest = self.squared(slab.lo);
         let highest = self.squared(slab.hi);
@@ -116,7 +132,7 @@ impl Sample {
 
     /// Whether some of the slabs holds the point at this sample.
     pub fn is_covered_by_some(&self, slabs: &[Slab]) -> bool
-        ensures { result ≡ covered_by_some self.now.scale self.now.u self.now.n self.now.w slabs.now }
+        ensures { result ≡ covered_by_some (pos self.now.scale) self.now.u self.now.n self.now.w slabs.now }
     {
         for slab in slabs {
             if self.is_covered_by(slab) {

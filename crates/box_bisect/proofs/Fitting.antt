@@ -1,32 +1,12 @@
 -- Numbers of the tests that fit 128 bits.
-use Rattle.std.proofs.Common.{◌≡◌, to_z, of_z, ℕ, zero, suc, ◌+◌, ◌*◌, ◌^◌, ◌≤◌, ◌<◌, List, ℤ, pos, ◌+ℤ◌, ◌*ℤ◌, ◌-ℤ◌, unsigned_abs, FitsSigned, arith, subst}
-use Rattle.std.proofs.lemmas.Int.{to_z-of_z}
+use Rattle.std.proofs.Common.{◌≡◌, ℕ, zero, suc, ◌*◌, ◌≤◌, ◌<◌, List, ℤ, ◌*ℤ◌, unsigned_abs, FitsSigned, arith, subst}
 use mir.Syntax.{w128}
 use Rattle.space.specs.Vectors.{at}
 use Rattle.space.proofs.Facts.{fits128}
-use Rattle.space.proofs.Naturals.{abs_mul, abs_sub}
+use Rattle.space.proofs.Naturals.{abs_mul}
 use Rattle.bern_form.specs.Forms.{lifted}
-use Rattle.bern_form.specs.Sizes.{IsBounded2, IsBounded4, axis_limit, length_limit, offset_limit}
+use Rattle.bern_form.specs.Sizes.{IsBounded2, IsBounded4, axis_limit, length_limit}
 use Rattle.bern_form.proofs.Sizes.{lifted_bounded}
-
--- w by u, n and d
-pub record MomentFits (u n d : ℤ) : Type 0 where
-  pub both : FitsSigned w128 (d *ℤ n)
-  pub height : FitsSigned w128 (u *ℤ u)
-  pub whole : FitsSigned w128 (d *ℤ n -ℤ u *ℤ u)
-  pub w_small : unsigned_abs (d *ℤ n -ℤ u *ℤ u) ≤ 18 * (offset_limit * axis_limit) * (offset_limit * axis_limit)
-
-pub moment_fits : (u n d : ℤ) → unsigned_abs u ≤ 3 * (offset_limit * axis_limit) → unsigned_abs n ≤ 3 * (axis_limit * axis_limit) → unsigned_abs d ≤ 3 * (offset_limit * offset_limit) → MomentFits u n d
-moment_fits u n d hu hn hd =
-    let product = abs_mul d n (3 * (offset_limit * offset_limit)) (3 * (axis_limit * axis_limit)) hd hn in
-    let square = abs_mul u u (3 * (offset_limit * axis_limit)) (3 * (offset_limit * axis_limit)) hu hu in
-    let difference = abs_sub (d *ℤ n) (u *ℤ u) in
-    let w : unsigned_abs (d *ℤ n -ℤ u *ℤ u) ≤ 18 * (offset_limit * axis_limit) * (offset_limit * axis_limit) = omega arith in record {
-      both = fits128 (d *ℤ n) (3 * (offset_limit * offset_limit) * (3 * (axis_limit * axis_limit))) product (omega arith);
-      height = fits128 (u *ℤ u) (3 * (offset_limit * axis_limit) * (3 * (offset_limit * axis_limit))) square (omega arith);
-      whole = fits128 (d *ℤ n -ℤ u *ℤ u) (18 * (offset_limit * axis_limit) * (offset_limit * axis_limit)) w (omega arith);
-      w_small = w;
-    }
 
 -- a coefficient of a bounded form
 pub coefficient_small : (m : ℕ) (c : List ℤ) (i : ℕ) → i < 5 → IsBounded4 m c → unsigned_abs (at c i) ≤ m

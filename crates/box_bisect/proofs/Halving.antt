@@ -1,5 +1,5 @@
 -- The forms of a point on a stretch give those of its halves: the divisions leave nothing, since the samples are whole.
-use Rattle.std.proofs.Common.{◌≡◌, ℕ, ◌+◌, ◌*◌, ◌≤◌, ◌<◌, [], ◌∷◌, List, ℤ, pos, ◌+ℤ◌, ◌*ℤ◌, ◌-ℤ◌, unsigned_abs, int_div, int_rem, FitsSigned, arith, ap, refl, ◌∙◌}
+use Rattle.std.proofs.Common.{◌≡◌, ℕ, ◌+◌, ◌*◌, ◌≤◌, [], ◌∷◌, List, ℤ, pos, ◌+ℤ◌, ◌*ℤ◌, ◌-ℤ◌, unsigned_abs, int_div, int_rem, FitsSigned, arith, ap, refl, ◌∙◌}
 use Rattle.std.proofs.lemmas.Int.{ints, quot-rem, quot_fits, rem_below}
 use mir.Syntax.{w128}
 use Rattle.space.proofs.Facts.{fits128}

@@ -1,6 +1,9 @@
-pub mod EndLemmas
+pub mod Poses
 pub mod Halving
 pub mod Raised
+pub mod Deciding
+pub mod Reaching
+pub mod Leaving
 pub mod Searching
 pub mod Counting
 pub mod Fitting

@@ -1,8 +1,8 @@
 -- The mark of a point from what was found between the first and the last sample of the move.
-use Rattle.std.proofs.Common.{◌≡◌, Bool, true, false, ℕ, ◌+◌, ◌≤◌, ◌<◌, List, ℤ, if◌then◌else◌, arith, refl, sym, ◌∙◌}
+use Rattle.std.proofs.Common.{◌≡◌, Bool, true, false, ℕ, ◌+◌, List, ℤ, if◌then◌else◌, arith, refl}
 use Rattle.space.specs.Motion.{Motion}
 use Rattle.space.specs.Reach.{is_in_reach}
-use Rattle.bern_form.specs.Marks.{held_at_sample, is_left_on, is_left_on_cell, is_possible, some_holds}
+use Rattle.bern_form.specs.Marks.{held_at_sample, is_left_on, is_possible, some_holds}
 use Rattle.bern_form.specs.Slab.{SlabSize}
 use Rattle.bern_form.proofs.Decided.{found_below, none_below}
 use Rattle.axis_cells.specs.declared.mark.Mark.{Mark}

@@ -1,5 +1,5 @@
 -- n raised to degree 4 once, and the comparison of coefficients, are the cell rule.
-use Rattle.std.proofs.Common.{◌≡◌, true, false, not, ◌||◌, ℕ, zero, suc, ◌≤◌, ◌<◌, [], ◌∷◌, List, ℤ, pos, negsuc, ◌+ℤ◌, ◌*ℤ◌, ◌-ℤ◌, ◌<ℤ◌, ◌≤ℤ◌, ◌⊎◌, Bool, int_lt, inl, inr, arith, refl, ap, ◌∙◌, ⊎_elim}
+use Rattle.std.proofs.Common.{◌≡◌, true, false, not, ◌||◌, ℕ, zero, suc, ◌<◌, [], ◌∷◌, List, ℤ, pos, negsuc, ◌*ℤ◌, ◌-ℤ◌, ◌<ℤ◌, ◌≤ℤ◌, ◌⊎◌, Bool, int_lt, inl, inr, arith, refl, ap, ◌∙◌, ⊎_elim}
 use Rattle.std.specs.List.{list_any}
 use Rattle.std.proofs.lemmas.Int.{ints}
 use Rattle.std.proofs.lemmas.Bool.{cases_lt}
@@ -15,7 +15,10 @@ use Rattle.bern_form.specs.Slab.{SlabSize}
 use Rattle.bern_form.proofs.Decided.{decides_negative, decides_positive, says_no}
 use Rattle.bern_form.proofs.HalfSigns.{all_five}
 use Rattle.bern_form.proofs.Relations.{AllNegative, AllPositive}
-use Rattle.box_bisect.specs.SlabTests.{is_excluded_by, is_left_by, is_left_with}
+use Rattle.box_bisect.specs.SlabTests.{is_excluded_by, is_left_by, is_left_with, width_of}
+use Rattle.box_bisect.specs.Sides.{all_on, is_on}
+use Rattle.box_bisect.specs.declared.compare.Side.{Side}
+use Rattle.box_bisect.specs.declared.compare.Side.TheVariants.{Above, Below}
 
 same5 : (a b c d e f g h i j : ℤ) → a ≡ f → b ≡ g → c ≡ h → d ≡ i → e ≡ j → a ∷ b ∷ c ∷ d ∷ e ∷ [] ≡ f ∷ g ∷ h ∷ i ∷ j ∷ []
 same5 a b c d e f g h i j p q r s t =
@@ -40,9 +43,9 @@ raised_is f n =
     same5 _ _ _ _ _ _ _ _ _ _ (ring e (x 0) (y 0) refl) (ring e (x 1) (y 1) refl) (ring e (x 2) (y 2) refl) (ring e (x 3) (y 3) refl) (ring e (x 4) (y 4) refl)
 
 pub excluded_is : (s : SlabSize) (S : ℕ) (u n d : List ℤ)
-    → is_excluded_by S (all_negative u) (lifted n) (product22 u u) (scaled4 (pos 4) (difference4 (product22 d n) (product22 u u))) s ≡ is_excluded_with s S u n d
+    → is_excluded_by S (all_negative u) (lifted n) (product22 u u) (width_of u n d) s ≡ is_excluded_with s S u n d
 excluded_is s S u n d =
-    let height = product22 u u in let width = scaled4 (pos 4) (difference4 (product22 d n) (product22 u u)) in
+    let height = product22 u u in let width = width_of u n d in
     let lo = scaled_square S s.lo in let hi = scaled_square S s.hi in let dia = scaled_square S s.dia in
     let low = λ (l : List ℤ). all_negative (difference4 height l) in let high = λ (l : List ℤ). all_positive (difference4 height l) in let side = λ (l : List ℤ). all_positive (difference4 width l) in
     ap (λ l. all_negative u || (low l || (high (scaled4 hi (lifted n)) || side (scaled4 dia (lifted n))))) (raised_is lo n)
@@ -50,7 +53,7 @@ excluded_is s S u n d =
     ∙ ap (λ l. all_negative u || (low (lifted (scaled2 lo n)) || (high (lifted (scaled2 hi n)) || side l))) (raised_is dia n)
 
 pub left_is : (slabs : List SlabSize) (S : ℕ) (u n d : List ℤ)
-    → is_left_by S (all_negative u) (lifted n) (product22 u u) (scaled4 (pos 4) (difference4 (product22 d n) (product22 u u))) slabs ≡ is_left_with slabs S u n d
+    → is_left_by S (all_negative u) (lifted n) (product22 u u) (width_of u n d) slabs ≡ is_left_with slabs S u n d
 left_is slabs S u n d = λ i. list_any (λ s. not (excluded_is s S u n d i)) slabs
 
 -- coefficients compared one by one
@@ -103,7 +106,7 @@ pub not_over : (c r : List ℤ) (f : ℤ) (i : ℕ) → i < 5 → at c i ≤ℤ 
 not_over c r f i l h = says_no (AllPositive (difference4 c (scaled4 f r))) (all_positive (difference4 c (scaled4 f r))) (decides_positive (difference4 c (scaled4 f r))) (over_at c r f i l h)
 
 -- the same by the test of each coefficient
-less_or_not : (a b : ℤ) → (a <ℤ b) ⊎ (b ≤ℤ a)
+pub less_or_not : (a b : ℤ) → (a <ℤ b) ⊎ (b ≤ℤ a)
 less_or_not (pos m) (pos n) = ⊎_elim (λ l. inl (omega (arith, ints))) (λ l. inr (omega (arith, ints))) (cases_lt m n)
 less_or_not (pos m) (negsuc n) = inr (omega (arith, ints))
 less_or_not (negsuc m) (pos n) = inl (omega (arith, ints))
@@ -112,29 +115,18 @@ less_or_not (negsuc m) (negsuc n) = ⊎_elim (λ l. inl (omega (arith, ints))) (
 not_less : (a b : ℤ) → int_lt a b ≡ false → b ≤ℤ a
 not_less a b h = let no = not_from_Decides (int_lt a b) (decides_lt a b) h in ⊎_elim (λ less. absurd (no less)) (λ more. more) (less_or_not a b)
 
-pub all_less : (c r : List ℤ) (f : ℤ) → ((k : ℕ) → k < 5 → int_lt (at c k) (f *ℤ at r k) ≡ true) → all_negative (difference4 c (scaled4 f r)) ≡ true
-all_less c r f h = all_under c r f (λ k l. (decides_lt (at c k) (f *ℤ at r k)).0 (h k l))
+pub each_on : (side : Side) (c r : List ℤ) (f : ℤ) → ((k : ℕ) → k < 5 → is_on side (at c k) (f *ℤ at r k) ≡ true) → all_on side (difference4 c (scaled4 f r)) ≡ true
+each_on Below c r f h = all_under c r f (λ k l. (decides_lt (at c k) (f *ℤ at r k)).0 (h k l))
+each_on Above c r f h = all_over c r f (λ k l. (decides_lt (f *ℤ at r k) (at c k)).0 (h k l))
 
-pub all_more : (c r : List ℤ) (f : ℤ) → ((k : ℕ) → k < 5 → int_lt (f *ℤ at r k) (at c k) ≡ true) → all_positive (difference4 c (scaled4 f r)) ≡ true
-all_more c r f h = all_over c r f (λ k l. (decides_lt (f *ℤ at r k) (at c k)).0 (h k l))
-
-pub one_not_less : (c r : List ℤ) (f : ℤ) (i : ℕ) → i < 5 → int_lt (at c i) (f *ℤ at r i) ≡ false → all_negative (difference4 c (scaled4 f r)) ≡ false
-one_not_less c r f i l h = not_under c r f i l (not_less (at c i) (f *ℤ at r i) h)
-
-pub one_not_more : (c r : List ℤ) (f : ℤ) (i : ℕ) → i < 5 → int_lt (f *ℤ at r i) (at c i) ≡ false → all_positive (difference4 c (scaled4 f r)) ≡ false
-one_not_more c r f i l h = not_over c r f i l (not_less (f *ℤ at r i) (at c i) h)
-
--- of four tests the first three say no
-pub last_of_four : (p q r t : Bool) → p ≡ false → q ≡ false → r ≡ false → t ≡ (p || (q || (r || t)))
-last_of_four true q r t h k l = cc
-last_of_four false true r t h k l = cc
-last_of_four false false true t h k l = cc
-last_of_four false false false t h k l = refl
+pub one_not_on : (side : Side) (c r : List ℤ) (f : ℤ) (i : ℕ) → i < 5 → is_on side (at c i) (f *ℤ at r i) ≡ false → all_on side (difference4 c (scaled4 f r)) ≡ false
+one_not_on Below c r f i l h = not_under c r f i l (not_less (at c i) (f *ℤ at r i) h)
+one_not_on Above c r f i l h = not_over c r f i l (not_less (f *ℤ at r i) (at c i) h)
 
 -- what is kept between two samples gives the test by the forms
 pub left_of : (slabs : List SlabSize) (S kept : ℕ) (behind : Bool) (raised height width u n d : List ℤ) → kept ≡ S → behind ≡ all_negative u → raised ≡ lifted n → height ≡ product22 u u
-    → width ≡ scaled4 (pos 4) (difference4 (product22 d n) (product22 u u)) → is_left_by kept behind raised height width slabs ≡ is_left_with slabs S u n d
+    → width ≡ width_of u n d → is_left_by kept behind raised height width slabs ≡ is_left_with slabs S u n d
 left_of slabs S kept behind raised height width u n d eS eb er eh ew =
-    let W = scaled4 (pos 4) (difference4 (product22 d n) (product22 u u)) in
+    let W = width_of u n d in
     ap (λ z. is_left_by z behind raised height width slabs) eS ∙ ap (λ z. is_left_by S z raised height width slabs) eb ∙ ap (λ z. is_left_by S (all_negative u) z height width slabs) er
     ∙ ap (λ z. is_left_by S (all_negative u) (lifted n) z width slabs) eh ∙ ap (λ z. is_left_by S (all_negative u) (lifted n) (product22 u u) z slabs) ew ∙ left_is slabs S u n d

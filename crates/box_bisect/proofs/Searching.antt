@@ -1,12 +1,11 @@
 -- The marks of a stretch: where it is dropped, where it is a cell, and from those of its halves.
-use Rattle.std.proofs.Common.{◌≡◌, Bool, true, false, not, ℕ, zero, suc, ◌+◌, ◌-◌, ◌*◌, ◌^◌, ◌≤◌, ◌<◌, List, ℤ, pos, arith, refl, subst, sym, ap, ◌∙◌, ⊎_elim}
-use Rattle.std.proofs.lemmas.Bool.{cases_Bool, cases_lt}
+use Rattle.std.proofs.Common.{◌≡◌, Bool, true, false, ℕ, suc, ◌+◌, ◌*◌, ◌^◌, ◌≤◌, ◌<◌, List, ℤ, arith, refl, subst, sym, ap, ◌∙◌, ⊎_elim}
+use Rattle.std.proofs.lemmas.Bool.{cases_lt}
 use Rattle.std.proofs.Math.Nat.{two-pow-succ}
 use Rattle.std.proofs.Math.Pow.{pow_mono}
 use Rattle.space.specs.Motion.{Motion}
-use Rattle.space.specs.Vectors.{at}
 use Rattle.bern_form.specs.Between.{d_between, is_left_between, n_between, u_between}
-use Rattle.bern_form.specs.Marks.{is_left_on, some_holds}
+use Rattle.bern_form.specs.Marks.{some_holds}
 use Rattle.bern_form.specs.Slab.{SlabSize}
 use Rattle.bern_form.proofs.Finer.{all_out, held_at_none, left_on_none}
 use Rattle.axis_cells.specs.declared.mark.Mark.{Mark}

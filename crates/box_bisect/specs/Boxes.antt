@@ -10,7 +10,8 @@ use Rattle.bern_form.specs.Between.{is_left_between}
 unfoldable pub undecided_from : List SlabSize → Motion → List ℤ → ℕ → ℕ → ℕ → ℕ
 undecided_from slabs m p S zero j = if is_left_between slabs m p j (j + 1) S then 1 else 0
 undecided_from slabs m p S (suc n) j =
-    if is_left_between slabs m p j (j + 2 ^ suc n) S then 1 + (undecided_from slabs m p S n j + undecided_from slabs m p S n (j + 2 ^ n)) else 0
+    let halves = undecided_from slabs m p S n j + undecided_from slabs m p S n (j + 2 ^ n) in
+    if is_left_between slabs m p j (j + 2 ^ suc n) S then 1 + halves else 0
 
 -- of the whole move, at the cells of a depth
 abbrev pub undecided_boxes : List SlabSize → Motion → List ℤ → ℕ → ℕ

@@ -1,18 +1,14 @@
 //! The mark of one point by halving the time of a move, with its tests counted.
 #![tactic(auto)]
 
-mod end;
-mod forms;
+mod compare;
 mod halves;
+mod held;
 mod joined;
 mod limits;
-mod moment;
 mod point;
 mod search;
-mod square;
 mod stretch;
+mod turn;
 
 pub use point::{mark_point, mark_point_uncounted};
-
-#[cfg(test)]
-mod tests;

@@ -1,62 +1,17 @@
-ghost use Rattle.std.specs.Prelude.{◌≡◌, ◌+◌, ◌*◌, ◌≤◌, ◌*ℤ◌, int_lt, length, pos, unsigned_abs};
+ghost use Rattle.std.specs.Prelude.{◌≡◌, ◌+◌, ◌*◌, ◌≤◌, ◌*ℤ◌, int_lt, length, pos, unsigned_abs, true, false, not};
 ghost use Rattle.bern_form.specs.Forms.{all_negative, all_positive, difference4, lifted, product22, scaled4};
 ghost use Rattle.bern_form.specs.Cells.{scaled_square};
 ghost use Rattle.bern_form.specs.Sizes.{IsBounded4, axis_limit, length_limit, offset_limit, scale_limit};
-ghost use Rattle.box_bisect.specs.SlabTests.{is_excluded_by, is_left_by};
+ghost use Rattle.cutter_slabs.specs.Rising.{IsRising};
+ghost use Rattle.box_bisect.specs.SlabTests.{is_below_by, is_excluded_by, is_left_by, is_past_by, width_of};
 
-use crate::square::scaled_square;
+use crate::compare::{Side, are_on};
 use crate::stretch::Stretch;
+use crate::turn::{Reaches, turn};
+use axis_cells::scaled_square;
 use bern_form::{Form4, Slab, lift24, minus4, scale4, times22};
 use std::sync::ledger::Ledger;
 use vf_steps::Steps;
-
-/// Whether a is below the limit times r.
-#[inline]
-fn is_less(a: i128, limit: i128, r: i128) -> bool
-    requires limit { unsigned_abs limit ≤ length_limit * length_limit }
-    requires r { unsigned_abs r ≤ 18 * (axis_limit * axis_limit) }
-    ensures { result ≡ int_lt a (limit *ℤ r) }
-{
-    a < limit * r
-}
-
-/// Whether a is above the limit times r.
-#[inline]
-fn is_more(a: i128, limit: i128, r: i128) -> bool
-    requires limit { unsigned_abs limit ≤ length_limit * length_limit }
-    requires r { unsigned_abs r ≤ 18 * (axis_limit * axis_limit) }
-    ensures { result ≡ int_lt (limit *ℤ r) a }
-{
-    limit * r < a
-}
-
-/// Whether each coefficient is below the limit times the other form's.
-fn is_under(form: &Form4, limit: i128, raised: &Form4) -> bool
-    requires limit { unsigned_abs limit ≤ length_limit * length_limit }
-    requires raised { IsBounded4 (18 * (axis_limit * axis_limit)) raised.now.c }
-    ensures { result ≡ all_negative (difference4 form.now.c (scaled4 limit raised.now.c)) }
-{
-    for i in 0..5 {
-        if !is_less(form.c[i], limit, raised.c[i]) {
-            return false;
-        }
-    }
-    true
-}
-
-/// Whether each coefficient is above the limit times the other form's.
-fn is_over(form: &Form4, limit: i128, raised: &Form4) -> bool
-    requires limit { unsigned_abs limit ≤ length_limit * length_limit }
-    requires raised { IsBounded4 (18 * (axis_limit * axis_limit)) raised.now.c }
-    ensures { result ≡ all_positive (difference4 form.now.c (scaled4 limit raised.now.c)) }
-{
-    for i in 0..5 {
-        if !is_more(form.c[i], limit, raised.c[i]) {
-            return false;
-        }
-    }
-    true
-}
 
 /// What the slabs' tests between two samples share: whether u is below 0 throughout, n raised to degree 4, u^2, and
 /// 4 (d n - u^2), which is four times the squared distance from the axis times n.
@@ -71,6 +26,21 @@ pub struct Limits {
     ghost raised_small: { IsBounded4 (18 * (axis_limit * axis_limit)) raised.c },
 }
 
+impl Reaches for Limits {
+    ghost reached = { λ l. λ s. not (is_below_by l.scale l.raised.c l.height.c s) };
+
+    /// Whether the point isn't below the slab throughout.
+    #[inline]
+    fn reaches(&self, slab: &Slab) -> bool {
+        !are_on(
+            Side::Below,
+            &self.height,
+            scaled_square(self.scale, slab.lo),
+            &self.raised,
+        )
+    }
+}
+
 impl Limits {
     pub fn of_stretch(stretch: &Stretch, scale: u32) -> Limits
         requires { scale ≤ scale_limit }
@@ -78,7 +48,7 @@ impl Limits {
         ensures behind { result.is_behind ≡ all_negative stretch.now.u.c }
         ensures raised { result.raised.c ≡ lifted stretch.now.n.c }
         ensures height { result.height.c ≡ product22 stretch.now.u.c stretch.now.u.c }
-        ensures width { result.width.c ≡ scaled4 (pos 4) (difference4 (product22 stretch.now.d.c stretch.now.n.c) (product22 stretch.now.u.c stretch.now.u.c)) }
+        ensures width { result.width.c ≡ width_of stretch.now.u.c stretch.now.n.c stretch.now.d.c }
     {
         let height = times22(&stretch.u, &stretch.u);
         let spread = minus4(&times22(&stretch.d, &stretch.n), &height);
@@ -91,38 +61,44 @@ impl Limits {
         }
     }
 
-    /// Whether the slab is excluded between the two samples: the point is behind the tip throughout, or below the slab, or above
-    /// it, or beside it.
-    pub fn excludes(&self, slab: &Slab) -> bool
-        ensures { result ≡ is_excluded_by self.now.scale self.now.is_behind self.now.raised.c self.now.height.c self.now.width.c slab.now }
+    /// Whether the point is above the slab throughout, or beside it.
+    #[inline]
+    fn is_past(&self, slab: &Slab) -> bool
+        ensures { let l = self.now in result ≡ is_past_by l.scale l.raised.c l.height.c l.width.c slab.now }
     {
-        if self.is_behind {
-            return true;
-        }
-        if is_under(
-            &self.height,
-            scaled_square(self.scale, slab.lo),
-            &self.raised,
-        ) {
-            return true;
-        }
-        if is_over(
+        if are_on(
+            Side::Above,
             &self.height,
             scaled_square(self.scale, slab.hi),
             &self.raised,
         ) {
             return true;
         }
-        is_over(
+        are_on(
+            Side::Above,
             &self.width,
             scaled_square(self.scale, slab.dia),
             &self.raised,
         )
     }
 
-    /// Whether some of the slabs is not excluded; each slab that is tried is a step.
-    pub fn leaves_some<L: Ledger>(&self, slabs: &[Slab], steps: &mut Steps<L>) -> bool
-        ensures left { result ≡ is_left_by self.now.scale self.now.is_behind self.now.raised.c self.now.height.c self.now.width.c slabs.now }
+    /// Whether the slab is excluded between the two samples: the point is behind the tip throughout, or below the slab, or above
+    /// it, or beside it.
+    fn excludes(&self, slab: &Slab) -> bool
+        ensures { let l = self.now in result ≡ is_excluded_by l.scale l.is_behind l.raised.c l.height.c l.width.c slab.now }
+    {
+        if self.is_behind {
+            return true;
+        }
+        if !self.reaches(slab) {
+            return true;
+        }
+        self.is_past(slab)
+    }
+
+    /// Whether some of any slabs is not excluded; each slab that is tried is a step.
+    fn leaves_some_of<L: Ledger>(&self, slabs: &[Slab], steps: &mut Steps<L>) -> bool
+        ensures left { let l = self.now in result ≡ is_left_by l.scale l.is_behind l.raised.c l.height.c l.width.c slabs.now }
         ensures cost { steps.new ≤ steps.old + length slabs.now }
     {
         for slab in slabs {
@@ -132,5 +108,36 @@ impl Limits {
             }
         }
         false
+    }
+
+    /// The same of slabs that rise, where n is above 0 by its coefficients. The highest slab that the point isn't below decides: it
+    /// is below those above that, and above or beside those below where it is above or beside that one.
+    fn leaves_some_by_one<L: Ledger>(&self, slabs: &[Slab], steps: &mut Steps<L>) -> bool
+        requires ahead { self.now.is_behind ≡ false }
+        requires positive { all_positive self.now.raised.c ≡ true }
+        requires rising { IsRising slabs.now }
+        ensures left { let l = self.now in result ≡ is_left_by l.scale l.is_behind l.raised.c l.height.c l.width.c slabs.now }
+        ensures cost { steps.new ≤ steps.old + length slabs.now }
+    {
+        let reached = turn(self, slabs, 0, slabs.len(), steps);
+        if reached == 0 {
+            return false;
+        }
+        !self.is_past(&slabs[reached - 1])
+    }
+
+    /// Whether some of the slabs is not excluded; each slab that is tried is a step.
+    pub fn leaves_some<L: Ledger>(&self, slabs: &[Slab], steps: &mut Steps<L>) -> bool
+        requires { IsRising slabs.now }
+        ensures left { let l = self.now in result ≡ is_left_by l.scale l.is_behind l.raised.c l.height.c l.width.c slabs.now }
+        ensures cost { steps.new ≤ steps.old + length slabs.now }
+    {
+        if self.is_behind {
+            return false;
+        }
+        if !self.raised.all_positive() {
+            return self.leaves_some_of(slabs, steps);
+        }
+        self.leaves_some_by_one(slabs, steps)
     }
 }

@@ -4,6 +4,7 @@ ghost use Rattle.space.specs.Ranges.{IsPoint};
 ghost use Rattle.bern_form.specs.Marks.{some_holds};
 ghost use Rattle.bern_form.specs.Sizes.{scale_limit};
 ghost use Rattle.cutter_slabs.specs.Meets.{MeetsLower, MeetsUpper};
+ghost use Rattle.cutter_slabs.specs.Rising.{IsRising};
 ghost use Rattle.cutter_slabs.specs.Stacks.{outer_stack};
 ghost use Rattle.cutter_marks.specs.MarkBy.{is_possible_by, mark_by};
 ghost use Rattle.box_bisect.specs.Between.{IsMarkBetween};
@@ -12,7 +13,7 @@ ghost use Rattle.box_bisect.specs.Stretches.{AreFormsBetween};
 
 use crate::search::{is_held_first, is_held_last, is_left, mark_between};
 use crate::stretch::Stretch;
-use axis_cells::{Mark, Sweep, in_reach};
+use axis_cells::{Mark, Sweep, cells_of, in_reach};
 use bern_form::Slab;
 use cutter_slabs::Stacks;
 use std::marker::Brand;
@@ -32,6 +33,8 @@ fn mark_of_whole<L: Ledger>(
     requires scale { scale ≤ scale_limit }
     requires cells { scale ≡ 2 ^ depth }
     requires as_many { length inner.now ≤ length outer.now }
+    requires inner { IsRising inner.now }
+    requires outer { IsRising outer.now }
     ensures mark { (m : Motion) (p : List ℤ) → AreFormsBetween whole.now.u.c whole.now.n.c whole.now.d.c m p 0 scale scale
         → ((i : ℕ) → some_holds inner.now m p i scale ≡ true → some_holds outer.now m p i scale ≡ true)
         → IsMarkBetween result inner.now outer.now m p 0 scale scale }
@@ -51,16 +54,6 @@ fn mark_of_whole<L: Ledger>(
     mark_between(whole, inner, outer, scale, depth, steps)
 }
 
-/// How many cells a depth has: 2^depth.
-#[inline]
-fn cells_of(depth: u32) -> u32
-    requires { depth ≤ 10 }
-    ensures cells { result ≡ 2 ^ depth }
-    ensures few { result ≤ scale_limit }
-{
-    1 << depth
-}
-
 /// The mark of a point by the stacks and the reach of a cutter, at the samples and on the cells of a depth, found by halving the
 /// time of the move. A removed point is in the lower cutter at some rational time of the move, a clear one in the upper cutter at
 /// none. A removed point would also be possible.
@@ -78,7 +71,8 @@ pub fn mark_point<L: Ledger>(
     ensures value { result ≡ mark_by stacks.now.cutter stacks.now.slabs sweep.now point (2 ^ depth) }
     ensures removed { result ≡ Mark.Removed → MeetsLower stacks.now.cutter sweep.now point }
     ensures clear { result ≡ Mark.Clear → ¬ MeetsUpper stacks.now.cutter sweep.now point }
-    ensures possible { result ≡ Mark.Removed → is_possible_by stacks.now.cutter stacks.now.slabs sweep.now point (2 ^ depth) ≡ true }
+    ensures possible { result ≡ Mark.Removed
+        → is_possible_by stacks.now.cutter stacks.now.slabs sweep.now point (2 ^ depth) ≡ true }
     ensures cost { let outer = outer_stack stacks.now.cutter stacks.now.slabs in
         steps.new ≤ steps.old + length outer * (3 + 4 * undecided_boxes outer sweep.now point depth) }
 {

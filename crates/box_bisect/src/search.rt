@@ -1,15 +1,16 @@
 ghost use Rattle.std.specs.Prelude.{◌≡◌, ℕ, ℤ, List, ◌+◌, ◌*◌, ◌^◌, ◌≤◌, length};
 ghost use Rattle.space.specs.Motion.{Motion};
 ghost use Rattle.bern_form.specs.Sizes.{scale_limit};
+ghost use Rattle.cutter_slabs.specs.Rising.{IsRising};
 ghost use Rattle.box_bisect.specs.Between.{IsMarkBetween, IsSearched};
 ghost use Rattle.box_bisect.specs.SlabTests.{is_held_with, is_left_with};
 ghost use Rattle.box_bisect.specs.Boxes.{undecided_from};
 
+use crate::held::is_covered_by_some;
 use crate::joined::{is_removed, joined};
 use crate::limits::Limits;
-use crate::moment::Moment;
 use crate::stretch::Stretch;
-use axis_cells::Mark;
+use axis_cells::{Mark, Sample};
 use bern_form::Slab;
 use std::sync::ledger::Ledger;
 use vf_steps::Steps;
@@ -22,7 +23,8 @@ pub fn is_left<L: Ledger>(
     scale: u32,
     steps: &mut Steps<L>,
 ) -> bool
-    requires { scale ≤ scale_limit }
+    requires scale { scale ≤ scale_limit }
+    requires rising { IsRising slabs.now }
     ensures left { result ≡ is_left_with slabs.now scale stretch.now.u.c stretch.now.n.c stretch.now.d.c }
     ensures cost { steps.new ≤ steps.old + length slabs.now }
 {
@@ -37,13 +39,13 @@ pub fn is_held_last<L: Ledger>(
     scale: u32,
     steps: &mut Steps<L>,
 ) -> bool
-    requires { scale ≤ scale_limit }
+    requires scale { scale ≤ scale_limit }
+    requires rising { IsRising slabs.now }
     ensures held { result ≡ is_held_with 2 slabs.now scale stretch.now.u.c stretch.now.n.c stretch.now.d.c }
     ensures cost { steps.new ≤ steps.old + length slabs.now }
 {
-    Moment::of(scale, stretch.u.c[2], stretch.n.c[2], stretch.d.c[2]).is_covered_by_some(
-        slabs, steps,
-    )
+    let sample = Sample::of(scale, stretch.u.c[2], stretch.n.c[2], stretch.d.c[2]);
+    is_covered_by_some(&sample, slabs, steps)
 }
 
 /// The same at the first sample.
@@ -54,13 +56,13 @@ pub fn is_held_first<L: Ledger>(
     scale: u32,
     steps: &mut Steps<L>,
 ) -> bool
-    requires { scale ≤ scale_limit }
+    requires scale { scale ≤ scale_limit }
+    requires rising { IsRising slabs.now }
     ensures held { result ≡ is_held_with 0 slabs.now scale stretch.now.u.c stretch.now.n.c stretch.now.d.c }
     ensures cost { steps.new ≤ steps.old + length slabs.now }
 {
-    Moment::of(scale, stretch.u.c[0], stretch.n.c[0], stretch.d.c[0]).is_covered_by_some(
-        slabs, steps,
-    )
+    let sample = Sample::of(scale, stretch.u.c[0], stretch.n.c[0], stretch.d.c[0]);
+    is_covered_by_some(&sample, slabs, steps)
 }
 
 /// The mark of the point whose forms these are on a stretch of 2^`levels` cells, at whose two ends no inner slab holds it. Where
@@ -76,9 +78,13 @@ pub fn mark_between<L: Ledger>(
 ) -> Mark
     requires scale { scale ≤ scale_limit }
     requires as_many { length inner.now ≤ length outer.now }
-    ensures mark { (m : Motion) (p : List ℤ) (j : ℕ) → IsSearched inner.now outer.now stretch.now.u.c stretch.now.n.c stretch.now.d.c m p scale levels j
+    requires inner { IsRising inner.now }
+    requires outer { IsRising outer.now }
+    ensures mark { let s = stretch.now in (m : Motion) (p : List ℤ) (j : ℕ)
+        → IsSearched inner.now outer.now s.u.c s.n.c s.d.c m p scale levels j
         → IsMarkBetween result inner.now outer.now m p j (j + 2 ^ levels) scale }
-    ensures cost { (m : Motion) (p : List ℤ) (j : ℕ) → IsSearched inner.now outer.now stretch.now.u.c stretch.now.n.c stretch.now.d.c m p scale levels j
+    ensures cost { let s = stretch.now in (m : Motion) (p : List ℤ) (j : ℕ)
+        → IsSearched inner.now outer.now s.u.c s.n.c s.d.c m p scale levels j
         → steps.new ≤ steps.old + length outer.now * (1 + 3 * undecided_from outer.now m p scale levels j) }
 {
     if !is_left(stretch, outer, scale, steps) {

@@ -4,10 +4,8 @@ ghost use Rattle.bern_form.specs.Sizes.{IsBounded2, axis_limit, offset_limit, sc
 ghost use Rattle.box_bisect.specs.Halved.{first_half, last_half};
 ghost use Rattle.box_bisect.specs.Stretches.{AreFormsBetween};
 
-use crate::end::End;
-use crate::forms::scalar_form;
 use crate::halves::{first_half, last_half};
-use axis_cells::Sweep;
+use axis_cells::{Pose, Sweep, scalar_product_on_cell};
 use bern_form::Form2;
 
 /// What the tests of a point between two samples of a move stand on. By the point's offset p from the tip and the axis a, which
@@ -30,12 +28,12 @@ impl Stretch {
         requires scale { scale ≤ scale_limit }
         ensures { AreFormsBetween result.u.c result.n.c result.d.c sweep.now point.now 0 scale scale }
     {
-        let first = End::at(scale, point, &sweep.from, &sweep.axis_from);
-        let last = End::at(scale, point, &sweep.to, &sweep.axis_to);
+        let first = Pose::at_sample(sweep, point, 0, scale);
+        let last = Pose::at_sample(sweep, point, scale, scale);
         Stretch {
-            u: scalar_form(&first.offset, &last.offset, &first.axis, &last.axis),
-            n: scalar_form(&first.axis, &last.axis, &first.axis, &last.axis),
-            d: scalar_form(&first.offset, &last.offset, &first.offset, &last.offset),
+            u: scalar_product_on_cell(&first.offset, &last.offset, &first.axis, &last.axis),
+            n: scalar_product_on_cell(&first.axis, &last.axis, &first.axis, &last.axis),
+            d: scalar_product_on_cell(&first.offset, &last.offset, &first.offset, &last.offset),
         }
     }
 

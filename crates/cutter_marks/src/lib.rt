@@ -4,6 +4,3 @@
 mod cutter_mark;
 
 pub use cutter_mark::mark_of;
-
-#[cfg(test)]
-mod tests;

@@ -11,6 +11,7 @@ pub mod Round
 pub mod Conical
 pub mod Whole
 pub mod Sound
+pub mod Rising
 pub mod Tested
 pub mod Times
 pub mod Writings

@@ -9,7 +9,9 @@ use Rattle.bern_form.specs.Slab.{SlabSize}
 use Rattle.bern_form.proofs.Decided.{decides_held, decides_possible, decides_some_holds}
 use Rattle.bern_form.proofs.Relations.{HeldAtSample, IsPossible, SomeHolds}
 use Rattle.cutter_slabs.specs.Meets.{InLowerAt, InUpperAt, MeetsLower, MeetsUpper}
+use Rattle.cutter_slabs.specs.Rising.{IsRising}
 use Rattle.cutter_slabs.specs.Stacks.{AreStacks, StacksOf, inner_stack, outer_stack, reach_of}
+use Rattle.cutter_slabs.proofs.Rising.{inner_rises, outer_rises}
 use Rattle.cutter_slabs.proofs.Sound.{as_many, held_inside, held_outer, inside_held, inside_in_reach, met_possible, met_upper, sample_met}
 
 -- what a value's two lists are, by its view
@@ -21,6 +23,12 @@ pub inner_inside : (s : StacksOf) (inner outer xs : List SlabSize) → AreStacks
     → (m : Motion) (p : List ℤ) (a b : ℕ) → some_holds xs m p a b ≡ true → InLowerAt s.cutter m p a b
 inner_inside s inner outer xs are e m p a b held =
     held_inside s.cutter s.slabs m p a b are.valid are.some (subst (λ l. SomeHolds l m p a b) (e ∙ are.inner_is) ((decides_some_holds xs m p a b).0 held))
+
+pub inner_rising : (s : StacksOf) (inner outer xs : List SlabSize) → AreStacks s.cutter s.slabs inner outer → xs ≡ inner → IsRising xs
+inner_rising s inner outer xs are e = subst IsRising (sym (e ∙ are.inner_is)) (inner_rises s.cutter s.slabs are.valid are.some)
+
+pub outer_rising : (s : StacksOf) (inner outer xs : List SlabSize) → AreStacks s.cutter s.slabs inner outer → xs ≡ outer → IsRising xs
+outer_rising s inner outer xs are e = subst IsRising (sym (e ∙ are.outer_is)) (outer_rises s.cutter s.slabs are.valid are.some)
 
 pub inner_enclosed : (s : StacksOf) (inner outer xs : List SlabSize) → AreStacks s.cutter s.slabs inner outer → xs ≡ inner
     → (m : Motion) (p : List ℤ) (a b : ℕ) → some_holds xs m p a b ≡ true → some_holds (outer_stack s.cutter s.slabs) m p a b ≡ true

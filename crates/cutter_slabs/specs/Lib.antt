@@ -4,5 +4,6 @@ pub mod Cone
 pub mod Inside
 pub mod Meets
 pub mod Stacks
+pub mod Rising
 pub mod Fields
 pub mod Laws

@@ -3,6 +3,7 @@ ghost use Rattle.space.specs.Motion.{IsSweep, IsTime, Motion};
 ghost use Rattle.space.specs.Reach.{is_in_reach};
 ghost use Rattle.bern_form.specs.Marks.{held_at_sample, is_possible, some_holds};
 ghost use Rattle.cutter_slabs.specs.Meets.{InLowerAt, InUpperAt, MeetsLower, MeetsUpper};
+ghost use Rattle.cutter_slabs.specs.Rising.{IsRising};
 ghost use Rattle.cutter_slabs.specs.Stacks.{inner_stack, outer_stack, reach_of};
 
 use crate::cutter::Cutter;
@@ -53,6 +54,7 @@ impl Stacks {
     /// that it holds at a sample is removed by the move, and possible too.
     pub fn inner(&self) -> &[Slab]
         ensures stack { result.now ≡ inner_stack self.now.cutter self.now.slabs }
+        ensures rising { IsRising result.now }
         ensures inside { (m : Motion) (p : List ℤ) (a b : ℕ) → some_holds result.now m p a b ≡ true → InLowerAt self.now.cutter m p a b }
         ensures enclosed { (m : Motion) (p : List ℤ) (a b : ℕ) → some_holds result.now m p a b ≡ true
             → some_holds (outer_stack self.now.cutter self.now.slabs) m p a b ≡ true }
@@ -67,6 +69,7 @@ impl Stacks {
     /// by the upper cutter at no rational time of the move.
     pub fn outer(&self) -> &[Slab]
         ensures stack { result.now ≡ outer_stack self.now.cutter self.now.slabs }
+        ensures rising { IsRising result.now }
         ensures as_many { length result.now ≡ length (inner_stack self.now.cutter self.now.slabs) }
         ensures encloses { (m : Motion) (p : List ℤ) (a b : ℕ) → InUpperAt self.now.cutter m p a b → some_holds result.now m p a b ≡ true }
         ensures clear { (m : Motion) (p : List ℤ) (S : ℕ) → 0 < S → IsSweep m

@@ -1,4 +1,4 @@
-use Rattle.std.proofs.Common.{◌≡◌, ◌+◌, false, arith, sym, ◌∙◌}
+use Rattle.std.proofs.Common.{◌≡◌, ◌+◌, ap, pos, false, arith, sym, ◌∙◌}
 use borrow.Author.Count.{below_more}
 use Rattle.bern_form.specs.Marks.{some_holds}
 use Rattle.bern_form.proofs.Decided.{found_below, none_below}
@@ -8,11 +8,11 @@ use Rattle.axis_cells.proofs.plain.is_held_at_sample.Goals as goal
 pub returns-then-is_covered_by_some : goal.returns-then-is_covered_by_some
 returns-then-is_covered_by_some c =
     let pose = c.at_sample-pose in let sample = c.of_pose in let m = c.args.sweep.now in let p = c.args.point.now in let S = c.args.scale in
-    let here = held_at sample.result.scale sample.result.u sample.result.n sample.result.w pose.result.offset pose.result.axis m p c.loop-k.k S c.args.slabs.now
+    let here = held_at (pos sample.result.scale) sample.result.u sample.result.n sample.result.w pose.result.offset pose.result.axis m p c.loop-k.k S c.args.slabs.now
     record {
       offset_is = pose.ensures.offset;
       axis_is = pose.ensures.axis;
-      scale_is = sample.ensures.scale;
+      scale_is = ap pos sample.ensures.scale;
       u_is = sample.ensures.u;
       n_is = sample.ensures.n;
       w_is = sample.ensures.w;
@@ -22,11 +22,11 @@ returns-then-is_covered_by_some c =
 pub loop-k-preserved : goal.loop-k-preserved
 loop-k-preserved c =
     let pose = c.at_sample-pose in let sample = c.of_pose in let m = c.args.sweep.now in let p = c.args.point.now in let S = c.args.scale in
-    let here = held_at sample.result.scale sample.result.u sample.result.n sample.result.w pose.result.offset pose.result.axis m p c.loop-k.k S c.args.slabs.now
+    let here = held_at (pos sample.result.scale) sample.result.u sample.result.n sample.result.w pose.result.offset pose.result.axis m p c.loop-k.k S c.args.slabs.now
     record {
       offset_is = pose.ensures.offset;
       axis_is = pose.ensures.axis;
-      scale_is = sample.ensures.scale;
+      scale_is = ap pos sample.ensures.scale;
       u_is = sample.ensures.u;
       n_is = sample.ensures.n;
       w_is = sample.ensures.w;

@@ -1,4 +1,4 @@
-use Rattle.std.proofs.Common.{◌≡◌, ℕ, ◌≤◌, ◌^◌, subst, sym, ◌∙◌}
+use Rattle.std.proofs.Common.{◌≡◌, ℕ, pos, ◌≤◌, ◌^◌, subst, sym, ◌∙◌}
 use Rattle.space.specs.Motion.{IsSweep}
 use Rattle.bern_form.specs.Slab.{IsSlab}
 use Rattle.bern_form.specs.Sizes.{scale_limit}
@@ -12,7 +12,7 @@ pub returns-clause-rule : goal.returns-clause-rule
 returns-clause-rule c =
     let cell = c.of_point.result in
     subst (λ (S : ℕ). c.excludes.result ≡ is_excluded c.args.slab.now c.args.sweep.now c.args.point c.args.k S) c.cells_of.ensures.cells
-    (c.excludes.ensures ∙ excluded_at cell.scale cell.is_behind cell.n.c cell.height.c cell.width.c c.args.sweep.now c.args.point c.args.k c.cells_of.result c.args.slab.now c.of_point.ensures)
+    (c.excludes.ensures ∙ excluded_at (pos cell.scale) cell.is_behind cell.n.c cell.height.c cell.width.c c.args.sweep.now c.args.point c.args.k c.cells_of.result c.args.slab.now c.of_point.ensures)
 
 pub returns-clause-never : goal.returns-clause-never
 returns-clause-never c = λ out a b time. excluded_holds_not c.args.slab.now c.args.sweep.now c.args.point c.args.k (2 ^ c.args.depth) a b (sym (returns-clause-rule c) ∙ out) time

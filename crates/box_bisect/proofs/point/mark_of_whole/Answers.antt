@@ -1,4 +1,4 @@
-use Rattle.std.proofs.Common.{◌≡◌, ◌+◌, ◌^◌, true, false, length, arith, sym, ◌∙◌}
+use Rattle.std.proofs.Common.{length, sym, ◌∙◌}
 use Rattle.box_bisect.specs.Boxes.{undecided_from}
 use Rattle.box_bisect.proofs.Counting.{cost_of_whole, undecided_some}
 use Rattle.box_bisect.proofs.Searching.{dropped_whole, first_held, last_held, left_whole, mark_of_all, search_whole}

@@ -1,4 +1,4 @@
-use Rattle.std.proofs.Common.{◌≡◌, FitsSigned, rules, arith, ap, subst, sym, true, ℕ, ℤ, pos, length, List, ◌+◌, ◌*◌, ◌≤◌, ◌<◌, ◌^◌, ◌∙◌}
+use Rattle.std.proofs.Common.{◌≡◌, FitsSigned, rules, ap, subst, sym, true, ℕ, pos, length, List, ◌+◌, ◌*◌, ◌≤◌, ◌^◌, ◌∙◌}
 use Rattle.std.proofs.lemmas.Int.{to_z-of_z}
 use mir.Syntax.{w32}
 use Rattle.space.specs.Motion.{IsSweep}
@@ -6,7 +6,7 @@ use Rattle.space.specs.Reach.{is_in_reach}
 use Rattle.bern_form.specs.Marks.{held_at_sample, is_possible, some_holds}
 use Rattle.bern_form.specs.Slab.{SlabSize}
 use Rattle.axis_cells.specs.Marked.{mark_from}
-use Rattle.cutter_slabs.specs.Stacks.{inner_stack, outer_stack, reach_of}
+use Rattle.cutter_slabs.specs.Stacks.{inner_stack, reach_of}
 use Rattle.cutter_marks.specs.MarkBy.{is_possible_by, mark_by}
 use Rattle.cutter_marks.proofs.Decided.{clear_out, removed_held}
 use Rattle.box_bisect.specs.Boxes.{undecided_from}

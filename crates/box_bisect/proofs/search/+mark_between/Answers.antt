@@ -1,5 +1,5 @@
-use Rattle.std.proofs.Common.{◌≡◌, ℕ, ◌+◌, ◌-◌, ◌^◌, true, false, length, List, arith, refl, sym, subst, ◌∙◌}
-use Rattle.box_bisect.specs.Between.{IsMarkBetween, IsSearched}
+use Rattle.std.proofs.Common.{◌≡◌, ◌+◌, ◌-◌, ◌^◌, true, false, length, arith, sym, subst, ◌∙◌}
+use Rattle.box_bisect.specs.Between.{IsMarkBetween}
 use Rattle.box_bisect.specs.Halved.{first_half, last_half}
 use Rattle.bern_form.specs.Between.{is_left_between}
 use Rattle.box_bisect.specs.SlabTests.{is_held_with}

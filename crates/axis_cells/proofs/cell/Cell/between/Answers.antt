@@ -1,6 +1,4 @@
-use Rattle.std.proofs.Common.{rules, sym, subst, ap, ap₂, pos, ◌*◌, ◌∙◌, FitsSigned}
-use Rattle.std.proofs.lemmas.Int.{to_z-of_z}
-use mir.Syntax.{w128}
+use Rattle.std.proofs.Common.{sym, subst, ap, ap₂, pos, ◌*◌, ◌∙◌}
 use Rattle.bern_form.specs.Forms.{all_negative, difference4, product22, scaled4}
 use Rattle.bern_form.specs.Sizes.{IsBounded2, IsBounded4, axis_limit, offset_limit}
 use Rattle.bern_form.proofs.Sizes.{small_as}
@@ -45,9 +43,8 @@ invariant_of-result c =
     let height = c.times22-height.ensures.coefficients ∙ ap (λ u. product22 u u) c.scalar_product_on_cell-u.ensures in
     let both = c.times22.ensures.coefficients ∙ ap₂ product22 c.scalar_product_on_cell-d.ensures c.scalar_product_on_cell-n.ensures in
     let width = c.scale4.ensures.coefficients ∙ ap (scaled4 (pos 4)) (c.minus4-spread.ensures.coefficients ∙ ap₂ difference4 both height) in
-    let scale : FitsSigned w128 (pos c.args.scale) = search rules in
     record {
-      scale_small = simp (to_z-of_z, c.from.ensures) c.requires;
+      scale_small = c.requires;
       n_small = subst (IsBounded2 (3 * (axis_limit * axis_limit))) (sym c.scalar_product_on_cell-n.ensures) fits.squares;
       height_small = subst (IsBounded4 (54 * (offset_limit * axis_limit) * (offset_limit * axis_limit))) (sym height) fits.height_small;
       width_small = subst (IsBounded4 (432 * (offset_limit * axis_limit) * (offset_limit * axis_limit))) (sym width) fits.width_small;

@@ -1,4 +1,4 @@
-use Rattle.std.proofs.Common.{arith, ap, ◌≡◌, ◌∙◌, ◌*◌}
+use Rattle.std.proofs.Common.{arith, ap, pos, ◌≡◌, ◌∙◌, ◌*◌}
 use Rattle.std.proofs.lemmas.Int.{to_z-of_z}
 use Rattle.bern_form.specs.Forms.{all_negative, difference4}
 use Rattle.bern_form.specs.Sizes.{axis_limit, offset_limit}
@@ -12,5 +12,5 @@ minus4-requires c = difference_fits c.args.self.now.height.c c.squared.result.c 
 pub returns : goal.returns
 returns c =
     let length = c.ranges.lo in
-    let square : c.squared.result.c ≡ squared c.args.self.now.scale c.args.lo c.args.self.now.n.c = simp to_z-of_z at c.squared.ensures.list in
+    let square : c.squared.result.c ≡ squared (pos c.args.self.now.scale) c.args.lo c.args.self.now.n.c = simp to_z-of_z at c.squared.ensures.list in
     c.all_negative.ensures.exact ∙ ap all_negative (c.minus4.ensures.coefficients ∙ ap (difference4 c.args.self.now.height.c) square)

@@ -19,8 +19,6 @@ lift24-requires c =
 
 pub returns-clause-list : goal.returns-clause-list
 returns-clause-list c =
-    let scale = c.args.self.now.scale in
-    let scale_fits : FitsSigned w128 scale = search rules in
     let length = c.ranges.length in
     let square : FitsSigned w128 c.scaled_square.result = search rules in
     let is = simp to_z-of_z at c.scaled_square.ensures.square in

@@ -1,15 +1,10 @@
-use Rattle.std.proofs.Common.{◌≡◌, FitsSigned, rules, subst, ◌∙◌}
+use Rattle.std.proofs.Common.{◌≡◌, pos, FitsSigned, rules, subst, ◌∙◌}
 use Rattle.std.proofs.lemmas.Int.{to_z-of_z}
 use mir.Syntax.{w32, w128}
 use Rattle.bern_form.specs.Slab.{SlabSize, covers}
 use Rattle.axis_cells.proofs.Comparisons.{covers_by}
 use Rattle.axis_cells.proofs.Fits.{height_fits, width_fits}
 use Rattle.axis_cells.proofs.sample.Sample.is_covered_by.Goals as goal
-
-pub overflow_mul-height : goal.overflow_mul-height
-overflow_mul-height c =
-    let u : FitsSigned w128 c.args.self.now.u = search rules in
-    simp to_z-of_z (height_fits c.args.self.now.u c.args.self.now.u_small)
 
 pub returns : goal.returns
 returns c =
@@ -24,6 +19,6 @@ returns c =
     let widest : FitsSigned w128 c.squared-widest.result = search rules in
     let height = height_fits at.u at.u_small in
     let width = width_fits at.w at.w_small in
-    subst (λ (slab : SlabSize). c.lies_within.result ≡ covers slab at.scale at.u at.n at.w) c.slab.view_is
+    subst (λ (slab : SlabSize). c.lies_within.result ≡ covers slab (pos at.scale) at.u at.n at.w) c.slab.view_is
     ((simp to_z-of_z at c.lies_within.ensures)
-    ∙ covers_by record { lo = s.lo; hi = s.hi; dia = s.dia } at.scale at.u at.n at.w _ _ _ (simp to_z-of_z at c.squared-lowest.ensures) (simp to_z-of_z at c.squared-highest.ensures) (simp to_z-of_z at c.squared-widest.ensures))
+    ∙ covers_by record { lo = s.lo; hi = s.hi; dia = s.dia } (pos at.scale) at.u at.n at.w _ _ _ (simp to_z-of_z at c.squared-lowest.ensures) (simp to_z-of_z at c.squared-highest.ensures) (simp to_z-of_z at c.squared-widest.ensures))

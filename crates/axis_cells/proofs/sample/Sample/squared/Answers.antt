@@ -12,7 +12,6 @@ overflow_mul-result c =
 
 pub returns : goal.returns
 returns c =
-    let scale : FitsSigned w128 c.args.self.now.scale = search rules in
     let n : FitsSigned w128 c.args.self.now.n = search rules in
     let length = c.ranges.length in
     let square : FitsSigned w128 c.scaled_square.result = search rules in
