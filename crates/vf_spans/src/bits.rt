@@ -1,0 +1,76 @@
+ghost use Rattle.std.specs.Prelude.{◌≡◌, ℕ, ◌<◌, ◌≤◌, ◌+◌, ◌*◌, ◌/◌, ◌||◌, ◌&&◌, true, false, not, nat_eq, nat_le, nat_lt, if◌then◌else◌};
+ghost use Rattle.vf_spans.specs.Merge.{combined};
+ghost use Rattle.vf_spans.specs.Words.{has_bit};
+
+use crate::merge::Operation;
+
+/// Whether the bit is set.
+pub fn has_bit(word: u64, b: u32) -> bool
+    requires { b < 64 }
+    ensures { result ≡ has_bit word b }
+{
+    word >> b & 1 == 1
+}
+
+/// The word with one bit more.
+pub fn with_bit(word: u64, b: u32) -> u64
+    requires { b < 64 }
+    ensures { (k : ℕ) → k < 64 → has_bit result k ≡ (has_bit word k || nat_eq k b) }
+{
+    word | 1 << b
+}
+
+/// What the operation makes of two words, bit by bit.
+pub fn combine_bits(a: u64, b: u64, operation: Operation) -> u64
+    ensures { (k : ℕ) → k < 64 → has_bit result k ≡ combined operation (has_bit a k) (has_bit b k) }
+{
+    match operation {
+        Operation::Union => a | b,
+        Operation::Minus => a & !b,
+        Operation::Meet => a & b,
+    }
+}
+
+/// The bits from that one on.
+pub fn bits_from(b: u32) -> u64
+    requires { b < 64 }
+    ensures { (k : ℕ) → k < 64 → has_bit result k ≡ nat_le b k }
+{
+    u64::MAX << b
+}
+
+/// That many bits, the lowest.
+pub fn lowest_bits(n: u32) -> u64
+    requires some { 0 < n }
+    requires within { n ≤ 64 }
+    ensures { (k : ℕ) → k < 64 → has_bit result k ≡ nat_lt k n }
+{
+    u64::MAX >> (64 - n)
+}
+
+/// The bits of word n at the indices from `lo` up to `hi`, `hi` excluded.
+pub fn bits_of_range(n: u32, lo: u32, hi: u32) -> u64
+    requires from { lo / 64 ≤ n }
+    requires to { 64 * n < hi }
+    ensures { (k : ℕ) → k < 64 → has_bit result k ≡ (nat_le lo (64 * n + k) && nat_lt (64 * n + k) hi) }
+{
+    let base = 64 * n;
+    bits_from(lo.saturating_sub(base)) & lowest_bits((hi - base).min(64))
+}
+
+/// The bits of the word, or those that it has not.
+pub fn bits_sought(word: u64, sought: bool) -> u64
+    ensures { (k : ℕ) → k < 64 → has_bit result k ≡ (if sought then has_bit word k else not (has_bit word k)) }
+{
+    if sought { word } else { !word }
+}
+
+/// The lowest bit that is set.
+pub fn lowest_bit(word: u64) -> u32
+    requires { 0 < word }
+    ensures within { result < 64 }
+    ensures set { has_bit word result ≡ true }
+    ensures lowest { (k : ℕ) → k < result → has_bit word k ≡ false }
+{
+    word.trailing_zeros()
+}
