@@ -1,3 +1,4 @@
+pub mod WordBits
 pub mod Walk
 pub mod Flags
 pub mod Ranges
