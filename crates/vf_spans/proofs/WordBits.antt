@@ -67,6 +67,9 @@ has_bit-lowest n k within =
     (λ (lt : k < n). one_bit (bit_at (2 ^ n - 1) k) (bit_at_ones n k lt) ∙ sym (lt-ltb k n lt))
     (λ (le : n ≤ k). no_bit (bit_at (2 ^ n - 1) k) (bit_at_ones_above n k le) ∙ sym (le-ltb k n le)) (cases_lt k n)
 
+pub below_min : (n k m : ℕ) → k < 64 → m ≡ min n 64 → ltb k m ≡ ltb k n
+below_min n k m lt e = grind (arith, nat_tests)
+
 -- the part of a range that lies in word n
 in_range_from : (lo base k : ℕ) → leb (lo - base) k ≡ leb lo (base + k)
 in_range_from lo base k = grind (arith, nat_tests)

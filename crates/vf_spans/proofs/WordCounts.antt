@@ -3,13 +3,13 @@ use Rattle.std.proofs.Common.{◌≡◌, ℕ, zero, suc, ◌+◌, ◌*◌, ◌-�
 use Rattle.std.specs.Prelude.{count_ones}
 use Rattle.std.specs.Int.{bit_at}
 use Rattle.std.specs.List.{count_by, range_with_len}
-use Rattle.std.proofs.lemmas.List.FromFn.{length-range_with_len, length-map-range_with_len, get_or-map-range_with_len}
+use Rattle.std.proofs.lemmas.List.FromFn.{length-range_with_len, length-map-range_with_len, get_or-map-range_with_len, fill_by_all}
 use Rattle.std.proofs.lemmas.List.Sums.{count_by-le-length}
 use Rattle.std.proofs.lemmas.Simd.{mask_l-lt, bit_mask_l, ones-mask_l}
 use lib.Lanes.{mask_l}
 use Rattle.vf_spans.specs.Members.{has, count_of, count_below}
-use Rattle.vf_spans.specs.Words.{has_bit, number_of, word_of}
-use Rattle.vf_spans.proofs.Below.{one_if, one_more, more_below, same_bound_same}
+use Rattle.vf_spans.specs.Words.{has_bit, AreWords, number_of, word_of}
+use Rattle.vf_spans.proofs.Below.{count_by_same, count_by_map, one_if, one_more, more_below, same_bound_same}
 use Rattle.vf_spans.proofs.WordBits.{has_bit-value, same_word}
 
 pub count_small : (n : ℕ) (p : ℕ → Bool) → count_below n p ≤ n
@@ -82,3 +82,13 @@ count_to p bound m le none =
     let more = more_below p false bound (m - bound) (λ x ge lt. none x ge) in
     let size = same_bound_same p (bound + (m - bound)) m (omega arith) in
     omega arith
+
+-- a count over the words of a set is one over its flags
+pub counted_words : (n : ℕ) (ws : List ℕ) (v : List Bool) (p q : ℕ → Bool) → n ≡ count_below (64 * length ws) p → AreWords (length v) ws → ((i : ℕ) → p i ≡ q i)
+    → ((i : ℕ) → length v ≤ i → p i ≡ false) → n ≡ count_below (length v) q
+counted_words n ws v p q e h same none =
+    let size = h.size in
+    e ∙ count_to p (length v) (64 * length ws) (omega arith) none ∙ count_by_same p q same (range_with_len 0 (length v))
+
+pub count_of_flags : (v : List Bool) → count_of v ≡ count_below (length v) (has v)
+count_of_flags v = ap count_of (fill_by_all (has v) v (length v) false refl (λ k lt. refl)) ∙ count_by_map (has v) (range_with_len 0 (length v))

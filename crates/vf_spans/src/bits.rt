@@ -48,6 +48,14 @@ pub fn lowest_bits(n: u32) -> u64
     u64::MAX >> (64 - n)
 }
 
+/// Those of the bits that are among so many lowest.
+pub fn bits_below(bits: u64, n: u32) -> u64
+    requires { 0 < n }
+    ensures { (k : ℕ) → k < 64 → has_bit result k ≡ (has_bit bits k && nat_lt k n) }
+{
+    bits & lowest_bits(n.min(64))
+}
+
 /// The bits of word n at the indices from `lo` up to `hi`, `hi` excluded.
 pub fn bits_of_range(n: u32, lo: u32, hi: u32) -> u64
     requires from { lo / 64 ≤ n }

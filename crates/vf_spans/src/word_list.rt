@@ -1,10 +1,19 @@
-ghost use Rattle.std.specs.Prelude.{◌≡◌, ℕ, ◌*◌, ◌^◌, ◌<◌, ◌≤◌, ◌&&◌, not, MatchOption, length};
+ghost use Rattle.std.specs.Prelude.{◌≡◌, ℕ, ◌*◌, ◌^◌, ◌<◌, ◌≤◌, ◌&&◌, false, not, MatchOption, length};
 ghost use Rattle.vf_spans.specs.Members.{count_below};
 ghost use Rattle.vf_spans.specs.Merge.{combined};
 ghost use Rattle.vf_spans.specs.Words.{in_words, IsFirstFlag, HasNoFlag};
 
 use crate::bits::{bits_from, bits_sought, combine_bits, lowest_bit};
 use crate::merge::Operation;
+
+/// Takes every flag out.
+pub fn clear_words(words: &mut [u64])
+    ensures { (i : ℕ) → in_words words.new i ≡ false }
+{
+    for n in 0..words.len() {
+        words[n] = 0;
+    }
+}
 
 /// Writes what the operation makes of the words and as many others over the words.
 pub fn combine_words(words: &mut [u64], other: &[u64], operation: Operation)

@@ -1,13 +1,14 @@
-ghost use Rattle.std.specs.Prelude.{◌≡◌, ℕ, ◌+◌, ◌*◌, ◌/◌, ◌%◌, ◌<◌, ◌≤◌, ◌↔◌, ◌&&◌, ◌||◌, not, nat_eq, List, Bool, true, false, IsTrue, IfOk, MatchOption, nat_le, nat_lt, length};
+ghost use Rattle.std.specs.Prelude.{◌≡◌, ℕ, ◌+◌, ◌*◌, ◌/◌, ◌%◌, ◌^◌, ◌<◌, ◌≤◌, ◌↔◌, ◌&&◌, ◌||◌, not, nat_eq, List, Bool, true, false, IsTrue, IfOk, if◌then◌else◌, MatchOption, nat_le, nat_lt, length};
 ghost use Rattle.vf_spans.specs.Members.{has, count_of, count_below, in_range};
-ghost use Rattle.vf_spans.specs.Words.{has_bit, in_word, word_of, words_below, flags_of_words, AreWords, HasNoneFrom, IsNext, IsRun};
+ghost use Rattle.vf_spans.specs.Merge.{combined};
+ghost use Rattle.vf_spans.specs.Words.{has_bit, in_words, in_word, word_of, words_below, flags_of_words, AreWords, HasNoneFrom, IsNext, IsRun};
 
 use crate::Spans;
-use crate::bits::{bits_of_range, has_bit, lowest_bits, with_bit};
+use crate::bits::{bits_below, bits_of_range, has_bit, with_bit};
 use crate::merge::Operation;
 use crate::word_list::{
-    combine_words, count_flags, count_flags_meet, count_flags_meet_minus, count_flags_minus,
-    find_flag,
+    clear_words, combine_words, count_flags, count_flags_meet, count_flags_meet_minus,
+    count_flags_minus, find_flag,
 };
 use std::alloc::Global;
 use std::marker::Model;
@@ -35,7 +36,7 @@ impl Words {
     /// The empty set.
     pub fn new(alloc: Global, bound: u32) -> Result<Words, NoMemory>
         ensures bound { IfOk result (λ r. length r ≡ bound) }
-        ensures empty { IfOk result (λ r. HasNoneFrom r 0) }
+        ensures empty { IfOk result (λ r. (i : ℕ) → has r i ≡ false) }
     {
         let words = vec![in alloc; 0u64; bound.div_ceil(64) as usize]?;
         Ok(Words { bound, words })
@@ -89,12 +90,12 @@ impl Words {
     pub fn has(&self, i: u32) -> bool
         ensures { result ≡ has self.now i }
     {
-        i < self.bound && has_bit(self.words[(i / 64) as usize], i % 64)
+        i < self.bound() && has_bit(self.word(i / 64), i % 64)
     }
 
     /// Whether the set has no index.
     pub fn is_empty(&self) -> bool
-        ensures { IsTrue result ↔ HasNoneFrom self.now 0 }
+        ensures { IsTrue result ↔ ((i : ℕ) → has self.now i ≡ false) }
     {
         self.next_from(0).is_none()
     }
@@ -103,7 +104,7 @@ impl Words {
     pub fn next_from(&self, i: u32) -> Option<u32>
         ensures { MatchOption result (HasNoneFrom self.now i) (λ r. IsNext self.now i r) }
     {
-        find_flag(self.words.as_slice(), true, i)
+        find_flag(self.as_slice(), true, i)
     }
 
     /// The least index from `i` on that the set has not; the bound is none of its indices.
@@ -111,14 +112,17 @@ impl Words {
         requires { i ≤ length self.now }
         ensures { IsRun self.now i result }
     {
-        find_flag(self.words.as_slice(), false, i).unwrap_or(self.bound)
+        match find_flag(self.as_slice(), false, i) {
+            Some(end) => end,
+            None => self.bound(),
+        }
     }
 
     /// How many indices the set has.
     pub fn count(&self) -> u32
         ensures { result ≡ count_of self.now }
     {
-        count_flags(self.words.as_slice()) as u32
+        count_flags(self.as_slice()) as u32
     }
 
     /// How many indices both sets have.
@@ -126,7 +130,7 @@ impl Words {
         requires { length other.now ≡ length self.now }
         ensures { result ≡ count_below (length self.now) (λ i. has self.now i && has other.now i) }
     {
-        count_flags_meet(self.words.as_slice(), other.words.as_slice()) as u32
+        count_flags_meet(self.as_slice(), other.as_slice()) as u32
     }
 
     /// How many indices this set has and the other has not.
@@ -134,7 +138,7 @@ impl Words {
         requires { length other.now ≡ length self.now }
         ensures { result ≡ count_below (length self.now) (λ i. has self.now i && not (has other.now i)) }
     {
-        count_flags_minus(self.words.as_slice(), other.words.as_slice()) as u32
+        count_flags_minus(self.as_slice(), other.as_slice()) as u32
     }
 
     /// How many indices this set and the second have and the third has not.
@@ -143,18 +147,14 @@ impl Words {
         requires third { length third.now ≡ length self.now }
         ensures { result ≡ count_below (length self.now) (λ i. has self.now i && (has second.now i && not (has third.now i))) }
     {
-        count_flags_meet_minus(
-            self.words.as_slice(),
-            second.words.as_slice(),
-            third.words.as_slice(),
-        ) as u32
+        count_flags_meet_minus(self.as_slice(), second.as_slice(), third.as_slice()) as u32
     }
 
     /// How many words the set has: as many as its bound takes, the last perhaps in part.
     pub fn words(&self) -> u32
         ensures { result ≡ words_below (length self.now) }
     {
-        self.bound.div_ceil(64)
+        self.bound().div_ceil(64)
     }
 
     /// Word n of the set.
@@ -163,7 +163,7 @@ impl Words {
         ensures value { result ≡ word_of self.now n }
         ensures bits { (b : ℕ) → b < 64 → has_bit result b ≡ has self.now (64 * n + b) }
     {
-        self.words[n as usize]
+        self.as_slice()[n as usize]
     }
 
     /// Adds the indices of these bits of word n; bits at and beyond the bound are left out.
@@ -172,13 +172,9 @@ impl Words {
         ensures bound { length self.new ≡ length self.old }
         ensures added { (i : ℕ) → i < length self.old → has self.new i ≡ (has self.old i || in_word n bits i) }
     {
-        let left = self.bound - 64 * n;
-        let inside = if left < 64 {
-            bits & lowest_bits(left)
-        } else {
-            bits
-        };
-        self.words[n as usize] |= inside;
+        let inside = bits_below(bits, self.bound() - 64 * n);
+        let word = self.word(n) | inside;
+        self.set_word(n, word);
     }
 
     /// Takes the indices of these bits of word n away.
@@ -187,7 +183,8 @@ impl Words {
         ensures bound { length self.new ≡ length self.old }
         ensures taken { (i : ℕ) → has self.new i ≡ (has self.old i && not (in_word n bits i)) }
     {
-        self.words[n as usize] &= !bits;
+        let word = self.word(n) & !bits;
+        self.set_word(n, word);
     }
 
     /// Adds one index.
@@ -196,8 +193,8 @@ impl Words {
         ensures bound { length self.new ≡ length self.old }
         ensures added { (k : ℕ) → has self.new k ≡ (has self.old k || nat_eq k i) }
     {
-        let n = (i / 64) as usize;
-        self.words[n] = with_bit(self.words[n], i % 64);
+        let word = with_bit(self.word(i / 64), i % 64);
+        self.set_word(i / 64, word);
     }
 
     /// Adds the indices from `lo` up to `hi`, `hi` excluded.
@@ -215,11 +212,9 @@ impl Words {
     /// Leaves the set empty, with the same bound.
     pub fn clear(&mut self)
         ensures bound { length self.new ≡ length self.old }
-        ensures empty { HasNoneFrom self.new 0 }
+        ensures empty { (i : ℕ) → has self.new i ≡ false }
     {
-        for word in self.words.iter_mut() {
-            *word = 0;
-        }
+        clear_words(self.words.as_mut_slice());
     }
 
     /// Adds the indices of the other set.
@@ -228,11 +223,7 @@ impl Words {
         ensures bound { length self.new ≡ length self.old }
         ensures union { (i : ℕ) → has self.new i ≡ (has self.old i || has other.now i) }
     {
-        combine_words(
-            self.words.as_mut_slice(),
-            other.words.as_slice(),
-            Operation::Union,
-        );
+        self.combine(other, Operation::Union);
     }
 
     /// Takes the indices of the other set away.
@@ -241,11 +232,7 @@ impl Words {
         ensures bound { length self.new ≡ length self.old }
         ensures minus { (i : ℕ) → has self.new i ≡ (has self.old i && not (has other.now i)) }
     {
-        combine_words(
-            self.words.as_mut_slice(),
-            other.words.as_slice(),
-            Operation::Minus,
-        );
+        self.combine(other, Operation::Minus);
     }
 
     /// Keeps those indices that the other set has too.
@@ -254,10 +241,35 @@ impl Words {
         ensures bound { length self.new ≡ length self.old }
         ensures meet { (i : ℕ) → has self.new i ≡ (has self.old i && has other.now i) }
     {
-        combine_words(
-            self.words.as_mut_slice(),
-            other.words.as_slice(),
-            Operation::Meet,
-        );
+        self.combine(other, Operation::Meet);
+    }
+
+    fn combine(&mut self, other: &Words, operation: Operation)
+        requires { length other.now ≡ length self.old }
+        ensures bound { length self.new ≡ length self.old }
+        ensures combined { (i : ℕ) → has self.new i ≡ combined operation (has self.old i) (has other.now i) }
+    {
+        combine_words(self.words.as_mut_slice(), other.as_slice(), operation);
+    }
+
+    /// The words in order.
+    fn as_slice(&self) -> &[u64]
+        ensures fits { length self.now < 2 ^ 32 }
+        ensures words { AreWords (length self.now) result.now }
+        ensures flags { (i : ℕ) → in_words result.now i ≡ has self.now i }
+    {
+        // The bound fits.
+        let _bound = self.bound;
+        self.words.as_slice()
+    }
+
+    /// Writes word n.
+    fn set_word(&mut self, n: u32, word: u64)
+        requires there { n < words_below (length self.old) }
+        requires within { (b : ℕ) → b < 64 → length self.old ≤ 64 * n + b → has_bit word b ≡ false }
+        ensures bound { length self.new ≡ length self.old }
+        ensures written { (i : ℕ) → has self.new i ≡ (if nat_eq (i / 64) n then has_bit word (i % 64) else has self.old i) }
+    {
+        self.words[n as usize] = word;
     }
 }
