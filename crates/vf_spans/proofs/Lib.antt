@@ -2,6 +2,7 @@ pub mod WordBits
 pub mod WordFlags
 pub mod WordCounts
 pub mod WordSearch
+pub mod WordRanges
 pub mod Walk
 pub mod Flags
 pub mod Ranges

@@ -4,7 +4,6 @@ use Rattle.vf_spans.proofs.words.Words.to_spans.Given as goal
 
 abbrev pub invariant-loop-lo : goal.invariant-loop-lo
 invariant-loop-lo l = record {
-  same : l.self ≡ l.fn.self;
   bound : length l.set ≡ length l.self;
   within : l.i ≤ length l.self;
   done : (k : ℕ) → has l.set k ≡ (nat_lt k l.i && has l.self k);
