@@ -53,15 +53,25 @@ word_is_mask m w p fits same =
     same_word m w (mask_l bits) fits (subst (λ (n : ℕ). mask_l bits < 2 ^ n) size (mask_l-lt bits))
     (λ k lt. same k lt ∙ sym (has_bit-mask bits k ∙ get_or-map-range_with_len p 0 m k k false lt (omega arith)))
 
-pub word_is_number : (m w : ℕ) (p : ℕ → Bool) → w < 2 ^ m → ((k : ℕ) → k < m → has_bit w k ≡ p k) → w ≡ number_of (map p (range_with_len 0 m))
+word_is_number : (m w : ℕ) (p : ℕ → Bool) → w < 2 ^ m → ((k : ℕ) → k < m → has_bit w k ≡ p k) → w ≡ number_of (map p (range_with_len 0 m))
 word_is_number m w p fits same = word_is_mask m w p fits same ∙ sym (number_is_mask (map p (range_with_len 0 m)))
 
 pub is_word_of : (v : List Bool) (n w : ℕ) → w < 2 ^ 64 → ((b : ℕ) → b < 64 → has_bit w b ≡ has v (64 * n + b)) → w ≡ word_of v n
 unfolding word_of
 is_word_of v n w fits same = word_is_number 64 w (λ b. has v (64 * n + b)) fits same
 
+-- the meaning of a set's word, by its bits
+number_has : (m : ℕ) (p : ℕ → Bool) (k : ℕ) → k < m → has_bit (number_of (map p (range_with_len 0 m))) k ≡ p k
+number_has m p k lt =
+    let bits : List Bool = map p (range_with_len 0 m) in
+    ap (λ n. has_bit n k) (number_is_mask bits) ∙ has_bit-mask bits k ∙ get_or-map-range_with_len p 0 m k k false lt (omega arith)
+
+pub has_bit-word_of : (v : List Bool) (n b : ℕ) → b < 64 → has_bit (word_of v n) b ≡ has v (64 * n + b)
+unfolding word_of
+has_bit-word_of v n b lt = number_has 64 (λ k. has v (64 * n + k)) b lt
+
 -- the ones of a number of m bits are as many as its bits that are set
-ones_are : (m w : ℕ) → w < 2 ^ m → count_ones w ≡ count_below m (has_bit w)
+pub ones_are : (m w : ℕ) → w < 2 ^ m → count_ones w ≡ count_below m (has_bit w)
 ones_are m w fits =
     ap count_ones (word_is_mask m w (has_bit w) fits (λ k lt. refl)) ∙ ones-mask_l (has_bit w) (range_with_len 0 m)
 

@@ -33,6 +33,6 @@ all_walked v s i size none done =
     same_sets s v (record {
       bound = size;
       indices = λ k. done k
-      ∙ ⊎_elim (λ (lt : k < i). ap (λ b. b && has v k) (lt-ltb k i lt))
-      (λ (le : i ≤ k). ap (λ b. b && has v k) (le-ltb k i le) ∙ sym (none k le)) (cases_lt k i);
+          ∙ ⊎_elim (λ (lt : k < i). ap (λ b. b && has v k) (lt-ltb k i lt))
+          (λ (le : i ≤ k). ap (λ b. b && has v k) (le-ltb k i le) ∙ sym (none k le)) (cases_lt k i);
     })

@@ -5,8 +5,6 @@ mod bits;
 mod merge;
 mod spans;
 mod stretches;
-#[cfg(test)]
-mod tests;
 mod word_list;
 mod words;
 

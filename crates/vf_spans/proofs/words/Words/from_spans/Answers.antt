@@ -7,8 +7,8 @@ pub loop-n-preserved : goal.loop-n-preserved
 loop-n-preserved c = record {
   bound = c.insert_range.ensures.bound ∙ c.loop-n.invariant.bound;
   done = λ i. c.insert_range.ensures.added i
-  ∙ ap (λ b. b || in_range i c.range-lo.result) (c.loop-n.invariant.done i)
-  ∙ sym (range_more c.args.set.now c.loop-n.n i c.range-lo.result (omega arith) c.range-lo.ensures.range);
+      ∙ ap (λ b. b || in_range i c.range-lo.result) (c.loop-n.invariant.done i)
+      ∙ sym (range_more c.args.set.now c.loop-n.n i c.range-lo.result (omega arith) c.range-lo.ensures.range);
 }
 
 pub returns : goal.returns
