@@ -4,7 +4,7 @@ use Rattle.std.specs.Prelude.{bit_and}
 use Rattle.std.proofs.lemmas.Bool.{cases_lt, and_parts, le-leb, leb-true}
 use Rattle.vf_spans.specs.Words.{has_bit, in_words, IsFirstFlag}
 use Rattle.vf_spans.proofs.WordBits.{has_bit-zero, has_bit-and}
-use Rattle.vf_spans.proofs.WordFlags.{in_words-at, in_some_word}
+use Rattle.vf_spans.proofs.WordFlags.{in_words-at}
 
 -- the bits of the word at n that are sought, from the index i on
 pub record Sought (ws : List ℕ) (sought : Bool) (i n bits mask : ℕ) : Type 0 where

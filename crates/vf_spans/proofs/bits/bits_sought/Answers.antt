@@ -1,4 +1,4 @@
-use Rattle.std.proofs.Common.{◌≡◌, ◌∙◌, sym, ap, cond, not, false, rules}
+use Rattle.std.proofs.Common.{◌∙◌, sym, ap, cond, not, rules}
 use Rattle.vf_spans.specs.Words.{has_bit}
 use Rattle.vf_spans.proofs.WordBits.{has_bit-not}
 use Rattle.vf_spans.proofs.bits.bits_sought.Goals as goal

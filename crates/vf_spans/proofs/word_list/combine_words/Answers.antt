@@ -1,4 +1,4 @@
-use Rattle.std.proofs.Common.{◌*◌, ◌<◌, ◌≤◌, ◌∙◌, ⊎_elim, arith, ap₂, sym, length}
+use Rattle.std.proofs.Common.{◌*◌, ◌<◌, ◌≤◌, ◌∙◌, ⊎_elim, arith, ap₂, sym}
 use Rattle.std.proofs.lemmas.Bool.{cases_lt}
 use Rattle.vf_spans.specs.Merge.{combined}
 use Rattle.vf_spans.proofs.WordFlags.{past_words, none_combined}

@@ -1,6 +1,4 @@
-use Rattle.std.proofs.Common.{◌≡◌, ◌+◌, ◌-◌, ◌*◌, ◌^◌, ◌<◌, ◌∙◌, ◌&&◌, not, get_or, arith, sym, ap₂}
-use Rattle.std.specs.Prelude.{bit_and, count_ones}
-use Rattle.std.proofs.lemmas.Nat.{and_le_l}
+use Rattle.std.proofs.Common.{◌≡◌, ◌+◌, ◌*◌, ◌^◌, ◌<◌, ◌∙◌, get_or, arith, sym, ap₂}
 use Rattle.vf_spans.specs.Members.{count_below}
 use Rattle.vf_spans.specs.Words.{in_words}
 use Rattle.vf_spans.proofs.WordFlags.{in_words-at}

@@ -1,4 +1,4 @@
-use Rattle.std.proofs.Common.{◌≡◌, ◌*◌, ◌&&◌, not}
+use Rattle.std.proofs.Common.{◌≡◌, ◌*◌, ◌&&◌}
 use Rattle.vf_spans.specs.Members.{count_below}
 use Rattle.vf_spans.specs.Words.{in_words}
 use Rattle.vf_spans.proofs.word_list.count_flags_meet.Given as goal

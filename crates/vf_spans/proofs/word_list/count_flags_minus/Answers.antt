@@ -1,5 +1,5 @@
 use Rattle.std.proofs.Common.{◌≡◌, ◌+◌, ◌-◌, ◌*◌, ◌^◌, ◌<◌, ◌∙◌, ◌&&◌, not, get_or, arith, sym, ap₂}
-use Rattle.std.specs.Prelude.{bit_and, count_ones}
+use Rattle.std.specs.Prelude.{bit_and}
 use Rattle.std.proofs.lemmas.Nat.{and_le_l}
 use Rattle.vf_spans.specs.Members.{count_below}
 use Rattle.vf_spans.specs.Words.{in_words}

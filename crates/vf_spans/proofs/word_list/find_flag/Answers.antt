@@ -1,7 +1,7 @@
-use Rattle.std.proofs.Common.{◌≡◌, ◌*◌, ◌+◌, ◌∙◌, arith, sym}
+use Rattle.std.proofs.Common.{◌*◌, ◌+◌, ◌∙◌, arith, sym}
 use Rattle.std.proofs.lemmas.Bool.{le-leb}
 use Rattle.vf_spans.proofs.WordBits.{has_bit-all}
-use Rattle.vf_spans.proofs.WordSearch.{Sought, first_here, none_here}
+use Rattle.vf_spans.proofs.WordSearch.{first_here, none_here}
 use Rattle.vf_spans.proofs.word_list.find_flag.Goals as goal
 
 pub returns-then-bits-ne0 : goal.returns-then-bits-ne0

@@ -1,4 +1,4 @@
-use Rattle.std.proofs.Common.{◌≡◌, ◌∙◌, rules, ap, length, subst, sym}
+use Rattle.std.proofs.Common.{◌≡◌, ◌∙◌, rules, ap, length}
 use Rattle.std.proofs.lemmas.List.{with_items_is}
 use Rattle.vf_spans.specs.Members.{has}
 use Rattle.vf_spans.specs.Words.{AreWords, flags_of_words}

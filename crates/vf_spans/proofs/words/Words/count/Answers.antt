@@ -1,6 +1,5 @@
-use Rattle.std.proofs.Common.{◌≡◌, ◌∙◌, ◌&&◌, not, ap, ap₂, sym, arith, length}
+use Rattle.std.proofs.Common.{◌≡◌, ◌∙◌, sym, arith, length}
 use Rattle.vf_spans.specs.Members.{has, count_below}
-use Rattle.vf_spans.specs.Words.{in_words}
 use Rattle.vf_spans.proofs.WordCounts.{counted_words, count_small, count_of_flags}
 use Rattle.vf_spans.proofs.words.Words.count.Goals as goal
 

@@ -1,7 +1,7 @@
-use Rattle.std.proofs.Common.{◌≡◌, ◌∙◌, ◌&&◌, not, ap, ap₂, sym, arith, length}
+use Rattle.std.proofs.Common.{◌≡◌, ◌&&◌, not, ap, ap₂, arith, length}
 use Rattle.vf_spans.specs.Members.{has, count_below}
 use Rattle.vf_spans.specs.Words.{in_words}
-use Rattle.vf_spans.proofs.WordCounts.{counted_words, count_small, count_of_flags}
+use Rattle.vf_spans.proofs.WordCounts.{counted_words, count_small}
 use Rattle.vf_spans.proofs.words.Words.count_minus.Goals as goal
 
 pub overflow_cast-result : goal.overflow_cast-result

@@ -1,5 +1,5 @@
-use Rattle.std.proofs.Common.{◌≡◌, ◌<◌, ◌≤◌, ◌∙◌, ◌||◌, arith, sym, ap, length}
-use Rattle.vf_spans.specs.Members.{in_range, ranges_of}
+use Rattle.std.proofs.Common.{◌∙◌, ◌||◌, arith, sym, ap}
+use Rattle.vf_spans.specs.Members.{in_range}
 use Rattle.vf_spans.proofs.WordRanges.{range_more, ranges_all}
 use Rattle.vf_spans.proofs.words.Words.from_spans.Goals as goal
 

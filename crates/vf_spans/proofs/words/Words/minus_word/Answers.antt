@@ -1,4 +1,4 @@
-use Rattle.std.proofs.Common.{◌∙◌, ◌*◌, ◌+◌, ◌-◌, ◌^◌, ◌&&◌, not, ap, ap₂, rules}
+use Rattle.std.proofs.Common.{◌∙◌, ◌*◌, ◌+◌, ◌-◌, ◌^◌, ◌&&◌, ap, ap₂, rules}
 use Rattle.vf_spans.specs.Words.{has_bit}
 use Rattle.vf_spans.proofs.WordBits.{has_bit-and, has_bit-not}
 use Rattle.vf_spans.proofs.WordFlags.{past_bound, minus_written}

@@ -1,5 +1,5 @@
 use Rattle.std.proofs.Common.{◌≡◌, ◌∙◌, ap, arith, replicate}
-use Rattle.vf_spans.specs.Words.{in_words, words_below}
+use Rattle.vf_spans.specs.Words.{in_words}
 use Rattle.vf_spans.proofs.WordFlags.{length-words, has-words, are_zeros, in_words-zeros}
 use Rattle.vf_spans.proofs.words.Words.new.Goals as goal
 

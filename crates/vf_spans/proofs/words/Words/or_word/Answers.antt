@@ -1,4 +1,4 @@
-use Rattle.std.proofs.Common.{◌≡◌, ◌∙◌, ◌*◌, ◌-◌, ◌||◌, ap, ap₂, length}
+use Rattle.std.proofs.Common.{◌∙◌, ◌*◌, ◌-◌, ◌||◌, ap, ap₂}
 use Rattle.vf_spans.proofs.WordBits.{has_bit-or}
 use Rattle.vf_spans.proofs.WordFlags.{or_within, or_written}
 use Rattle.vf_spans.proofs.words.Words.or_word.Goals as goal
