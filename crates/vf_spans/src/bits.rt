@@ -1,8 +1,6 @@
-ghost use Rattle.std.specs.Prelude.{◌≡◌, ℕ, ◌<◌, ◌≤◌, ◌+◌, ◌*◌, ◌/◌, ◌||◌, ◌&&◌, true, false, not, nat_eq, nat_le, nat_lt, if◌then◌else◌};
-ghost use Rattle.vf_spans.specs.Merge.{combined};
+//! Bits of one word of 64 flags; bit 0 is the lowest.
+ghost use Rattle.std.specs.Prelude.{◌≡◌, ℕ, ◌<◌, ◌≤◌, ◌+◌, ◌*◌, ◌/◌, ◌||◌, ◌&&◌, true, false, nat_eq, nat_le, nat_lt};
 ghost use Rattle.vf_spans.specs.Words.{has_bit};
-
-use crate::merge::Operation;
 
 /// Whether the bit is set.
 pub fn has_bit(word: u64, b: u32) -> bool
@@ -18,17 +16,6 @@ pub fn with_bit(word: u64, b: u32) -> u64
     ensures { (k : ℕ) → k < 64 → has_bit result k ≡ (has_bit word k || nat_eq k b) }
 {
     word | 1 << b
-}
-
-/// What the operation makes of two words, bit by bit.
-pub fn combine_bits(a: u64, b: u64, operation: Operation) -> u64
-    ensures { (k : ℕ) → k < 64 → has_bit result k ≡ combined operation (has_bit a k) (has_bit b k) }
-{
-    match operation {
-        Operation::Union => a | b,
-        Operation::Minus => a & !b,
-        Operation::Meet => a & b,
-    }
 }
 
 /// The bits from that one on.
@@ -64,13 +51,6 @@ pub fn bits_of_range(n: u32, lo: u32, hi: u32) -> u64
 {
     let base = 64 * n;
     bits_from(lo.saturating_sub(base)) & lowest_bits((hi - base).min(64))
-}
-
-/// The bits of the word, or those that it has not.
-pub fn bits_sought(word: u64, sought: bool) -> u64
-    ensures { (k : ℕ) → k < 64 → has_bit result k ≡ (if sought then has_bit word k else not (has_bit word k)) }
-{
-    if sought { word } else { !word }
 }
 
 /// The lowest bit that is set.

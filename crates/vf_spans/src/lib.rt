@@ -1,7 +1,7 @@
 //! Sets of indices below a bound, kept as ranges, with union, difference and intersection.
 #![tactic(auto)]
 
-mod bits;
+pub mod bits;
 mod merge;
 mod spans;
 mod stretches;

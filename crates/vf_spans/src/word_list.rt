@@ -1,9 +1,9 @@
-ghost use Rattle.std.specs.Prelude.{◌≡◌, ℕ, ◌*◌, ◌^◌, ◌<◌, ◌≤◌, ◌&&◌, false, not, MatchOption, length};
+ghost use Rattle.std.specs.Prelude.{◌≡◌, ℕ, ◌*◌, ◌^◌, ◌<◌, ◌≤◌, ◌&&◌, false, not, if◌then◌else◌, MatchOption, length};
 ghost use Rattle.vf_spans.specs.Members.{count_below};
 ghost use Rattle.vf_spans.specs.Merge.{combined};
-ghost use Rattle.vf_spans.specs.Words.{in_words, IsFirstFlag, HasNoFlag};
+ghost use Rattle.vf_spans.specs.Words.{has_bit, in_words, IsFirstFlag, HasNoFlag};
 
-use crate::bits::{bits_from, bits_sought, combine_bits, lowest_bit};
+use crate::bits::{bits_from, lowest_bit};
 use crate::merge::Operation;
 
 /// Takes every flag out.
@@ -15,6 +15,17 @@ pub fn clear_words(words: &mut [u64])
     }
 }
 
+/// What the operation makes of two words, bit by bit.
+fn combine_bits(a: u64, b: u64, operation: Operation) -> u64
+    ensures { (k : ℕ) → k < 64 → has_bit result k ≡ combined operation (has_bit a k) (has_bit b k) }
+{
+    match operation {
+        Operation::Union => a | b,
+        Operation::Minus => a & !b,
+        Operation::Meet => a & b,
+    }
+}
+
 /// Writes what the operation makes of the words and as many others over the words.
 pub fn combine_words(words: &mut [u64], other: &[u64], operation: Operation)
     requires { length other.now ≡ length words.old }
@@ -23,6 +34,13 @@ pub fn combine_words(words: &mut [u64], other: &[u64], operation: Operation)
     for n in 0..words.len() {
         words[n] = combine_bits(words[n], other[n], operation);
     }
+}
+
+/// The bits of the word, or those that it has not.
+fn bits_sought(word: u64, sought: bool) -> u64
+    ensures { (k : ℕ) → k < 64 → has_bit result k ≡ (if sought then has_bit word k else not (has_bit word k)) }
+{
+    if sought { word } else { !word }
 }
 
 /// The least index from `i` on whose flag is the one sought, by the first word that has one.

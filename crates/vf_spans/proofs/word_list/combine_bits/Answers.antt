@@ -2,7 +2,7 @@ use Rattle.std.proofs.Common.{◌∙◌, ◌&&◌, ◌^◌, ◌-◌, sym, ap, ru
 use Rattle.vf_spans.specs.Words.{has_bit}
 use Rattle.vf_spans.specs.Merge.{combined}
 use Rattle.vf_spans.proofs.WordBits.{has_bit-and, has_bit-or, has_bit-not}
-use Rattle.vf_spans.proofs.bits.combine_bits.Goals as goal
+use Rattle.vf_spans.proofs.word_list.combine_bits.Goals as goal
 
 pub returns-in-Union : goal.returns-in-Union
 returns-in-Union c = λ k lt. has_bit-or c.args.a c.args.b k ∙ ap (λ o. combined o (has_bit c.args.a k) (has_bit c.args.b k)) (sym c.in-Union.is)

@@ -1,7 +1,7 @@
 use Rattle.std.proofs.Common.{◌∙◌, sym, ap, cond, not, rules}
 use Rattle.vf_spans.specs.Words.{has_bit}
 use Rattle.vf_spans.proofs.WordBits.{has_bit-not}
-use Rattle.vf_spans.proofs.bits.bits_sought.Goals as goal
+use Rattle.vf_spans.proofs.word_list.bits_sought.Goals as goal
 
 pub returns-else-sought : goal.returns-else-sought
 returns-else-sought c =
