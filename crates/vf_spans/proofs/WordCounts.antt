@@ -7,7 +7,7 @@ use Rattle.std.proofs.lemmas.List.Sums.{count_by-le-length}
 use Rattle.std.proofs.lemmas.Simd.{mask_l-lt, bit_mask_l, ones-mask_l}
 use lib.Lanes.{mask_l}
 use Rattle.vf_spans.specs.Members.{has, count_of, count_below}
-use Rattle.vf_spans.specs.Words.{has_bit, AreWords, number_of, word_of}
+use Rattle.vf_spans.specs.Words.{has_bit, AreWords, number_of_bits, word_of_set}
 use Rattle.vf_spans.proofs.Below.{count_by_same, count_by_map, one_if, one_more, more_below, same_bound_same}
 use Rattle.vf_spans.proofs.WordBits.{has_bit-value, same_word}
 
@@ -31,7 +31,7 @@ count_more p q from (suc m) same =
     let both : count_below (from + m + 1) p ≡ count_below from p + count_below (m + 1) q = omega arith in
     same_bound_same p (from + suc m) (from + m + 1) (omega arith) ∙ both ∙ ap (λ n. count_below from p + n) (same_bound_same q (m + 1) (suc m) (omega arith))
 
-number_is_mask : (bits : List Bool) → number_of bits ≡ mask_l bits
+number_is_mask : (bits : List Bool) → number_of_bits bits ≡ mask_l bits
 number_is_mask [] = refl
 number_is_mask (b ∷ bits) = ap (λ n. cond b 1 0 + 2 * n) (number_is_mask bits)
 
@@ -52,22 +52,22 @@ word_is_mask m w p fits same =
     same_word m w (mask_l bits) fits (subst (λ (n : ℕ). mask_l bits < 2 ^ n) size (mask_l-lt bits))
     (λ k lt. same k lt ∙ sym (has_bit-mask bits k ∙ get_or-map-range_with_len p 0 m k k false lt (omega arith)))
 
-word_is_number : (m w : ℕ) (p : ℕ → Bool) → w < 2 ^ m → ((k : ℕ) → k < m → has_bit w k ≡ p k) → w ≡ number_of (map p (range_with_len 0 m))
+word_is_number : (m w : ℕ) (p : ℕ → Bool) → w < 2 ^ m → ((k : ℕ) → k < m → has_bit w k ≡ p k) → w ≡ number_of_bits (map p (range_with_len 0 m))
 word_is_number m w p fits same = word_is_mask m w p fits same ∙ sym (number_is_mask (map p (range_with_len 0 m)))
 
-pub is_word_of : (v : List Bool) (n w : ℕ) → w < 2 ^ 64 → ((b : ℕ) → b < 64 → has_bit w b ≡ has v (64 * n + b)) → w ≡ word_of v n
-unfolding word_of
-is_word_of v n w fits same = word_is_number 64 w (λ b. has v (64 * n + b)) fits same
+pub is_word_of_set : (v : List Bool) (n w : ℕ) → w < 2 ^ 64 → ((b : ℕ) → b < 64 → has_bit w b ≡ has v (64 * n + b)) → w ≡ word_of_set v n
+unfolding word_of_set
+is_word_of_set v n w fits same = word_is_number 64 w (λ b. has v (64 * n + b)) fits same
 
 -- the meaning of a set's word, by its bits
-number_has : (m : ℕ) (p : ℕ → Bool) (k : ℕ) → k < m → has_bit (number_of (map p (range_with_len 0 m))) k ≡ p k
+number_has : (m : ℕ) (p : ℕ → Bool) (k : ℕ) → k < m → has_bit (number_of_bits (map p (range_with_len 0 m))) k ≡ p k
 number_has m p k lt =
     let bits : List Bool = map p (range_with_len 0 m) in
     ap (λ n. has_bit n k) (number_is_mask bits) ∙ has_bit-mask bits k ∙ get_or-map-range_with_len p 0 m k k false lt (omega arith)
 
-pub has_bit-word_of : (v : List Bool) (n b : ℕ) → b < 64 → has_bit (word_of v n) b ≡ has v (64 * n + b)
-unfolding word_of
-has_bit-word_of v n b lt = number_has 64 (λ k. has v (64 * n + k)) b lt
+pub has_bit-word_of_set : (v : List Bool) (n b : ℕ) → b < 64 → has_bit (word_of_set v n) b ≡ has v (64 * n + b)
+unfolding word_of_set
+has_bit-word_of_set v n b lt = number_has 64 (λ k. has v (64 * n + k)) b lt
 
 -- the ones of a number of m bits are as many as its bits that are set
 pub ones_are : (m w : ℕ) → w < 2 ^ m → count_ones w ≡ count_below m (has_bit w)

@@ -41,13 +41,13 @@ abbrev pub HasNoFlag : List ℕ → Bool → ℕ → Type 0
 HasNoFlag words sought i = (k : ℕ) → i ≤ k → k < 64 * length words → in_words words k ≡ not sought
 
 -- the number with these bits, the lowest first
-abbrev pub number_of : List Bool → ℕ
-number_of [] = 0
-number_of (bit ∷ bits) = (if bit then 1 else 0) + 2 * number_of bits
+abbrev pub number_of_bits : List Bool → ℕ
+number_of_bits [] = 0
+number_of_bits (bit ∷ bits) = (if bit then 1 else 0) + 2 * number_of_bits bits
 
 -- word n of a set
-unfoldable pub word_of : List Bool → ℕ → ℕ
-word_of set n = number_of (map (λ b. has set (64 * n + b)) (range_with_len 0 64))
+unfoldable pub word_of_set : List Bool → ℕ → ℕ
+word_of_set set n = number_of_bits (map (λ b. has set (64 * n + b)) (range_with_len 0 64))
 
 -- the set has no index from i on
 abbrev pub HasNoneFrom : List Bool → ℕ → Type 0

@@ -1,7 +1,7 @@
 ghost use Rattle.std.specs.Prelude.{◌≡◌, ℕ, ◌+◌, ◌*◌, ◌/◌, ◌%◌, ◌^◌, ◌<◌, ◌≤◌, ◌↔◌, ◌&&◌, ◌||◌, not, nat_eq, List, Bool, true, false, IsTrue, IfOk, if◌then◌else◌, MatchOption, nat_le, nat_lt, length};
 ghost use Rattle.vf_spans.specs.Members.{has, count_of, count_below, in_range};
 ghost use Rattle.vf_spans.specs.Merge.{combined};
-ghost use Rattle.vf_spans.specs.Words.{has_bit, in_words, in_word, word_of, words_below, flags_of_words, AreWords, HasNoneFrom, IsNext, IsRun};
+ghost use Rattle.vf_spans.specs.Words.{has_bit, in_words, in_word, word_of_set, words_below, flags_of_words, AreWords, HasNoneFrom, IsNext, IsRun};
 
 use crate::Spans;
 use crate::bits::{bits_below, bits_of_range, has_bit, with_bit};
@@ -160,7 +160,7 @@ impl Words {
     /// Word n of the set.
     pub fn word(&self, n: u32) -> u64
         requires { n < words_below (length self.now) }
-        ensures value { result ≡ word_of self.now n }
+        ensures value { result ≡ word_of_set self.now n }
         ensures bits { (b : ℕ) → b < 64 → has_bit result b ≡ has self.now (64 * n + b) }
     {
         self.as_slice()[n as usize]
