@@ -15,18 +15,18 @@ count_by_same p q e (x ∷ xs) =
     ∙ ap₂ (λ m n. m + n) (ap (λ b. cond b 1 0) (e x)) (count_by_same p q e xs)
     ∙ sym (sum_by-cons (λ y. cond (q y) 1 0) x xs)
 
-count_by_map : {X : Type 0} → (p : X → Bool) (xs : List X) → count_by (λ flag. flag) (map p xs) ≡ count_by p xs
+pub count_by_map : {X : Type 0} → (p : X → Bool) (xs : List X) → count_by (λ flag. flag) (map p xs) ≡ count_by p xs
 count_by_map p [] = refl
 count_by_map p (x ∷ xs) =
     sum_by-cons (λ (b : Bool). cond b 1 0) (p x) (map p xs)
     ∙ ap (λ n. cond (p x) 1 0 + n) (count_by_map p xs)
     ∙ sym (sum_by-cons (λ y. cond (p y) 1 0) x xs)
 
-abbrev one_if : Bool → ℕ
+abbrev pub one_if : Bool → ℕ
 one_if b = cond b 1 0
 
 -- one index more
-one_more : (p : ℕ → Bool) (n : ℕ) → count_below (n + 1) p ≡ count_below n p + cond (p n) 1 0
+pub one_more : (p : ℕ → Bool) (n : ℕ) → count_below (n + 1) p ≡ count_below n p + cond (p n) 1 0
 one_more p n =
     sym (count_by_map p (range_with_len 0 (n + 1)))
     ∙ sum_by-map-range_with_len_more (λ (b : Bool). cond b 1 0) p 0 n n (omega arith)

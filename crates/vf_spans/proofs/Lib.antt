@@ -1,3 +1,8 @@
+pub mod WordBits
+pub mod WordFlags
+pub mod WordCounts
+pub mod WordSearch
+pub mod WordRanges
 pub mod Walk
 pub mod Flags
 pub mod Ranges

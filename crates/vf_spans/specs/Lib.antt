@@ -1,3 +1,4 @@
 pub mod Members
 pub mod Edges
 pub mod Merge
+pub mod Words

@@ -1,10 +1,12 @@
 //! Sets of indices below a bound, kept as ranges, with union, difference and intersection.
 #![tactic(auto)]
 
+pub mod bits;
 mod merge;
 mod spans;
 mod stretches;
-#[cfg(test)]
-mod tests;
+mod word_list;
+mod words;
 
 pub use spans::Spans;
+pub use words::Words;

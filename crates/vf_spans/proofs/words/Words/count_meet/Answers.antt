@@ -1,0 +1,19 @@
+use Rattle.std.proofs.Common.{◌≡◌, ◌&&◌, ap, ap₂, arith, length}
+use Rattle.vf_spans.specs.Members.{has, count_below}
+use Rattle.vf_spans.specs.Words.{in_words}
+use Rattle.vf_spans.proofs.WordCounts.{counted_words, count_small}
+use Rattle.vf_spans.proofs.words.Words.count_meet.Goals as goal
+
+pub overflow_cast-result : goal.overflow_cast-result
+overflow_cast-result c =
+    let few : c.count_flags_meet.result ≡ count_below (length c.args.self.now) (λ i. has c.args.self.now i && has c.args.other.now i) =
+    counted_words c.count_flags_meet.result c.as_slice.result.now c.args.self.now _ (λ i. has c.args.self.now i && has c.args.other.now i) c.count_flags_meet.ensures c.as_slice.ensures.words (λ i. ap₂ (λ p q. p && q) (c.as_slice.ensures.flags i) (c.as_slice-2.ensures.flags i))
+    (λ i le. ap (λ p. p && in_words c.as_slice-2.result.now i) (c.as_slice.ensures.words.within i le)) in
+    let small = count_small (length c.args.self.now) (λ i. has c.args.self.now i && has c.args.other.now i) in
+    let fits = c.as_slice.ensures.fits in
+    omega arith
+
+pub returns : goal.returns
+returns c =
+    counted_words c.count_flags_meet.result c.as_slice.result.now c.args.self.now _ (λ i. has c.args.self.now i && has c.args.other.now i) c.count_flags_meet.ensures c.as_slice.ensures.words (λ i. ap₂ (λ p q. p && q) (c.as_slice.ensures.flags i) (c.as_slice-2.ensures.flags i))
+    (λ i le. ap (λ p. p && in_words c.as_slice-2.result.now i) (c.as_slice.ensures.words.within i le))
