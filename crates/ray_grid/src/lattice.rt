@@ -17,8 +17,7 @@ impl Grid {
     fn has_ray(&self, ray: &Ray) -> bool
         ensures { IsTrue result ↔ IsRay self.now ray.now }
     {
-        ray.i < self.counts[ray.family.first_axis()]
-            && ray.j < self.counts[ray.family.second_axis()]
+        ray.i < self.nodes(ray.family.first_axis()) && ray.j < self.nodes(ray.family.second_axis())
     }
 
     /// How many points the lattice has: those of the rays of the three families. A location on the rays of two families
@@ -38,8 +37,8 @@ impl Grid {
         ensures len { result ≡ family_points self.now family }
         ensures few { result ≤ 64000000000 }
     {
-        let first = u64::from(self.counts[family.first_axis()]);
-        let second = u64::from(self.counts[family.second_axis()]);
+        let first = u64::from(self.nodes(family.first_axis()));
+        let second = u64::from(self.nodes(family.second_axis()));
         first * (second * u64::from(self.points(family)))
     }
 }
