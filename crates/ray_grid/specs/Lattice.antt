@@ -1,5 +1,5 @@
 -- The lattice: rays of three families through the nodes of a grid, and the points along each ray.
-use Rattle.std.specs.Prelude.{ℕ, ◌*◌, ◌/◌, ◌<◌, ℤ, pos, ◌+ℤ◌, ◌*ℤ◌, unsigned_abs, List, [], ◌∷◌, slice_index}
+use Rattle.std.specs.Prelude.{ℕ, ◌*◌, ◌/◌, ◌<◌, ◌&&◌, nat_lt, ℤ, pos, ◌+ℤ◌, ◌*ℤ◌, unsigned_abs, Bool, List, [], ◌∷◌, slice_index}
 use Rattle.ray_grid.specs.Grids.{GridSize}
 use Rattle.ray_grid.specs.declared.ray.Ray.{Ray}
 use Rattle.ray_grid.specs.declared.ray.Family.{Family}
@@ -29,6 +29,14 @@ place_at grid axis l = at grid.origin axis +ℤ (pos l *ℤ grid.step)
 pub record IsRay (grid : GridSize) (ray : Ray) : Type 0 where
   pub first : ray.i < nodes_of grid (first_axis ray.family)
   pub second : ray.j < nodes_of grid (second_axis ray.family)
+
+-- the same as a test, and whether the ray has a point of that index besides
+abbrev pub is_ray_on : GridSize → Ray → Bool
+is_ray_on grid ray =
+    nat_lt ray.i (nodes_of grid (first_axis ray.family)) && nat_lt ray.j (nodes_of grid (second_axis ray.family))
+
+abbrev pub is_point_on : GridSize → Ray → ℕ → Bool
+is_point_on grid ray l = is_ray_on grid ray && nat_lt l (points_of grid ray.family)
 
 -- the coordinates of point l of the ray of the family through the nodes i and j
 abbrev pub point_at : GridSize → Family → ℕ → ℕ → ℕ → List ℤ

@@ -36,8 +36,7 @@ impl Grid {
 
     /// How many points a ray of the family has.
     pub fn points(&self, family: Family) -> u32
-        ensures points { result ≡ points_of self.now family }
-        ensures few { result ≤ most_nodes * most_per_node }
+        ensures { result ≡ points_of self.now family }
     {
         self.nodes(family.axis()) * self.per_node()
     }
@@ -81,7 +80,7 @@ impl Grid {
     }
 
     /// How many points a ray has for each node that it passes.
-    fn per_node(&self) -> u32
+    pub(crate) fn per_node(&self) -> u32
         ensures points { result ≡ per_node self.now }
         ensures few { result ≤ most_per_node }
     {

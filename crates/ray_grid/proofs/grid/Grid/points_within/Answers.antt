@@ -10,4 +10,4 @@ returns-clause-exact c =
     let fits_origin : FitsSigned w32 (at c.self.inside.origin c.axis-axis.result) = search rules in
     λ l.
     points_are _ c.args.self.now c.args.family c.args.near.now.from c.args.near.now.to c.args.near.now.reach c.axis-axis.result c.indices.result.0 c.indices.result.1 c.points.result l
-    c.self.view_is c.axis-axis.ensures.axis c.points.ensures.points (simp to_z-of_z at (c.indices.ensures.exact l))
+    c.self.view_is c.axis-axis.ensures.axis c.points.ensures (simp to_z-of_z at (c.indices.ensures.exact l))
