@@ -1,6 +1,7 @@
 -- The script that a text stands for, or its first fault.
-use Rattle.std.specs.Prelude.{◌≡◌, ℕ, ◌+◌, ◌-◌, ◌==◌, ◌&&◌, nat_le, nat_lt, Bool, List, [], ◌∷◌, ◌++◌, length, replicate, Option, Some, None, Result, Ok, Err, if◌then◌else◌}
-use Rattle.ray_grid.specs.declared.grid.Grid.{Grid}
+use Rattle.std.specs.Prelude.{◌≡◌, ℕ, ◌+◌, ◌-◌, ◌==◌, ◌&&◌, nat_le, nat_lt, Bool, if◌then◌else◌}
+use Rattle.std.specs.Prelude.{List, [], ◌∷◌, ◌++◌, length, replicate, Option, Some, None, Result, Ok, Err}
+use Rattle.ray_grid.specs.Grids.{GridSize}
 use Rattle.edit_plan.specs.declared.edit.Edit.{Edit}
 use Rattle.edit_plan.specs.declared.edit.Edit.TheVariants.{Undo, Redo}
 use Rattle.edit_plan.specs.declared.query.Ask.{Ask}
@@ -9,7 +10,8 @@ use Rattle.edit_plan.specs.declared.fault.ScriptFault.{ScriptFault}
 use Rattle.edit_plan.specs.declared.fault.ScriptEnd.{ScriptEnd}
 use Rattle.edit_plan.specs.declared.fault.ScriptEnd.TheVariants.{Refused, NoMemory}
 use Rattle.edit_plan.specs.declared.fault.ScriptWhy.{ScriptWhy}
-use Rattle.edit_plan.specs.declared.fault.ScriptWhy.TheVariants.{ScriptSyntax, ScriptRange, UndoDepth, TooManyEdits, TooManyQueries, RedoDepth}
+use Rattle.edit_plan.specs.declared.fault.ScriptWhy.TheVariants.{ScriptSyntax, ScriptRange, UndoDepth, RedoDepth}
+use Rattle.edit_plan.specs.declared.fault.ScriptWhy.TheVariants.{TooManyEdits, TooManyQueries}
 use Rattle.edit_plan.specs.declared.reading.Stop.{Stop}
 use Rattle.edit_plan.specs.declared.reading.Stop.TheVariants as stops
 use Rattle.edit_plan.specs.declared.script.Script.{Script}
@@ -19,7 +21,7 @@ use Rattle.edit_plan.specs.declared.statement.Statement.{Statement}
 use Rattle.edit_plan.specs.declared.statement.Statement.TheVariants.{Run, UndoTimes, RedoTimes, ProbePoint, CountPoints}
 use Rattle.edit_plan.specs.Edits.{applied_moves, dropped_of, left_of}
 use Rattle.edit_plan.specs.Limits.{most_edits, most_queries}
-use Rattle.edit_plan.specs.Queries.{is_point_on}
+use Rattle.ray_grid.specs.Lattice.{is_point_on}
 use Rattle.edit_plan.specs.Statements.{is_edition_line, statement_of}
 use Rattle.edit_plan.specs.Words.{WordedLine, worded_lines}
 
@@ -50,7 +52,8 @@ with_query ask script =
 -- the moves from one to another are applied, counted from 1; both have to be among the moves, and in order
 abbrev pub with_run : ℕ → ℕ → ℕ → Script → Result Script ScriptWhy
 with_run moves first last script =
-    if nat_le 1 first && (nat_le first last && nat_le last moves) then with_edits (applied_moves (first - 1) (last + 1 - first)) script
+    if nat_le 1 first && (nat_le first last && nat_le last moves)
+    then with_edits (applied_moves (first - 1) (last + 1 - first)) script
     else Err ScriptRange
 
 -- the last moves that are left are undone, at least one and no more than there are
@@ -70,15 +73,16 @@ with_redos times script =
     else with_edits (replicate times Redo) script))
 
 -- what a statement adds to the script so far, or the first that is wrong with it
-abbrev pub with_statement : ℕ → Grid → Statement → Script → Result Script ScriptWhy
+abbrev pub with_statement : ℕ → GridSize → Statement → Script → Result Script ScriptWhy
 with_statement moves grid (Run first last) script = with_run moves first last script
 with_statement moves grid (UndoTimes times) script = with_undos times script
 with_statement moves grid (RedoTimes times) script = with_redos times script
-with_statement moves grid (ProbePoint ray l) script = if is_point_on grid ray l then with_query (Probe ray l) script else Err ScriptRange
+with_statement moves grid (ProbePoint ray l) script =
+    if is_point_on grid ray l then with_query (Probe ray l) script else Err ScriptRange
 with_statement moves grid CountPoints script = with_query Count script
 
 -- the same of a line, where it is one of the grammar
-abbrev pub with_line : ℕ → Grid → Option Statement → Script → Result Script ScriptWhy
+abbrev pub with_line : ℕ → GridSize → Option Statement → Script → Result Script ScriptWhy
 with_line moves grid None script = Err ScriptSyntax
 with_line moves grid (Some statement) script = with_statement moves grid statement script
 
@@ -88,7 +92,7 @@ read_on number (Ok script) rest = rest script
 read_on number (Err why) rest = Err (record { line = number; why = why })
 
 -- what lines of an edition add to a script, or the first fault
-abbrev pub script_from : ℕ → Grid → Edition → List WordedLine → Script → Result Script ScriptFault
+abbrev pub script_from : ℕ → GridSize → Edition → List WordedLine → Script → Result Script ScriptFault
 script_from moves grid edition [] script = Ok script
 script_from moves grid edition (line ∷ lines) script =
     read_on line.number (with_line moves grid (statement_of edition line.words) script) (script_from moves grid edition lines)
@@ -104,7 +108,7 @@ behind_edition [] = []
 behind_edition (line ∷ lines) = if is_edition_line line.words then lines else line ∷ lines
 
 -- the script of a whole text, or its first fault
-abbrev pub script_of : ℕ → Grid → List ℕ → Result Script ScriptFault
+abbrev pub script_of : ℕ → GridSize → List ℕ → Result Script ScriptFault
 script_of moves grid bytes =
     script_from moves grid (edition_of (worded_lines bytes)) (behind_edition (worded_lines bytes)) no_script
 

@@ -1,7 +1,8 @@
 ghost use Rattle.std.specs.Prelude.{◌≡◌, ◌≤◌, ◌+◌, length, Ok, MatchResult, OnOk, IfOk, List};
 ghost use Rattle.edit_plan.specs.Limits.{most_script_moves};
-ghost use Rattle.edit_plan.specs.Queries.{is_point_on};
-ghost use Rattle.edit_plan.specs.Script.{EndsLine, are_too_many, no_script, with_query, with_redos, with_run, with_statement, with_undos};
+ghost use Rattle.ray_grid.specs.Lattice.{is_point_on};
+ghost use Rattle.edit_plan.specs.Script.{EndsLine, are_too_many, no_script, with_statement};
+ghost use Rattle.edit_plan.specs.Script.{with_query, with_redos, with_run, with_undos};
 
 use crate::edit::{Edit, Edits, MAX_EDITS};
 use crate::fault::ScriptWhy;

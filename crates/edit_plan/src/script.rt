@@ -4,7 +4,7 @@ ghost use Rattle.edit_plan.specs.Edits.{left_of};
 ghost use Rattle.edit_plan.specs.Limits.{most_script_bytes, most_script_moves};
 ghost use Rattle.edit_plan.specs.Script.{EndsScript, script_of, whole_of_moves};
 ghost use Rattle.edit_plan.specs.Sound.{IsScript};
-ghost use Rattle.ray_grid.specs.declared.grid.Grid.{Grid};
+ghost use Rattle.ray_grid.specs.Grids.{GridSize};
 
 use crate::edit::Edits;
 use crate::fault::{ScriptEnd, ScriptWhy};
@@ -67,7 +67,7 @@ pub fn read_script(
 pub fn whole_script(alloc: Global, moves: u32) -> Result<Script, NoMemory>
     requires { moves ≤ most_script_moves }
     ensures script { IfOk result (λ s. s ≡ whole_of_moves moves) }
-    ensures sound { IfOk result (λ s. (grid : Grid) → IsScript moves grid s) }
+    ensures sound { IfOk result (λ s. (grid : GridSize) → IsScript moves grid s) }
     // All of them are left.
     ensures left { IfOk result (λ s. left_of s.edits ≡ range_with_len 0 moves) }
 {

@@ -1,5 +1,6 @@
 ghost use Rattle.std.specs.Prelude.{◌≡◌, option_and_then};
-ghost use Rattle.edit_plan.specs.Statements.{count_in, family_in, has_redo, number_in, probe_in, redo_in, run_in, statement_of, undo_in};
+ghost use Rattle.edit_plan.specs.Statements.{count_in, family_in, has_redo, number_in};
+ghost use Rattle.edit_plan.specs.Statements.{probe_in, redo_in, run_in, statement_of, undo_in};
 ghost use Rattle.edit_plan.specs.Words.{words_of};
 
 use crate::words::{is_same, split_word};

@@ -1,8 +1,8 @@
 //! Fills all rays of a grid of 400 x 400 x 100 nodes with 64 bodies of 12 planes, and prints how many points they hold.
 #![tactic(auto)]
 
-use ray_grid::Grid;
-use ray_shapes::{Bodies, Body, Plane, body_spans};
+use ray_grid::{Grid, Ray};
+use ray_shapes::{Bodies, Body, Plane, RayShape, Solid, body_spans};
 use std::alloc::Global;
 use std::io;
 use vf_io::NoMemory;
@@ -100,7 +100,12 @@ fn column(alloc: Global, x: i64, y: i64) -> Result<Body, NoMemory> {
     Ok(Body::new(planes))
 }
 
+/// What a closure that is kept beside its solid gives on the rays of the grid.
 fn filled(alloc: Global, bodies: &Bodies, grid: &Grid) -> Result<Tally, NoMemory> {
+    let solid = Solid::Bodies(bodies.copy()?);
+    let shape = RayShape::new(*grid, solid, move |ray: &Ray| {
+        body_spans(alloc, bodies.as_slice(), grid, ray)
+    });
     let mut tally = Tally {
         rays: 0,
         ranges: 0,
@@ -109,7 +114,7 @@ fn filled(alloc: Global, bodies: &Bodies, grid: &Grid) -> Result<Tally, NoMemory
     for strip in 0..grid.strips() {
         for n in 0..grid.strip_len(strip) {
             let ray = grid.strip_ray(strip, n);
-            let spans = body_spans(alloc, bodies.as_slice(), grid, &ray)?;
+            let spans = shape.fill(&ray)?;
             tally.rays = tally.rays.wrapping_add(1);
             tally.ranges = tally.ranges.wrapping_add(u64::from(spans.ranges()));
             tally.points = tally.points.wrapping_add(u64::from(spans.count()));

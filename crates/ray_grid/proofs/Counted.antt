@@ -1,18 +1,17 @@
 -- How many points the lattice has, and that it has no others.
-use Rattle.std.proofs.Common.{◌≡◌, ℕ, suc, ◌+◌, ◌*◌, ◌<◌, ◌≤◌, List, [], ◌∷◌, ◌++◌, length, map, Contains, arith, refl, sym, ap, ◌∙◌, subst, ⊎_elim, length-append}
+use Rattle.std.proofs.Common.{◌≡◌, ℕ, suc, ◌+◌, ◌*◌, ◌<◌, List, [], ◌∷◌, ◌++◌, length, map, Contains, arith, refl, sym, ap, ◌∙◌, subst, ⊎_elim, length-append}
 use Rattle.std.specs.List.{flat_map, range_with_len}
 use Rattle.std.proofs.lemmas.Grind.{flat_map-append}
 use Rattle.std.proofs.lemmas.List.Elements.{Contains-append_cases}
 use Rattle.std.proofs.lemmas.List.Folds.{flat_map-map}
 use Rattle.std.proofs.lemmas.List.FromFn.{length-map-range_with_len, length-range_with_len, get_or-map-range_with_len}
-use Rattle.ray_grid.specs.declared.grid.Grid.{Grid}
+use Rattle.ray_grid.specs.Grids.{GridSize}
 use Rattle.ray_grid.specs.declared.ray.Ray.{Ray}
 use Rattle.ray_grid.specs.declared.ray.Family.{Family}
 use Rattle.ray_grid.specs.declared.ray.Family.TheVariants.{X, Y, Z}
 use Rattle.ray_grid.specs.Families.{first_axis, second_axis}
 use Rattle.ray_grid.specs.Lattice.{IsRay, nodes_of, points_of, point_of}
 use Rattle.ray_grid.specs.Strips.{strip_of, strips_along, strips_of}
-use Rattle.ray_grid.proofs.Sizes.{few_places}
 use Rattle.ray_grid.specs.Points.{IsPointOf, LatticePoint, family_points, points_on, rays_of, lattice_of}
 
 -- lists of one length, joined
@@ -27,7 +26,7 @@ length-joined f g (x ∷ xs) n each =
     ∙ (let a = each x in let b = length-joined f g xs n each in omega arith)
 
 -- the points of a strip
-length-strip_points : (g : Grid) (f : Family) (i : ℕ) → length (flat_map (points_on g) (strip_of g f i)) ≡ nodes_of g (second_axis f) * points_of g f
+length-strip_points : (g : GridSize) (f : Family) (i : ℕ) → length (flat_map (points_on g) (strip_of g f i)) ≡ nodes_of g (second_axis f) * points_of g f
 length-strip_points g f i =
     let ray : ℕ → Ray = λ j. record { family = f; i = i; j = j } in
     let n = nodes_of g (second_axis f) in
@@ -37,14 +36,14 @@ length-strip_points g f i =
     ∙ ap (λ k. k * points_of g f) (length-range_with_len 0 n)
 
 -- the points of a family
-length-family : (g : Grid) (f : Family) → length (flat_map (points_on g) (flat_map (λ (strip : List Ray). strip) (strips_along g f))) ≡ family_points g f
+length-family : (g : GridSize) (f : Family) → length (flat_map (points_on g) (flat_map (λ (strip : List Ray). strip) (strips_along g f))) ≡ family_points g f
 length-family g f =
     let n = nodes_of g (first_axis f) in
     ap (λ rays. length (flat_map (points_on g) rays)) (flat_map-map (λ (strip : List Ray). strip) (strip_of g f) (range_with_len 0 n))
     ∙ length-joined (points_on g) (strip_of g f) (range_with_len 0 n) (nodes_of g (second_axis f) * points_of g f) (length-strip_points g f)
     ∙ ap (λ k. k * (nodes_of g (second_axis f) * points_of g f)) (length-range_with_len 0 n)
 
-length-two : (g : Grid) (a b : List (List Ray))
+length-two : (g : GridSize) (a b : List (List Ray))
     → length (flat_map (points_on g) (flat_map (λ (strip : List Ray). strip) (a ++ b)))
     ≡ length (flat_map (points_on g) (flat_map (λ (strip : List Ray). strip) a)) + length (flat_map (points_on g) (flat_map (λ (strip : List Ray). strip) b))
 length-two g a b =
@@ -53,17 +52,11 @@ length-two g a b =
     ∙ ap length (flat_map-append (points_on g) (rays a) (rays b)) ∙ length-append (flat_map (points_on g) (rays a)) (flat_map (points_on g) (rays b))
 
 -- the lattice has the points of the three families
-pub length-lattice : (g : Grid) → length (lattice_of g) ≡ family_points g Z + family_points g X + family_points g Y
+pub length-lattice : (g : GridSize) → length (lattice_of g) ≡ family_points g Z + family_points g X + family_points g Y
 length-lattice g =
     length-two g (strips_along g Z ++ strips_along g X) (strips_along g Y)
     ∙ (let a = length-two g (strips_along g Z) (strips_along g X) in
     let z = length-family g Z in let x = length-family g X in let y = length-family g Y in omega arith)
-
--- a ray has at most 400 nodes of 1,000 points
-pub few_points : (g : Grid) (f : Family) → points_of g f ≤ 400000
-few_points g X = few_places g.origin g.pitch g.step g.counts 0 g.in_range (omega arith)
-few_points g Y = few_places g.origin g.pitch g.step g.counts 1 g.in_range (omega arith)
-few_points g Z = few_places g.origin g.pitch g.step g.counts 2 g.in_range (omega arith)
 
 -- what stands in joined lists stands in one of them
 from_flat : {A B : Type 0} → (f : A → List B) (xs : List A) (y : B) → Contains (flat_map f xs) y → (x : A) × Contains xs x × Contains (f x) y
@@ -80,13 +73,13 @@ from_made f n y h =
     (h.0, lt, sym (get_or-map-range_with_len f 0 n h.0 h.0 y lt (omega arith)) ∙ h.2)
 
 -- the rays of a family's strips are rays of the grid
-ray_along : (g : Grid) (f : Family) (ray : Ray) (strip : List Ray) → Contains (strips_along g f) strip → Contains strip ray → IsRay g ray
+ray_along : (g : GridSize) (f : Family) (ray : Ray) (strip : List Ray) → Contains (strips_along g f) strip → Contains strip ray → IsRay g ray
 ray_along g f ray strip there here =
     let row = from_made (strip_of g f) (nodes_of g (first_axis f)) strip there in
     let at = from_made (λ j. record { family = f; i = row.0; j = j }) (nodes_of g (second_axis f)) ray (subst (λ (l : List Ray). Contains l ray) (sym row.2) here) in
     subst (IsRay g) at.2 (record { first = row.1; second = at.1 })
 
-ray_of_grid : (g : Grid) (ray : Ray) → Contains (rays_of g) ray → IsRay g ray
+ray_of_grid : (g : GridSize) (ray : Ray) → Contains (rays_of g) ray → IsRay g ray
 ray_of_grid g ray h =
     let found = from_flat (λ (strip : List Ray). strip) (strips_of g) ray h in
     ⊎_elim
@@ -95,7 +88,7 @@ ray_of_grid g ray h =
     (Contains-append_cases (strips_along g Z ++ strips_along g X) (strips_along g Y) found.0 found.1)
 
 -- the lattice has points of the grid alone
-pub only_points : (g : Grid) (p : LatticePoint) → Contains (lattice_of g) p → IsPointOf g p
+pub only_points : (g : GridSize) (p : LatticePoint) → Contains (lattice_of g) p → IsPointOf g p
 only_points g p h =
     let found = from_flat (points_on g) (rays_of g) p h in
     let ray = ray_of_grid g found.0 found.1 in

@@ -4,3 +4,4 @@ pub mod Rows
 pub mod Windows
 pub mod Listed
 pub mod Counted
+pub mod Tested

@@ -5,7 +5,7 @@ use Rattle.std.proofs.lemmas.List.FromFn.{length-map-range_with_len, get_or-map-
 use Rattle.std.proofs.lemmas.Option.{slice_get-get_or, slice_get_past}
 use native.Mathlib.Decide.{dec_le}
 use mathlib.Core.Logic.{dite}
-use Rattle.ray_grid.specs.declared.grid.Grid.{Grid}
+use Rattle.ray_grid.specs.Grids.{GridSize}
 use Rattle.ray_grid.specs.declared.ray.Ray.{Ray}
 use Rattle.ray_grid.specs.declared.ray.Family.{Family}
 use Rattle.ray_grid.specs.declared.ray.Family.TheVariants.{X, Y, Z}
@@ -13,34 +13,34 @@ use Rattle.ray_grid.specs.Families.{first_axis, second_axis}
 use Rattle.ray_grid.specs.Lattice.{nodes_of}
 use Rattle.ray_grid.specs.Strips.{strip_of, strips_along, strips_of, strip_at, strip_number}
 
-length-along : (g : Grid) (f : Family) → length (strips_along g f) ≡ nodes_of g (first_axis f)
+length-along : (g : GridSize) (f : Family) → length (strips_along g f) ≡ nodes_of g (first_axis f)
 length-along g f = length-map-range_with_len (strip_of g f) 0 (nodes_of g (first_axis f))
 
-pub length-strips : (g : Grid) → length (strips_of g) ≡ nodes_of g 0 + nodes_of g 1 + nodes_of g 0
+pub length-strips : (g : GridSize) → length (strips_of g) ≡ nodes_of g 0 + nodes_of g 1 + nodes_of g 0
 length-strips g =
     let a = length-append (strips_along g Z ++ strips_along g X) (strips_along g Y) in
     let b = length-append (strips_along g Z) (strips_along g X) in
     let z = length-along g Z in let x = length-along g X in let y = length-along g Y in
     omega arith
 
-get_or-along : (g : Grid) (f : Family) (i : ℕ) → i < nodes_of g (first_axis f) → get_or (strips_along g f) i [] ≡ strip_of g f i
+get_or-along : (g : GridSize) (f : Family) (i : ℕ) → i < nodes_of g (first_axis f) → get_or (strips_along g f) i [] ≡ strip_of g f i
 get_or-along g f i lt = get_or-map-range_with_len (strip_of g f) 0 (nodes_of g (first_axis f)) i i [] lt (omega arith)
 
-pub row_z : (g : Grid) (s : ℕ) → s < nodes_of g 0 → strip_at g s ≡ strip_of g Z s
+pub row_z : (g : GridSize) (s : ℕ) → s < nodes_of g 0 → strip_at g s ≡ strip_of g Z s
 row_z g s lt =
     let b = length-append (strips_along g Z) (strips_along g X) in
     let z = length-along g Z in
     get_or_append_left (strips_along g Z ++ strips_along g X) (strips_along g Y) [] s (omega arith)
     ∙ get_or_append_left (strips_along g Z) (strips_along g X) [] s (omega arith) ∙ get_or-along g Z s lt
 
-pub row_x : (g : Grid) (s : ℕ) → nodes_of g 0 ≤ s → s < nodes_of g 0 + nodes_of g 1 → strip_at g s ≡ strip_of g X (s - nodes_of g 0)
+pub row_x : (g : GridSize) (s : ℕ) → nodes_of g 0 ≤ s → s < nodes_of g 0 + nodes_of g 1 → strip_at g s ≡ strip_of g X (s - nodes_of g 0)
 row_x g s le lt =
     let b = length-append (strips_along g Z) (strips_along g X) in
     let z = length-along g Z in let x = length-along g X in
     get_or_append_left (strips_along g Z ++ strips_along g X) (strips_along g Y) [] s (omega arith)
     ∙ get_or-append_right (strips_along g Z) (strips_along g X) (nodes_of g 0) s [] z le ∙ get_or-along g X (s - nodes_of g 0) (omega arith)
 
-pub row_y : (g : Grid) (s : ℕ) → nodes_of g 0 + nodes_of g 1 ≤ s → s < length (strips_of g) → strip_at g s ≡ strip_of g Y (s - nodes_of g 0 - nodes_of g 1)
+pub row_y : (g : GridSize) (s : ℕ) → nodes_of g 0 + nodes_of g 1 ≤ s → s < length (strips_of g) → strip_at g s ≡ strip_of g Y (s - nodes_of g 0 - nodes_of g 1)
 row_y g s le lt =
     let all = length-strips g in
     let b = length-append (strips_along g Z) (strips_along g X) in
@@ -49,25 +49,25 @@ row_y g s le lt =
     ∙ ap (λ k. get_or (strips_along g Y) k []) (let q : s - (nodes_of g 0 + nodes_of g 1) ≡ s - nodes_of g 0 - nodes_of g 1 = omega arith in q)
     ∙ get_or-along g Y (s - nodes_of g 0 - nodes_of g 1) (omega arith)
 
-pub length-strip : (g : Grid) (f : Family) (i : ℕ) → length (strip_of g f i) ≡ nodes_of g (second_axis f)
+pub length-strip : (g : GridSize) (f : Family) (i : ℕ) → length (strip_of g f i) ≡ nodes_of g (second_axis f)
 length-strip g f i = length-map-range_with_len (λ j. record { family = f; i = i; j = j }) 0 (nodes_of g (second_axis f))
 
-pub ray_in : (g : Grid) (f : Family) (i j : ℕ) → j < nodes_of g (second_axis f) → slice_get (strip_of g f i) j ≡ Some record { family = f; i = i; j = j }
+pub ray_in : (g : GridSize) (f : Family) (i j : ℕ) → j < nodes_of g (second_axis f) → slice_get (strip_of g f i) j ≡ Some record { family = f; i = i; j = j }
 ray_in g f i j lt =
     let ray : ℕ → Ray = λ n. record { family = f; i = i; j = n } in
     let size = length-strip g f i in
     slice_get-get_or (strip_of g f i) j (ray 0) (omega arith) ∙ ap Some (get_or-map-range_with_len ray 0 (nodes_of g (second_axis f)) j j (ray 0) lt (omega arith))
 
-pub ray_past : (g : Grid) (f : Family) (i j : ℕ) → nodes_of g (second_axis f) ≤ j → slice_get (strip_of g f i) j ≡ None
+pub ray_past : (g : GridSize) (f : Family) (i j : ℕ) → nodes_of g (second_axis f) ≤ j → slice_get (strip_of g f i) j ≡ None
 ray_past g f i j le = let size = length-strip g f i in slice_get_past (strip_of g f i) j (omega arith)
 
 -- the strip of a family's number
-pub number_in : (g : Grid) (f : Family) (i : ℕ) → i < nodes_of g (first_axis f) → strip_number g f i < length (strips_of g)
+pub number_in : (g : GridSize) (f : Family) (i : ℕ) → i < nodes_of g (first_axis f) → strip_number g f i < length (strips_of g)
 number_in g X i lt = let all = length-strips g in omega arith
 number_in g Y i lt = let all = length-strips g in omega arith
 number_in g Z i lt = let all = length-strips g in omega arith
 
-pub strip_there : (g : Grid) (f : Family) (i : ℕ) → i < nodes_of g (first_axis f) → strip_at g (strip_number g f i) ≡ strip_of g f i
+pub strip_there : (g : GridSize) (f : Family) (i : ℕ) → i < nodes_of g (first_axis f) → strip_at g (strip_number g f i) ≡ strip_of g f i
 strip_there g X i lt = row_x g (nodes_of g 0 + i) (omega arith) (omega arith) ∙ ap (strip_of g X) (let q : nodes_of g 0 + i - nodes_of g 0 ≡ i = omega arith in q)
 strip_there g Y i lt =
     let all = length-strips g in
@@ -75,7 +75,7 @@ strip_there g Y i lt =
 strip_there g Z i lt = row_z g i lt
 
 -- a ray that stands in a strip of a family stands at its own numbers
-own_place : (g : Grid) (f : Family) (i n : ℕ) (ray : Ray) → slice_get (strip_of g f i) n ≡ Some ray → (strip_number g f i ≡ strip_number g ray.family ray.i) × (n ≡ ray.j)
+own_place : (g : GridSize) (f : Family) (i n : ℕ) (ray : Ray) → slice_get (strip_of g f i) n ≡ Some ray → (strip_number g f i ≡ strip_number g ray.family ray.i) × (n ≡ ray.j)
 own_place g f i n ray is =
     dite (dec_le (nodes_of g (second_axis f)) n)
     (λ le. absurd (let none = ray_past g f i n le in cc))
@@ -84,7 +84,7 @@ own_place g f i n ray is =
     let same : record { family = f; i = i; j = n } ≡ ray = cc in
     subst (λ (r : Ray). (strip_number g f i ≡ strip_number g r.family r.i) × (n ≡ r.j)) same (refl, refl))
 
-pub only_place : (g : Grid) (ray : Ray) (s n : ℕ) → slice_get (strip_at g s) n ≡ Some ray → (s ≡ strip_number g ray.family ray.i) × (n ≡ ray.j)
+pub only_place : (g : GridSize) (ray : Ray) (s n : ℕ) → slice_get (strip_at g s) n ≡ Some ray → (s ≡ strip_number g ray.family ray.i) × (n ≡ ray.j)
 only_place g ray s n is =
     dite (dec_le (nodes_of g 0) s)
     (λ le.

@@ -1,8 +1,10 @@
 -- How large the coordinates of a grid's nodes and points are.
-use Rattle.std.proofs.Common.{◌≡◌, ℕ, suc, zero, ◌+◌, ◌-◌, ◌*◌, ◌/◌, ◌%◌, ◌<◌, ◌≤◌, ℤ, pos, negsuc, ◌+ℤ◌, ◌*ℤ◌, ◌≤ℤ◌, unsigned_abs, List, arith, refl, sym, ap, ap₂, ◌∙◌, subst, w32, FitsSigned, to_z, of_z, slice_index}
+use Rattle.std.proofs.Common.{◌≡◌, ℕ, suc, zero, ◌+◌, ◌-◌, ◌*◌, ◌/◌, ◌%◌, ◌<◌, ◌≤◌, ℤ, pos, negsuc, ◌+ℤ◌, ◌*ℤ◌, ◌≤ℤ◌, unsigned_abs, arith, refl, sym, ap, ap₂, ◌∙◌, subst, w32, FitsSigned, to_z, of_z, slice_index}
 use Rattle.std.proofs.lemmas.Int.{ints, to_z-of_z, to_z_pos}
 use Rattle.std.proofs.Math.IntN.{pos-*ℤ-pos}
 use Rattle.std.proofs.Math.Nat.{mul-le-mul, mul-le-mul_right}
+use Rattle.ray_grid.specs.Grids.{GridSize}
+use Rattle.ray_grid.specs.Lattice.{nodes_of, per_node, node_at, place_at}
 use Rattle.ray_grid.specs.Ranges.{IsGrid, IsGridAxis}
 use Rattle.space.specs.Ranges.{metre}
 use Rattle.space.specs.Vectors.{at}
@@ -41,13 +43,13 @@ place_within o s m l lt last =
     omega (arith, ints)
 
 -- what a coordinate is made of in the code's own 32 bits, and that nothing is lost on the way
-pub record Scaled (o z : ℤ) (k : ℕ) : Type 0 where
+pub record Scaled (o z value : ℤ) (k : ℕ) : Type 0 where
   pub product : FitsSigned w32 (to_z w32 k *ℤ to_z w32 (of_z w32 z))
   pub sum : FitsSigned w32 (to_z w32 (of_z w32 o) +ℤ to_z w32 (of_z w32 (to_z w32 k *ℤ to_z w32 (of_z w32 z))))
-  pub value : to_z w32 (of_z w32 (to_z w32 (of_z w32 o) +ℤ to_z w32 (of_z w32 (to_z w32 k *ℤ to_z w32 (of_z w32 z))))) ≡ o +ℤ (pos k *ℤ z)
+  pub there : to_z w32 (of_z w32 (to_z w32 (of_z w32 o) +ℤ to_z w32 (of_z w32 (to_z w32 k *ℤ to_z w32 (of_z w32 z))))) ≡ value
   pub near : unsigned_abs (to_z w32 (of_z w32 (to_z w32 (of_z w32 o) +ℤ to_z w32 (of_z w32 (to_z w32 k *ℤ to_z w32 (of_z w32 z)))))) ≤ metre
 
-pub scaled : (o z : ℤ) (k : ℕ) → FitsSigned w32 z → k < 2147483648 → unsigned_abs o ≤ metre → pos 1 ≤ℤ z → (o +ℤ pos (k * unsigned_abs z)) ≤ℤ pos 1000000 → Scaled o z k
+pub scaled : (o z : ℤ) (k : ℕ) → FitsSigned w32 z → k < 2147483648 → unsigned_abs o ≤ metre → pos 1 ≤ℤ z → (o +ℤ pos (k * unsigned_abs z)) ≤ℤ pos 1000000 → Scaled o z (o +ℤ (pos k *ℤ z)) k
 scaled o z k fits small coordinate positive last =
     let whole : to_z w32 (of_z w32 z) ≡ z = to_z-of_z w32 z fits in
     let product : (to_z w32 k *ℤ to_z w32 (of_z w32 z)) ≡ pos (k * unsigned_abs z) = ap₂ (λ a b. a *ℤ b) (to_z_pos w32 k small) whole ∙ times_is k z positive in
@@ -60,36 +62,41 @@ scaled o z k fits small coordinate positive last =
     let fits_sum : FitsSigned w32 (to_z w32 (of_z w32 o) +ℤ to_z w32 (of_z w32 (to_z w32 k *ℤ to_z w32 (of_z w32 z)))) = omega (arith, ints) in
     let value = to_z-of_z w32 (to_z w32 (of_z w32 o) +ℤ to_z w32 (of_z w32 (to_z w32 k *ℤ to_z w32 (of_z w32 z)))) fits_sum ∙ sum in
     let near : unsigned_abs (o +ℤ (pos k *ℤ z)) ≤ metre = let there = size_is (o +ℤ (pos k *ℤ z)) in omega (arith, ints) in
-    record { product = fits_product; sum = fits_sum; value = value; near = subst (λ x. unsigned_abs x ≤ metre) (sym value) near }
+    record { product = fits_product; sum = fits_sum; there = value; near = subst (λ x. unsigned_abs x ≤ metre) (sym value) near }
 
-pub axis_of : (origin : List ℤ) (pitch step : ℤ) (counts : List ℕ) (axis : ℕ) → IsGrid origin pitch step counts → axis < 3 → IsGridAxis pitch step (at origin axis) (slice_index counts axis)
-axis_of origin pitch step counts zero g three = g.x
-axis_of origin pitch step counts (suc zero) g three = g.y
-axis_of origin pitch step counts (suc (suc zero)) g three = g.z
-axis_of origin pitch step counts (suc (suc (suc axis))) g three = absurd (omega arith)
+pub axis_of : (g : GridSize) (axis : ℕ) → IsGrid g → axis < 3 → IsGridAxis g.pitch g.step (at g.origin axis) (slice_index g.counts axis)
+axis_of g zero is three = is.x
+axis_of g (suc zero) is three = is.y
+axis_of g (suc (suc zero)) is three = is.z
+axis_of g (suc (suc (suc axis))) is three = absurd (omega arith)
 
-pub node_scaled : (origin : List ℤ) (pitch step : ℤ) (counts : List ℕ) (axis n : ℕ) → IsGrid origin pitch step counts → FitsSigned w32 pitch → axis < 3 → n < slice_index counts axis → Scaled (at origin axis) pitch n
-node_scaled origin pitch step counts axis n g fits three lt =
-    let one : pos 1 ≤ℤ pitch = g.pitch_in.from_least in
-    let sp = abs_is step g.step_in.from_least in
-    let pp = abs_is pitch one in
-    let a = g.step_in.from_least in
-    let b = g.step_in.to_most in
-    let ax = axis_of origin pitch step counts axis g three in
+pub node_scaled : (g : GridSize) (axis n : ℕ) → IsGrid g → FitsSigned w32 g.pitch → axis < 3 → n < nodes_of g axis → Scaled (at g.origin axis) g.pitch (node_at g axis n) n
+node_scaled g axis n is fits three lt =
+    let one : pos 1 ≤ℤ g.pitch = is.pitch_in.from_least in
+    let sp = abs_is g.step is.step_in.from_least in
+    let pp = abs_is g.pitch one in
+    let a = is.step_in.from_least in
+    let b = is.step_in.to_most in
+    let ax = axis_of g axis is three in
     let most = ax.most in
-    scaled (at origin axis) pitch n fits (omega arith) ax.origin_in one
-    (node_within (at origin axis) (unsigned_abs pitch) (unsigned_abs step) (slice_index counts axis) n (omega (arith, ints)) (omega (arith, ints)) g.divides lt ax.last)
+    scaled (at g.origin axis) g.pitch n fits (omega arith) ax.origin_in one
+    (node_within (at g.origin axis) (unsigned_abs g.pitch) (unsigned_abs g.step) (nodes_of g axis) n (omega (arith, ints)) (omega (arith, ints)) is.divides lt ax.last)
 
-pub few_nodes : (origin : List ℤ) (pitch step : ℤ) (counts : List ℕ) (axis : ℕ) → IsGrid origin pitch step counts → axis < 3 → slice_index counts axis ≤ 400
-few_nodes origin pitch step counts axis g three = (axis_of origin pitch step counts axis g three).most
+pub few_places : (g : GridSize) (axis : ℕ) → IsGrid g → axis < 3 → nodes_of g axis * per_node g ≤ 400000
+few_places g axis is three = mul-le-mul (axis_of g axis is three).most is.fine
 
-pub few_places : (origin : List ℤ) (pitch step : ℤ) (counts : List ℕ) (axis : ℕ) → IsGrid origin pitch step counts → axis < 3 → slice_index counts axis * (unsigned_abs pitch / unsigned_abs step) ≤ 400000
-few_places origin pitch step counts axis g three = mul-le-mul (axis_of origin pitch step counts axis g three).most g.fine
+pub place_scaled : (g : GridSize) (axis l : ℕ) → IsGrid g → FitsSigned w32 g.step → axis < 3 → l < nodes_of g axis * per_node g → Scaled (at g.origin axis) g.step (place_at g axis l) l
+place_scaled g axis l is fits three lt =
+    let ax = axis_of g axis is three in
+    let most = mul-le-mul ax.most is.fine in
+    scaled (at g.origin axis) g.step l fits (omega arith) ax.origin_in is.step_in.from_least
+    (place_within (at g.origin axis) (unsigned_abs g.step) (nodes_of g axis * per_node g) l lt ax.last)
 
-pub place_scaled : (origin : List ℤ) (pitch step : ℤ) (counts : List ℕ) (axis l : ℕ) → IsGrid origin pitch step counts → FitsSigned w32 step → axis < 3 → l < slice_index counts axis * (unsigned_abs pitch / unsigned_abs step)
-    → Scaled (at origin axis) step l
-place_scaled origin pitch step counts axis l g fits three lt =
-    let ax = axis_of origin pitch step counts axis g three in
-    let most = mul-le-mul ax.most g.fine in
-    scaled (at origin axis) step l fits (omega arith) ax.origin_in g.step_in.from_least
-    (place_within (at origin axis) (unsigned_abs step) (slice_index counts axis * (unsigned_abs pitch / unsigned_abs step)) l lt ax.last)
+-- the same of a grid whose numbers are those of another
+pub node_of : (g h : GridSize) (axis n : ℕ) → g ≡ h → IsGrid g → FitsSigned w32 g.pitch → axis < 3 → n < nodes_of h axis → Scaled (at g.origin axis) g.pitch (node_at h axis n) n
+node_of g h axis n same is fits three =
+    subst (λ (k : GridSize). n < nodes_of k axis → Scaled (at g.origin axis) g.pitch (node_at k axis n) n) same (node_scaled g axis n is fits three)
+
+pub place_of : (g h : GridSize) (axis l : ℕ) → g ≡ h → IsGrid g → FitsSigned w32 g.step → axis < 3 → l < nodes_of h axis * per_node h → Scaled (at g.origin axis) g.step (place_at h axis l) l
+place_of g h axis l same is fits three =
+    subst (λ (k : GridSize). l < nodes_of k axis * per_node k → Scaled (at g.origin axis) g.step (place_at k axis l) l) same (place_scaled g axis l is fits three)

@@ -1,4 +1,5 @@
 pub mod Selects
+pub mod Grids
 pub mod Ranges
 pub mod Families
 pub mod Lattice

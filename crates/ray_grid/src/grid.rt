@@ -1,6 +1,5 @@
-ghost use Rattle.ray_grid.specs.Ranges.{IsGrid};
-
 use crate::ray::{Family, Ray};
+use std::marker::Model;
 
 /// A grid of nodes, and on each ray through its nodes points at a finer step.
 ///
@@ -13,12 +12,25 @@ pub struct Grid {
     pub pitch: i32,
     pub step: i32,
     pub counts: [u32; 3],
-    ghost in_range: { IsGrid origin pitch step counts },
+}
+
+impl Model for Grid {
+    ghost use Rattle.ray_grid.specs.Grids.{GridSize};
+    ghost use Rattle.ray_grid.specs.Ranges.{IsGrid};
+
+    ghost Value = { GridSize };
+
+    ghost view = { λ g. record { origin = g.origin; pitch = g.pitch; step = g.step; counts = g.counts } };
+
+    ghost invariant = { λ g. IsGrid record { origin = g.origin; pitch = g.pitch; step = g.step; counts = g.counts } };
+
+    ghost inverse = { λ g. record { origin = g.origin; pitch = g.pitch; step = g.step; counts = g.counts } };
 }
 
 impl Grid {
-    ghost use Rattle.std.specs.Prelude.{◌≡◌, ◌*◌, ◌<◌, ◌≤◌, slice_index, unsigned_abs, Contains};
-    ghost use Rattle.ray_grid.specs.Lattice.{IsRay, points_of, per_node, node_at, place_at, point_of};
+    ghost use Rattle.std.specs.Prelude.{◌≡◌, ◌*◌, ◌<◌, ◌≤◌, unsigned_abs, Contains};
+    ghost use Rattle.ray_grid.specs.Ranges.{most_nodes, most_per_node};
+    ghost use Rattle.ray_grid.specs.Lattice.{IsRay, nodes_of, points_of, per_node, node_at, place_at, point_of};
     ghost use Rattle.space.specs.Ranges.{IsPoint, metre};
     ghost use Rattle.ray_grid.specs.Points.{lattice_of};
 
@@ -26,7 +38,7 @@ impl Grid {
     pub fn points(&self, family: Family) -> u32
         ensures { result ≡ points_of self.now family }
     {
-        self.counts[family.axis()] * self.per_node()
+        self.nodes(family.axis()) * self.per_node()
     }
 
     /// The coordinates of point `l` of a ray.
@@ -58,9 +70,19 @@ impl Grid {
         }
     }
 
+    /// How many nodes an axis has.
+    pub(crate) fn nodes(&self, axis: usize) -> u32
+        requires { axis < 3 }
+        ensures nodes { result ≡ nodes_of self.now axis }
+        ensures few { result ≤ most_nodes }
+    {
+        self.counts[axis]
+    }
+
     /// How many points a ray has for each node that it passes.
-    fn per_node(&self) -> u32
-        ensures { result ≡ per_node self.now }
+    pub(crate) fn per_node(&self) -> u32
+        ensures points { result ≡ per_node self.now }
+        ensures few { result ≤ most_per_node }
     {
         self.pitch.unsigned_abs() / self.step.unsigned_abs()
     }
@@ -68,7 +90,7 @@ impl Grid {
     /// The coordinate of a node.
     pub(crate) fn node(&self, axis: usize, n: u32) -> i32
         requires axis { axis < 3 }
-        requires node { n < slice_index self.now.counts axis }
+        requires node { n < nodes_of self.now axis }
         ensures value { result ≡ node_at self.now axis n }
         ensures near { unsigned_abs result ≤ metre }
     {
@@ -78,7 +100,7 @@ impl Grid {
     /// The coordinate along its ray of a point.
     pub(crate) fn place_on(&self, axis: usize, l: u32) -> i32
         requires axis { axis < 3 }
-        requires point { l < slice_index self.now.counts axis * per_node self.now }
+        requires point { l < nodes_of self.now axis * per_node self.now }
         ensures value { result ≡ place_at self.now axis l }
         ensures near { unsigned_abs result ≤ metre }
     {

@@ -3,22 +3,22 @@ use crate::ray::{Family, Ray};
 
 impl Grid {
     ghost use Rattle.std.specs.Prelude.{◌≡◌, ◌+◌, ◌<◌, ◌≤◌, ◌↔◌, IsTrue, length, Contains};
-    ghost use Rattle.ray_grid.specs.Lattice.{IsRay, points_of};
+    ghost use Rattle.ray_grid.specs.Lattice.{IsRay, is_point_on, is_ray_on, points_of};
     ghost use Rattle.ray_grid.specs.Points.{IsPointOf, LatticePoint, family_points, lattice_of};
 
     /// Whether the grid has the ray, and the ray a point of this index.
     pub fn has_point(&self, ray: &Ray, l: u32) -> bool
-        ensures { IsTrue result ↔ (IsRay self.now ray.now × (l < points_of self.now ray.now.family)) }
+        ensures test { result ≡ is_point_on self.now ray.now l }
+        ensures has { IsTrue result ↔ (IsRay self.now ray.now × (l < points_of self.now ray.now.family)) }
     {
         self.has_ray(ray) && l < self.points(ray.family)
     }
 
     /// Whether the ray's nodes are nodes of the grid.
     fn has_ray(&self, ray: &Ray) -> bool
-        ensures { IsTrue result ↔ IsRay self.now ray.now }
+        ensures { result ≡ is_ray_on self.now ray.now }
     {
-        ray.i < self.counts[ray.family.first_axis()]
-            && ray.j < self.counts[ray.family.second_axis()]
+        ray.i < self.nodes(ray.family.first_axis()) && ray.j < self.nodes(ray.family.second_axis())
     }
 
     /// How many points the lattice has: those of the rays of the three families. A location on the rays of two families
@@ -38,8 +38,9 @@ impl Grid {
         ensures len { result ≡ family_points self.now family }
         ensures few { result ≤ 64000000000 }
     {
-        let first = u64::from(self.counts[family.first_axis()]);
-        let second = u64::from(self.counts[family.second_axis()]);
-        first * (second * u64::from(self.points(family)))
+        let first = u64::from(self.nodes(family.first_axis()));
+        let second = u64::from(self.nodes(family.second_axis()));
+        let along = u64::from(self.nodes(family.axis())) * u64::from(self.per_node());
+        first * (second * along)
     }
 }

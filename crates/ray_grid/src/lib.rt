@@ -6,8 +6,6 @@ mod lattice;
 mod near;
 mod ray;
 mod strips;
-#[cfg(test)]
-mod tests;
 mod window;
 
 pub use grid::Grid;

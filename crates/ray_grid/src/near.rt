@@ -32,7 +32,8 @@ impl Reach {
         requires step { pos 1 ≤ℤ step }
         ensures order { result.0 ≤ result.1 }
         ensures within { result.1 ≤ count }
-        ensures exact { Selects result.0 result.1 (λ l. (l < count) × IsTrue (is_near_on self.now axis (origin +ℤ (pos l *ℤ step)))) }
+        ensures exact { Selects result.0 result.1
+            (λ l. (l < count) × IsTrue (is_near_on self.now axis (origin +ℤ (pos l *ℤ step)))) }
     {
         let step = u64::from(step.unsigned_abs());
         let first = steps_up_to(self.to_lowest(axis, origin), step).min(u64::from(count)) as u32;

@@ -11,8 +11,7 @@ impl Grid {
     pub fn strips(&self) -> u32
         ensures { result ≡ length (strips_of self.now) }
     {
-        let [x, y, _] = self.counts;
-        x + y + x
+        self.nodes(0) + self.nodes(1) + self.nodes(0)
     }
 
     /// How many rays a strip has.
@@ -21,7 +20,7 @@ impl Grid {
         ensures { result ≡ length (strip_at self.now strip) }
     {
         let (family, _) = self.row(strip);
-        self.counts[family.second_axis()]
+        self.nodes(family.second_axis())
     }
 
     /// The ray of number `n` of a strip.
@@ -51,7 +50,7 @@ impl Grid {
         requires { i < nodes_of self.now (first_axis family) }
         ensures { result ≡ strip_number self.now family i }
     {
-        let [x, y, _] = self.counts;
+        let (x, y) = (self.nodes(0), self.nodes(1));
         match family {
             Family::Z => i,
             Family::X => x + i,
@@ -65,7 +64,7 @@ impl Grid {
         ensures rays { strip_at self.now strip ≡ strip_of self.now result.0 result.1 }
         ensures node { result.1 < nodes_of self.now (first_axis result.0) }
     {
-        let [x, y, _] = self.counts;
+        let (x, y) = (self.nodes(0), self.nodes(1));
         if strip < x {
             (Family::Z, strip)
         } else if strip < x + y {

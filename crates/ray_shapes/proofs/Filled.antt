@@ -3,7 +3,7 @@ use Rattle.std.proofs.Common.{◌≡◌, ℕ, ◌<◌, ℤ, List, length, Bool, 
 use Rattle.std.proofs.lemmas.Bool.Decides.{nat_tests}
 use Rattle.vf_io.specs.declared.answers.NoMemory.{NoMemory}
 use Rattle.vf_spans.specs.Members.{has}
-use Rattle.ray_grid.specs.declared.grid.Grid.{Grid}
+use Rattle.ray_grid.specs.Grids.{GridSize}
 use Rattle.ray_grid.specs.declared.ray.Ray.{Ray}
 use Rattle.ray_grid.specs.Lattice.{points_of, point_of}
 use Rattle.ray_shapes.specs.declared.half_line.Interval.{Interval}
@@ -16,7 +16,7 @@ covered_point : (parts : List Interval) (bodies : List (List Plane)) (m l : ℕ)
 covered_point parts bodies m l at at' exact lt same =
     exact ∙ ap (λ b. b && in_bodies bodies at) (let t : ltb l m ≡ true = grind (arith, nat_tests) in t) ∙ ap (in_bodies bodies) same
 
-pub filled : (answer : Result (List Bool) NoMemory) (grid : Grid) (ray : Ray) (bodies : List (List Plane)) (parts : List Interval) (at : ℕ → List ℤ) (m : ℕ) → m ≡ points_of grid ray.family
+pub filled : (answer : Result (List Bool) NoMemory) (grid : GridSize) (ray : Ray) (bodies : List (List Plane)) (parts : List Interval) (at : ℕ → List ℤ) (m : ℕ) → m ≡ points_of grid ray.family
     → ((l : ℕ) → at l ≡ point_of grid ray l) → ((l : ℕ) → covers_some parts l ≡ (ltb l m && in_bodies bodies (at l)))
     → IfOk answer (λ s. length s ≡ m) → IfOk answer (λ s. (i : ℕ) → has s i ≡ covers_some parts i) → IfOk answer (HoldsPointsOf grid ray (in_bodies bodies))
 filled (Ok s) grid ray bodies parts at m size same exact bound covered = record {

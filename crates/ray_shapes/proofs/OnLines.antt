@@ -3,7 +3,7 @@ use Rattle.std.proofs.Common.{◌≡◌, ◌↔◌, ℕ, ◌*◌, ◌<◌, ◌�
 use Rattle.std.proofs.lemmas.Int.{ints}
 use Rattle.std.proofs.Math.IntN.{zero-*ℤ}
 use Rattle.std.proofs.Math.Nat.{mul-le-mul}
-use Rattle.ray_grid.specs.declared.grid.Grid.{Grid}
+use Rattle.ray_grid.specs.Grids.{GridSize}
 use Rattle.ray_grid.specs.declared.ray.Family.{Family}
 use Rattle.ray_grid.specs.declared.ray.Family.TheVariants.{X, Y, Z}
 use Rattle.space.specs.Vectors.{at}
@@ -50,14 +50,14 @@ small_start x y z p q r =
 step_on : (o s : ℤ) (l : ℕ) → ((o +ℤ (pos 0 *ℤ s)) +ℤ (pos l *ℤ s)) ≡ o +ℤ (pos l *ℤ s)
 step_on o s l = let none = zero-*ℤ s in omega (arith, ints)
 
-pub position_is : (g : Grid) (f : Family) (i j l : ℕ) → position f (point_at g f i j 0) g.step l ≡ point_at g f i j l
+pub position_is : (g : GridSize) (f : Family) (i j l : ℕ) → position f (point_at g f i j 0) g.step l ≡ point_at g f i j l
 position_is g X i j l = ap (λ z. z ∷ node_at g 1 i ∷ node_at g 2 j ∷ []) (step_on (at g.origin 0) g.step l)
 position_is g Y i j l = ap (λ z. node_at g 0 i ∷ z ∷ node_at g 2 j ∷ []) (step_on (at g.origin 1) g.step l)
 position_is g Z i j l = ap (λ z. node_at g 0 i ∷ node_at g 1 j ∷ z ∷ []) (step_on (at g.origin 2) g.step l)
 
-node_coordinate : (g : Grid) (axis n : ℕ) → IsGrid g.origin g.pitch g.step g.counts → axis < 3 → n < nodes_of g axis → unsigned_abs (node_at g axis n) ≤ metre
+node_coordinate : (g : GridSize) (axis n : ℕ) → IsGrid g → axis < 3 → n < nodes_of g axis → unsigned_abs (node_at g axis n) ≤ metre
 node_coordinate g axis n h three lt =
-    let ax = axis_of g.origin g.pitch g.step g.counts axis h three in
+    let ax = axis_of g axis h three in
     let low = ax.origin_in in
     let size = size_is (at g.origin axis) in
     let one : pos 1 ≤ℤ g.pitch = h.pitch_in.from_least in
@@ -68,9 +68,9 @@ node_coordinate g axis n h three lt =
     let there = size_is (node_at g axis n) in
     omega (arith, ints)
 
-place_coordinate : (g : Grid) (axis l : ℕ) → IsGrid g.origin g.pitch g.step g.counts → axis < 3 → l < nodes_of g axis * per_node g → unsigned_abs (place_at g axis l) ≤ metre
+place_coordinate : (g : GridSize) (axis l : ℕ) → IsGrid g → axis < 3 → l < nodes_of g axis * per_node g → unsigned_abs (place_at g axis l) ≤ metre
 place_coordinate g axis l h three lt =
-    let ax = axis_of g.origin g.pitch g.step g.counts axis h three in
+    let ax = axis_of g axis h three in
     let low = ax.origin_in in
     let size = size_is (at g.origin axis) in
     let whole = times_is l g.step h.step_in.from_least in
@@ -78,17 +78,17 @@ place_coordinate g axis l h three lt =
     let there = size_is (place_at g axis l) in
     omega (arith, ints)
 
-pub some_points : (g : Grid) (axis : ℕ) → IsGrid g.origin g.pitch g.step g.counts → axis < 3 → 1 ≤ nodes_of g axis * per_node g
+pub some_points : (g : GridSize) (axis : ℕ) → IsGrid g → axis < 3 → 1 ≤ nodes_of g axis * per_node g
 some_points g axis h three =
-    let ax = axis_of g.origin g.pitch g.step g.counts axis h three in
+    let ax = axis_of g axis h three in
     let a = h.step_in.from_least in let b = h.step_in.to_most in
     let sp = abs_is g.step a in let pp = abs_is g.pitch h.pitch_in.from_least in
     let per = some_per_node (unsigned_abs g.pitch) (unsigned_abs g.step) (omega (arith, ints)) (omega (arith, ints)) h.divides in
     mul-le-mul ax.some per.0
 
-span_within : (g : Grid) (axis l : ℕ) → IsGrid g.origin g.pitch g.step g.counts → axis < 3 → l < nodes_of g axis * per_node g → IsBetween (pos 0) (pos 2000000) (g.step *ℤ pos l)
+span_within : (g : GridSize) (axis l : ℕ) → IsGrid g → axis < 3 → l < nodes_of g axis * per_node g → IsBetween (pos 0) (pos 2000000) (g.step *ℤ pos l)
 span_within g axis l h three lt =
-    let ax = axis_of g.origin g.pitch g.step g.counts axis h three in
+    let ax = axis_of g axis h three in
     let low = ax.origin_in in
     let size = size_is (at g.origin axis) in
     let whole = times_is l g.step h.step_in.from_least in
@@ -96,7 +96,7 @@ span_within g axis l h three lt =
     let turned : (g.step *ℤ pos l) ≡ (pos l *ℤ g.step) = omega (arith, ints) in
     record { from_least = omega (arith, ints); to_most = omega (arith, ints) }
 
-pub is_line : (g : Grid) (f : Family) (i j : ℕ) → IsGrid g.origin g.pitch g.step g.counts → i < nodes_of g (first_axis f) → j < nodes_of g (second_axis f) → IsLine (point_at g f i j 0) g.step (points_of g f)
+pub is_line : (g : GridSize) (f : Family) (i j : ℕ) → IsGrid g → i < nodes_of g (first_axis f) → j < nodes_of g (second_axis f) → IsLine (point_at g f i j 0) g.step (points_of g f)
 is_line g X i j h first second =
     let some = some_points g 0 h (omega arith) in
     record { some = some; x = place_coordinate g 0 0 h (omega arith) some; y = node_coordinate g 1 i h (omega arith) first; z = node_coordinate g 2 j h (omega arith) second; span = λ l lt. span_within g 0 l h (omega arith) lt }
@@ -112,7 +112,7 @@ axis_below X = omega arith
 axis_below Y = omega arith
 axis_below Z = omega arith
 
-pub has_first : (g : Grid) (f : Family) → IsGrid g.origin g.pitch g.step g.counts → 0 < points_of g f
+pub has_first : (g : GridSize) (f : Family) → IsGrid g → 0 < points_of g f
 has_first g f h = some_points g (ray_axis f) h (axis_below f)
 
 test_is : (x y : ℤ) → (x ≤ℤ y) ↔ IsTrue (int_le x y)

@@ -8,8 +8,6 @@ mod line;
 mod plane;
 mod shape;
 mod solid;
-#[cfg(test)]
-mod tests;
 
 pub use body::{Bodies, Body};
 pub use fill::body_spans;

@@ -23,10 +23,11 @@ impl Line {
         ensures points { result.points ≡ points_of grid.now ray.now.family }
         ensures position { (l : ℕ) → point_on result l ≡ point_of grid.now ray.now l }
     {
+        let step = grid.step;
         Line {
             first: grid.point(ray, 0),
             family: ray.family,
-            step: grid.step,
+            step,
             points: grid.points(ray.family),
         }
     }

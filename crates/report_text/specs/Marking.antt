@@ -15,7 +15,8 @@ mark_name (Some Clear) = codes "clear"
 
 -- a move's number and line, and its mark
 abbrev pub mark_line : ℕ → Move → Option Mark → List ℕ
-mark_line number move mark = line (codes "move " ++ decimal number ++ codes " line " ++ decimal move.line ++ codes " " ++ mark_name mark)
+mark_line number move mark =
+    line (codes "move " ++ decimal number ++ codes " line " ++ decimal move.line ++ codes " " ++ mark_name mark)
 
 -- moves numbered from here on, each with its mark
 abbrev pub mark_lines : ℕ → List Move → List (Option Mark) → List ℕ

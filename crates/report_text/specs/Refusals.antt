@@ -3,7 +3,8 @@ use Rattle.std.specs.Prelude.{ℕ, List, [], ◌++◌, codes, decimal}
 use Rattle.vf_text.specs.Pages.{line}
 use Rattle.cl_lines.specs.declared.fault.ClWhy.{ClWhy}
 use Rattle.cl_lines.specs.declared.fault.ClWhy.TheVariants.{LineLong, DanglingDollar, BadByte, Unsupported, ParamCount, ParamWord}
-use Rattle.cl_lines.specs.declared.fault.ClWhy.TheVariants.{NumberSyntax, NumberRange, CutterShape, AxisZero, NoPosition, AxisFlip, TooManyMoves}
+use Rattle.cl_lines.specs.declared.fault.ClWhy.TheVariants.{NumberSyntax, NumberRange, CutterShape}
+use Rattle.cl_lines.specs.declared.fault.ClWhy.TheVariants.{AxisZero, NoPosition, AxisFlip, TooManyMoves}
 use Rattle.cl_lines.specs.Words.{word_name}
 use Rattle.report_text.specs.declared.fault.Fault.{Fault}
 use Rattle.report_text.specs.declared.fault.Fault.TheVariants.{TooLong, Cl, Setup, CutterHeight, Script}

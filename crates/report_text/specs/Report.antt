@@ -12,7 +12,8 @@ use Rattle.report_text.specs.Verdict.{text_of_lines, total_text, verdict_text}
 
 -- how many moves there are, how many are left, and how many records were passed over
 abbrev pub heading_text : ℕ → ℕ → ℕ → List ℕ
-heading_text moves left passed = codes "moves " ++ decimal moves ++ codes " left " ++ decimal left ++ codes " passed " ++ decimal passed
+heading_text moves left passed =
+    codes "moves " ++ decimal moves ++ codes " left " ++ decimal left ++ codes " passed " ++ decimal passed
 
 -- two counts: the points that are sure, and those that are possible
 abbrev pub pair_text : ℕ → ℕ → List ℕ

@@ -10,7 +10,8 @@ text_of_lines lines = flat_map line lines
 -- how many points are removed and how many possible, of how many
 abbrev pub points_text : Totals → List ℕ
 points_text totals =
-    codes " removed " ++ decimal totals.removed ++ codes " possible " ++ decimal totals.possible ++ codes " of " ++ decimal totals.of
+    codes " removed " ++ decimal totals.removed ++ codes " possible " ++ decimal totals.possible
+    ++ codes " of " ++ decimal totals.of
 
 -- the totals of all moves that are left
 abbrev pub total_text : Totals → List ℕ

@@ -6,8 +6,9 @@ use Rattle.std.proofs.lemmas.Int.{ints}
 use Rattle.std.proofs.lemmas.Bool.Decides.{nat_tests}
 use Rattle.space.specs.Ranges.{IsBetween, metre}
 use Rattle.space.specs.Vectors.{at}
+use Rattle.ray_grid.specs.Grids.{GridSize}
 use Rattle.ray_grid.specs.Ranges.{IsGrid, IsGridAxis, most_nodes, most_per_node}
-use Rattle.setup_file.specs.Grids.{AreCoordinates, CountsFit, GridNumbers, divides_pitch, grid_from, is_count, last_point, points_a_node}
+use Rattle.setup_file.specs.Grids.{AreCoordinates, CountsFit, divides_pitch, grid_from, is_count, last_point, points_a_node}
 use Rattle.setup_file.specs.Reads.{is_between}
 use borrow.Author.Differences.{abs_is as size_is}
 
@@ -40,10 +41,14 @@ axis-shown origin pitch step count coordinate fits =
       last = int_le-true (last_point origin pitch step count) (pos metre) last;
     }
 
+-- a grid of these numbers
+abbrev pub sized : (o0 o1 o2 pitch step : ℤ) (n0 n1 n2 : ℕ) → GridSize
+sized o0 o1 o2 pitch step n0 n1 n2 = record { origin = o0 ∷ o1 ∷ o2 ∷ []; pitch = pitch; step = step; counts = n0 ∷ n1 ∷ n2 ∷ [] }
+
 -- numbers of which each was judged make a grid
 pub IsGrid-shown : (origin : List ℤ) (pitch step : ℤ) (counts : List ℤ) → AreCoordinates origin → IsBetween (pos 1) (pos metre) pitch
     → IsBetween (pos 1) pitch step → divides_pitch pitch step ≡ true → CountsFit origin pitch step counts
-    → IsGrid (at origin 0 ∷ at origin 1 ∷ at origin 2 ∷ []) pitch step (unsigned_abs (at counts 0) ∷ unsigned_abs (at counts 1) ∷ unsigned_abs (at counts 2) ∷ [])
+    → IsGrid (grid_from origin pitch step counts)
 IsGrid-shown origin pitch step counts near pitch_fits step_fits divides fits =
     let (whole, few) = and_parts (unsigned_abs pitch % unsigned_abs step == 0) (nat_le (points_a_node pitch step) most_per_node) divides in
     record {
@@ -57,19 +62,8 @@ IsGrid-shown origin pitch step counts near pitch_fits step_fits divides fits =
     }
 
 -- the same numbers, each by an equation
-pub IsGrid-of : (o0 o1 o2 p s : ℤ) (n0 n1 n2 : ℕ) (origin : List ℤ) (pitch step : ℤ) (counts : List ℤ)
+pub sized-from : (o0 o1 o2 p s : ℤ) (n0 n1 n2 : ℕ) (origin : List ℤ) (pitch step : ℤ) (counts : List ℤ)
     → o0 ≡ at origin 0 → o1 ≡ at origin 1 → o2 ≡ at origin 2 → p ≡ pitch → s ≡ step
     → n0 ≡ unsigned_abs (at counts 0) → n1 ≡ unsigned_abs (at counts 1) → n2 ≡ unsigned_abs (at counts 2)
-    → IsGrid (at origin 0 ∷ at origin 1 ∷ at origin 2 ∷ []) pitch step (unsigned_abs (at counts 0) ∷ unsigned_abs (at counts 1) ∷ unsigned_abs (at counts 2) ∷ [])
-    → IsGrid (o0 ∷ o1 ∷ o2 ∷ []) p s (n0 ∷ n1 ∷ n2 ∷ [])
-IsGrid-of o0 o1 o2 p s n0 n1 n2 origin pitch step counts e0 e1 e2 ep es f0 f1 f2 h = rw (e0, e1, e2, ep, es, f0, f1, f2) h
-
--- a grid of these numbers
-abbrev pub numbers_with : List ℤ → ℤ → ℤ → List ℕ → GridNumbers
-numbers_with origin pitch step counts = record { origin = origin; pitch = pitch; step = step; counts = counts }
-
-pub numbers-of : (o0 o1 o2 p s : ℤ) (n0 n1 n2 : ℕ) (origin : List ℤ) (pitch step : ℤ) (counts : List ℤ)
-    → o0 ≡ at origin 0 → o1 ≡ at origin 1 → o2 ≡ at origin 2 → p ≡ pitch → s ≡ step
-    → n0 ≡ unsigned_abs (at counts 0) → n1 ≡ unsigned_abs (at counts 1) → n2 ≡ unsigned_abs (at counts 2)
-    → numbers_with (o0 ∷ o1 ∷ o2 ∷ []) p s (n0 ∷ n1 ∷ n2 ∷ []) ≡ grid_from origin pitch step counts
-numbers-of o0 o1 o2 p s n0 n1 n2 origin pitch step counts e0 e1 e2 ep es f0 f1 f2 = rw (e0, e1, e2, ep, es, f0, f1, f2) refl
+    → sized o0 o1 o2 p s n0 n1 n2 ≡ grid_from origin pitch step counts
+sized-from o0 o1 o2 p s n0 n1 n2 origin pitch step counts e0 e1 e2 ep es f0 f1 f2 = rw (e0, e1, e2, ep, es, f0, f1, f2) refl

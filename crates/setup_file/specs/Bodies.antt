@@ -1,5 +1,6 @@
 -- The lists of bodies `stock`, `part` and `fixture`: what each sets, or its first fault. Lengths are micrometres.
-use Rattle.std.specs.Prelude.{ℕ, ◌+◌, ℤ, pos, neg_ℤ, int_le, not, true, false, List, [], ◌∷◌, length, Option, Some, None, Result, Ok, Err, if◌then◌else◌}
+use Rattle.std.specs.Prelude.{ℕ, ◌+◌, ℤ, pos, neg_ℤ, int_le, not, true, false, if◌then◌else◌}
+use Rattle.std.specs.Prelude.{List, [], ◌∷◌, length, Option, Some, None, Result, Ok, Err}
 use Rattle.toml.specs.Data.{Data, Members, as_table}
 use Rattle.space.specs.Ranges.{metre}
 use Rattle.space.specs.Vectors.{at, is_zero}
@@ -15,13 +16,34 @@ use Rattle.setup_file.specs.Reads.{◌>>=◌, all_of, each, entry_at, list_in, n
 
 -- the lists: their keys, how many bodies each has, and whether it has to be there
 abbrev pub stock_list : BodyList
-stock_list = record { key = keys.Stock; box_key = keys.StockBox; planes_key = keys.StockPlanes; least = 1; most = most_stock_bodies; required = true }
+stock_list = record {
+  key = keys.Stock;
+  box_key = keys.StockBox;
+  planes_key = keys.StockPlanes;
+  least = 1;
+  most = most_stock_bodies;
+  required = true;
+}
 
 abbrev pub part_list : BodyList
-part_list = record { key = keys.Part; box_key = keys.PartBox; planes_key = keys.PartPlanes; least = 0; most = most_other_bodies; required = false }
+part_list = record {
+  key = keys.Part;
+  box_key = keys.PartBox;
+  planes_key = keys.PartPlanes;
+  least = 0;
+  most = most_other_bodies;
+  required = false;
+}
 
 abbrev pub fixture_list : BodyList
-fixture_list = record { key = keys.Fixture; box_key = keys.FixtureBox; planes_key = keys.FixturePlanes; least = 0; most = most_other_bodies; required = false }
+fixture_list = record {
+  key = keys.Fixture;
+  box_key = keys.FixtureBox;
+  planes_key = keys.FixturePlanes;
+  least = 0;
+  most = most_other_bodies;
+  required = false;
+}
 
 -- the points with a x + b y + c z <= d
 abbrev pub plane : ℤ → ℤ → ℤ → ℤ → Plane

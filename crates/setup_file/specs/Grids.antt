@@ -1,9 +1,10 @@
 -- The tests of a grid's numbers. Lengths are micrometres.
-use Rattle.std.specs.Prelude.{◌≡◌, true, ℕ, ◌-◌, ◌*◌, ◌/◌, ◌%◌, ◌==◌, ◌&&◌, nat_le, ℤ, pos, neg_ℤ, ◌+ℤ◌, int_le, unsigned_abs, Bool, List, [], ◌∷◌, map, Result}
+use Rattle.std.specs.Prelude.{◌≡◌, ℕ, ◌-◌, ◌*◌, ◌/◌, ◌%◌, ◌==◌, nat_le, ℤ, pos, neg_ℤ, ◌+ℤ◌, int_le, unsigned_abs}
+use Rattle.std.specs.Prelude.{true, ◌&&◌, Bool, List, [], ◌∷◌, map, Result}
 use Rattle.space.specs.Ranges.{IsBetween, metre}
 use Rattle.space.specs.Vectors.{at}
+use Rattle.ray_grid.specs.Grids.{GridSize}
 use Rattle.ray_grid.specs.Ranges.{most_nodes, most_per_node}
-use Rattle.ray_grid.specs.declared.grid.Grid.{Grid}
 use Rattle.setup_keys.specs.declared.fault.SetupFault.{SetupFault}
 use Rattle.setup_keys.specs.declared.key.KeyName.TheVariants as keys
 use Rattle.setup_file.specs.Reads.{is_between, only_if}
@@ -31,25 +32,17 @@ is_count origin pitch step count =
 
 -- the number of nodes along an axis
 abbrev pub count_along : List ℤ → ℤ → ℤ → List ℤ → ℕ → Result ℤ SetupFault
-count_along origin pitch step counts axis = only_if (is_count (at origin axis) pitch step (at counts axis)) keys.GridCounts (at counts axis)
+count_along origin pitch step counts axis =
+    only_if (is_count (at origin axis) pitch step (at counts axis)) keys.GridCounts (at counts axis)
 
--- numbers of nodes as they are counted
-abbrev pub nodes_along : List ℤ → List ℕ
-nodes_along counts = map (λ axis. unsigned_abs (at counts axis)) axes
-
--- a grid by its numbers, those of origin and counts along x, y and z
-pub record GridNumbers : Type 0 where
-  pub origin : List ℤ
-  pub pitch : ℤ
-  pub step : ℤ
-  pub counts : List ℕ
-
-abbrev pub grid_from : List ℤ → ℤ → ℤ → List ℤ → GridNumbers
-grid_from origin pitch step counts = record { origin = map (λ axis. at origin axis) axes; pitch = pitch; step = step; counts = nodes_along counts }
-
--- the numbers of a grid
-abbrev pub grid_numbers : Grid → GridNumbers
-grid_numbers grid = record { origin = grid.origin; pitch = grid.pitch; step = grid.step; counts = grid.counts }
+-- a grid of the numbers that are read, those of origin and counts along x, y and z
+abbrev pub grid_from : List ℤ → ℤ → ℤ → List ℤ → GridSize
+grid_from origin pitch step counts = record {
+  origin = map (λ axis. at origin axis) axes;
+  pitch = pitch;
+  step = step;
+  counts = map (λ axis. unsigned_abs (at counts axis)) axes;
+}
 
 -- each axis may have its number of nodes
 pub record CountsFit (origin : List ℤ) (pitch step : ℤ) (counts : List ℤ) : Type 0 where

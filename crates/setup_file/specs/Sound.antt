@@ -2,6 +2,7 @@
 use Rattle.std.specs.Prelude.{◌≡◌, ℕ, ◌≤◌, pos, neg_ℤ, List, All, length}
 use Rattle.space.specs.Ranges.{IsBetween}
 use Rattle.cutter_slabs.specs.Cutter.{CutterSize, IsCutter}
+use Rattle.ray_grid.specs.Ranges.{IsGrid}
 use Rattle.ray_shapes.specs.declared.plane.Plane.{Plane}
 use Rattle.setup_file.specs.declared.check.Check.{Check}
 use Rattle.setup_file.specs.declared.setup.Setup.{Setup}
@@ -40,10 +41,16 @@ pub record IsTool (tool : CutterSize) : Type 0 where
   pub valid : IsCutter tool
   pub upright : tool.flank ≡ 0
 
--- a setup: that its grid is one is known of every grid
+-- the settings that a setup has for the check
+abbrev pub settings : Setup → Check
+settings setup =
+    record { tolerance = setup.tolerance; clearance = setup.clearance; slabs = setup.slabs; depth = setup.depth }
+
+-- a setup whose grid and tool are valid and whose numbers are all in their ranges
 pub record IsSetup (setup : Setup) : Type 0 where
+  pub grid_in : IsGrid setup.grid
   pub stock_in : AreBodies 1 most_stock_bodies setup.stock
   pub part_in : AreBodies 0 most_other_bodies setup.part
   pub fixture_in : AreBodies 0 most_other_bodies setup.fixture
-  pub check_in : IsCheck (record { tolerance = setup.tolerance; clearance = setup.clearance; slabs = setup.slabs; depth = setup.depth })
+  pub check_in : IsCheck (settings setup)
   pub tool_in : IsTool setup.tool

@@ -3,16 +3,17 @@ use Rattle.std.specs.Prelude.{pos, neg_ℤ, ◌*ℤ◌, int_le, unsigned_abs, Re
 use Rattle.toml.specs.Data.{Members}
 use Rattle.space.specs.Ranges.{metre}
 use Rattle.cutter_slabs.specs.Cutter.{CutterSize}
+use Rattle.ray_grid.specs.Grids.{GridSize}
 use Rattle.setup_file.specs.declared.check.Check.{Check}
 use Rattle.setup_keys.specs.declared.fault.SetupFault.{SetupFault}
 use Rattle.setup_keys.specs.declared.key.KeyName.TheVariants as keys
-use Rattle.setup_file.specs.Grids.{GridNumbers, axes, count_along, divides_pitch, grid_from}
+use Rattle.setup_file.specs.Grids.{axes, count_along, divides_pitch, grid_from}
 use Rattle.setup_file.specs.Limits.{most_check_depth, most_check_slabs, most_clearance, most_tolerance}
 use Rattle.setup_file.specs.Limits.{most_tool_diameter, most_tool_height, most_tool_radius}
 use Rattle.setup_file.specs.Reads.{◌>>=◌, each, number_at, numbers_at, only_if, ranged}
 
 -- the grid: its counts are judged by the last point along each axis too
-unfoldable pub grid_of : Members → Result GridNumbers SetupFault
+unfoldable pub grid_of : Members → Result GridSize SetupFault
 grid_of table = do
   numbers ← numbers_at 3 keys.GridOrigin table
   origin ← each (ranged keys.GridOrigin (neg_ℤ (pos metre)) (pos metre)) numbers

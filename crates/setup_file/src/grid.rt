@@ -1,9 +1,10 @@
-ghost use Rattle.std.specs.Prelude.{◌≡◌, ◌<◌, pos, neg_ℤ, ◌≤ℤ◌, Ok, Err, OnOk, true, MatchResult};
+ghost use Rattle.std.specs.Prelude.{◌≡◌, ◌<◌, pos, neg_ℤ, ◌≤ℤ◌, Ok, Err, OnOk, IfOk, true, MatchResult};
 ghost use Rattle.space.specs.Vectors.{at};
 ghost use Rattle.space.specs.Ranges.{IsBetween, metre};
-ghost use Rattle.ray_grid.specs.Ranges.{most_nodes};
+ghost use Rattle.ray_grid.specs.Ranges.{IsGrid, most_nodes};
 ghost use Rattle.toml.specs.View.{table_view};
-ghost use Rattle.setup_file.specs.Grids.{AreCoordinates, CountsFit, axes, count_along, divides_pitch, grid_from, grid_numbers, is_count, last_point, points_a_node};
+ghost use Rattle.setup_file.specs.Grids.{AreCoordinates, CountsFit, axes, count_along, divides_pitch};
+ghost use Rattle.setup_file.specs.Grids.{grid_from, is_count, last_point, points_a_node};
 ghost use Rattle.setup_file.specs.Reads.{each};
 ghost use Rattle.setup_file.specs.Tables.{grid_of};
 
@@ -20,8 +21,9 @@ const MOST_PER_NODE: u64 = 1000;
 /// The grid of its table.
 #[tactic(auto, unfolding(crate::specs::Tables::grid_of))]
 pub(crate) fn read_grid(table: &Table) -> Result<Grid, SetupFault>
-    ensures { MatchResult result (λ grid. grid_of (table_view table.now) ≡ Ok (grid_numbers grid))
+    ensures grid { MatchResult result (λ grid. grid_of (table_view table.now) ≡ Ok grid)
         (λ fault. grid_of (table_view table.now) ≡ Err fault) }
+    ensures valid { IfOk result IsGrid }
 {
     let origin = numbers_at::<3>(table, KeyName::GridOrigin)?;
     all_ranged(&origin, KeyName::GridOrigin, -METRE, METRE)?;
@@ -119,7 +121,8 @@ fn grid_with(origin: &[i64; 3], pitch: i64, step: i64, counts: &[i64; 3]) -> Gri
     requires step { IsBetween (pos 1) pitch step }
     requires divides { divides_pitch pitch step ≡ true }
     requires counts { CountsFit origin.now pitch step counts.now }
-    ensures { grid_numbers result ≡ grid_from origin.now pitch step counts.now }
+    ensures grid { result ≡ grid_from origin.now pitch step counts.now }
+    ensures valid { IsGrid result }
 {
     Grid {
         origin: [origin[0] as i32, origin[1] as i32, origin[2] as i32],

@@ -1,7 +1,8 @@
 ghost use Rattle.std.specs.Prelude.{◌≡◌, All, IfOk, IsTrue, OnOk, MatchResult, Ok, Err, map, option_map};
 ghost use Rattle.space.specs.Ranges.{IsBetween};
 ghost use Rattle.toml.specs.View.{table_view, view};
-ghost use Rattle.setup_file.specs.Reads.{each, entry_at, is_between, list_in, number_at, numbers_at, numbers_in, only_if, ranged, table_at};
+ghost use Rattle.setup_file.specs.Reads.{each, entry_at, is_between, list_in, only_if, ranged};
+ghost use Rattle.setup_file.specs.Reads.{number_at, numbers_at, numbers_in, table_at};
 
 use setup_keys::{KeyName, SetupFault};
 use toml::{Table, Value};

@@ -1,8 +1,8 @@
 ghost use Rattle.std.specs.Prelude.{◌≡◌, IfOk, IfErr, MatchResult, Ok, Err};
 ghost use Rattle.toml.specs.View.{table_view};
 ghost use Rattle.setup_file.specs.Reads.{EndsSetup};
-ghost use Rattle.setup_file.specs.Grids.{grid_numbers};
-ghost use Rattle.setup_file.specs.Setups.{numbers_of, setup_in, setup_numbers, setup_of};
+ghost use Rattle.ray_grid.specs.Ranges.{IsGrid};
+ghost use Rattle.setup_file.specs.Setups.{numbers_of, setup_in, setup_of};
 ghost use Rattle.setup_file.specs.Sound.{IsSetup, IsTool, IsCheck};
 
 use crate::bodies::bodies_at;
@@ -40,7 +40,7 @@ pub struct Setup {
 
 /// The setup that the bytes stand for; a refusal is the first fault, in the order of the keys. Lengths are micrometres.
 pub fn read_setup(alloc: Global, bytes: &[u8]) -> Result<Setup, SetupEnd>
-    ensures ok { IfOk result (λ setup. setup_of bytes.now ≡ Ok (setup_numbers setup)) }
+    ensures ok { IfOk result (λ setup. setup_of bytes.now ≡ Ok setup) }
     ensures refused { IfErr result (EndsSetup (setup_of bytes.now)) }
     // Its numbers are in their ranges, so nobody has to test them again.
     ensures sound { IfOk result IsSetup }
@@ -60,7 +60,7 @@ pub fn read_setup(alloc: Global, bytes: &[u8]) -> Result<Setup, SetupEnd>
 /// The setup of a table.
 #[tactic(auto, unfolding(crate::specs::Setups::setup_in))]
 fn read_table(alloc: Global, setup: &Table) -> Result<Setup, SetupEnd>
-    ensures ok { IfOk result (λ read. setup_in (table_view setup.now) ≡ Ok (setup_numbers read)) }
+    ensures ok { IfOk result (λ read. setup_in (table_view setup.now) ≡ Ok read) }
     ensures refused { IfErr result (EndsSetup (setup_in (table_view setup.now))) }
     ensures sound { IfOk result IsSetup }
 {
@@ -97,9 +97,9 @@ struct Numbers {
 /// The grid, the settings and the tool of a table.
 #[tactic(auto, unfolding(crate::specs::Setups::numbers_of))]
 fn read_numbers(setup: &Table) -> Result<Numbers, SetupFault>
-    ensures numbers { MatchResult result
-        (λ read. numbers_of (table_view setup.now) ≡ Ok (record { grid = grid_numbers read.grid; check = read.check; tool = read.tool }))
+    ensures numbers { MatchResult result (λ read. numbers_of (table_view setup.now) ≡ Ok read)
         (λ fault. numbers_of (table_view setup.now) ≡ Err fault) }
+    ensures grid { IfOk result (λ numbers. IsGrid numbers.grid) }
     ensures check { IfOk result (λ numbers. IsCheck numbers.check) }
     ensures tool { IfOk result (λ numbers. IsTool numbers.tool) }
 {

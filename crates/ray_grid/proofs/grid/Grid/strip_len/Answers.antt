@@ -5,6 +5,7 @@ use Rattle.ray_grid.proofs.grid.Grid.strip_len.Goals as goal
 
 pub returns : goal.returns
 returns c =
-    ap (nodes_of c.args.self.now) c.second_axis.ensures.axis
+    c.nodes.ensures.nodes
+    ∙ ap (nodes_of c.args.self.now) c.second_axis.ensures.axis
     ∙ sym (length-strip c.args.self.now c.row-family.result.0 c.row-family.result.1)
     ∙ ap length (sym c.row-family.ensures.rays)

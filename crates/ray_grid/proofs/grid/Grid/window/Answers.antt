@@ -34,9 +34,9 @@ returns-clause-exact c =
     let fits_2 : FitsSigned w32 c.node-2.result = search rules in
     let first : c.holds.result ≡ is_near c.args.reach (at c.args.from a) (at c.args.to a) c.node.result = simp to_z-of_z at c.holds.ensures in
     let second : c.holds-2.result ≡ is_near c.args.reach (at c.args.from b) (at c.args.to b) c.node-2.result = simp to_z-of_z at c.holds-2.ensures in
-    let fits_step : FitsSigned w32 c.args.self.now.step = search rules in
-    let fits_origin : FitsSigned w32 (at c.args.self.now.origin c.axis-axis.result) = search rules in
     λ l.
-    window_is c.args.self.now c.args.ray.now.family c.args.ray.now.i c.args.ray.now.j c.args.from c.args.to c.args.reach a b c.axis-axis.result c.indices.result.0 c.indices.result.1 c.points.result l
-    c.first_axis-first.ensures.axis c.second_axis-second.ensures.axis c.axis-axis.ensures.axis c.points.ensures
-    (told_near c.holds.result (at c.args.from a) (at c.args.to a) c.args.reach c.node.result _ first c.node.ensures.value c.if-not-holds.false) (told_near c.holds-2.result (at c.args.from b) (at c.args.to b) c.args.reach c.node-2.result _ second c.node-2.ensures.value c.if-not-holds-2.false) (simp to_z-of_z at (c.indices.ensures.exact l))
+    window_is c.args.self.now c.args.ray.now.family c.args.ray.now.i c.args.ray.now.j c.args.from c.args.to c.args.reach a b c.points_within.result.0 c.points_within.result.1 l
+    c.first_axis-first.ensures.axis c.second_axis-second.ensures.axis
+    (told_near c.holds.result (at c.args.from a) (at c.args.to a) c.args.reach c.node.result _ first c.node.ensures.value c.if-not-holds.false)
+    (told_near c.holds-2.result (at c.args.from b) (at c.args.to b) c.args.reach c.node-2.result _ second c.node-2.ensures.value c.if-not-holds-2.false)
+    (simp to_z-of_z at (c.points_within.ensures.exact l))

@@ -1,4 +1,4 @@
-use Rattle.std.proofs.Common.{◌≡◌, ℤ, pos, ◌*ℤ◌, arith, rules, ap, ap₂, subst, sym, ◌∙◌, w32, w64, FitsSigned}
+use Rattle.std.proofs.Common.{◌≡◌, ℤ, pos, ◌*ℤ◌, arith, rules, ap₂, subst, sym, ◌∙◌, w32, w64, FitsSigned}
 use Rattle.std.proofs.lemmas.Int.{ints, to_z-of_z}
 use Rattle.ray_shapes.specs.Planes.{coefficient_of}
 use Rattle.ray_shapes.specs.Sizes.{IsTerm}
