@@ -9,3 +9,4 @@ pub mod Holding
 pub mod Lined
 pub mod Boxed
 pub mod Scales
+pub mod Largest

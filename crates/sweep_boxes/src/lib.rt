@@ -11,6 +11,7 @@ mod offsets;
 mod piece;
 mod point_box;
 mod side;
+mod size;
 mod vector;
 
 pub use point_box::PointBox;
