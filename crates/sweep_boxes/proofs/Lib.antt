@@ -10,3 +10,4 @@ pub mod Lined
 pub mod Boxed
 pub mod Scales
 pub mod Largest
+pub mod Coarse

@@ -9,8 +9,8 @@ ghost use Rattle.sweep_boxes.specs.Limits.{place_limit, side_limit};
 ghost use Rattle.sweep_boxes.specs.Made.{IsPieceOf};
 ghost use Rattle.sweep_boxes.specs.Pieces.{AreAsLarge, IsAmong, IsHeldOn, IsNearer, middle_axis, middle_offset};
 
-use crate::held::Hold;
 use crate::change::{change_limit, length_limit};
+use crate::held::Hold;
 use crate::offsets::{farthest, least_dot, most_dot, sizes};
 use crate::piece::Piece;
 use crate::vector::{cross, dot, root_up, weighted};

@@ -16,4 +16,5 @@ mod side;
 mod size;
 mod vector;
 
+pub use boxes::push_boxes;
 pub use point_box::PointBox;

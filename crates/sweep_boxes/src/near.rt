@@ -42,7 +42,11 @@ fn start_after(start: i32, first: i32, reach: i32) -> i32
     ensures least { start ≤ℤ result }
     ensures small { unsigned_abs result ≤ place_limit }
 {
-    if start < first - reach { first - reach } else { start }
+    if start < first - reach {
+        first - reach
+    } else {
+        start
+    }
 }
 
 /// The end of what a range has in reach of a place.
@@ -56,7 +60,11 @@ fn end_before(end: i32, last: i32, reach: i32) -> i32
     ensures most { result ≤ℤ end }
     ensures small { unsigned_abs result ≤ place_limit }
 {
-    if last + reach < end { last + reach } else { end }
+    if last + reach < end {
+        last + reach
+    } else {
+        end
+    }
 }
 
 /// The part of a range that is in reach of two ends along one of the three axes.

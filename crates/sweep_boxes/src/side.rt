@@ -149,7 +149,10 @@ fn first_end(line: &Line, hold: &Hold, margin: i128) -> i32
     ensures small { unsigned_abs result ≤ place_limit }
 {
     let bound = least_along(hold.least, hold.most, line.axis) - margin;
-    let place = quotient(from_tip(bound, line.tip, line.square), scaled(line.scale, line.square));
+    let place = quotient(
+        from_tip(bound, line.tip, line.square),
+        scaled(line.scale, line.square),
+    );
     first_place(place, line.low)
 }
 
@@ -162,7 +165,10 @@ fn last_end(line: &Line, hold: &Hold, margin: i128) -> i32
     ensures small { unsigned_abs result ≤ place_limit }
 {
     let bound = most_along(hold.least, hold.most, line.axis) + margin;
-    let place = quotient(from_tip(bound, line.tip, line.square), scaled(line.scale, line.square));
+    let place = quotient(
+        from_tip(bound, line.tip, line.square),
+        scaled(line.scale, line.square),
+    );
     last_place(place, line.high)
 }
 

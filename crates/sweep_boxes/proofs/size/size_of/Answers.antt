@@ -20,12 +20,16 @@ loop-slab-preserved c =
     let second : c.slab.inside.dia ≤ℤ c.longer-widest.result = simp to_z-of_z at c.longer-widest.ensures.second in
     let third : c.slab.inside.hi ≤ℤ c.longer-highest.result = simp to_z-of_z at c.longer-highest.ensures.second in
     let here : IsAsLarge c.longer-widest.result c.longer-highest.result c.slab-item.result =
-        subst (IsAsLarge c.longer-widest.result c.longer-highest.result) c.slab.view_is (record { thick = thick; width = second; tall = tall; height = third }) in
+    subst (IsAsLarge c.longer-widest.result c.longer-highest.result) c.slab.view_is (record { thick = thick; width = second; tall = tall; height = third }) in
     let item : (d : SlabSize) → get_or c.args.slabs.now c.loop-slab.slab-index d ≡ c.slab-item.result = λ d.
-        get_or_default c.args.slabs.now c.loop-slab.slab-index d c.slab-item.result c.loop-slab-test.true ∙ sym c.slab-item.is in
+    get_or_default c.args.slabs.now c.loop-slab.slab-index d c.slab-item.result c.loop-slab-test.true ∙ sym c.slab-item.is in
     let small : c.longer-widest.result ≤ℤ pos 200000 = (simp to_z-of_z at c.longer-widest.ensures.least) (pos 200000) kept.2 width in
     let low : c.longer-highest.result ≤ℤ pos 300000 = (simp to_z-of_z at c.longer-highest.ensures.least) (pos 300000) kept.4 height in
-    simp to_z-of_z
-    (one_more c.args.slabs.now c.loop-slab.slab-index _ _ c.longer-widest.result c.longer-highest.result kept.0 c.longer-widest.ensures.first c.longer-highest.ensures.first
-    (λ d. subst (IsAsLarge c.longer-widest.result c.longer-highest.result) (sym (item d)) here),
-    omega (arith, ints, thick, second), small, omega (arith, ints, tall, third), low)
+    simp to_z-of_z (
+      one_more c.args.slabs.now c.loop-slab.slab-index _ _ c.longer-widest.result c.longer-highest.result kept.0 c.longer-widest.ensures.first c.longer-highest.ensures.first
+          (λ d. subst (IsAsLarge c.longer-widest.result c.longer-highest.result) (sym (item d)) here),
+      omega (arith, ints, thick, second),
+      small,
+      omega (arith, ints, tall, third),
+      low,
+    )
