@@ -14,7 +14,8 @@ pub record IsInSome (boxes : List PointBox) (start : ℕ) (p : List ℤ) : Type 
   pub inside : (d : PointBox) → IsInside (slice_index_or boxes place d) p
 
 -- box n from a place on, for each n below a number of parts, holds the points of the region that some slab is left at on part n
-pub record CoverParts (boxes : List PointBox) (start parts : ℕ) (region : PointBox) (slabs : List SlabSize) (m : Motion) (S : ℕ) : Type 0 where
+pub record CoverParts (boxes : List PointBox) (start parts : ℕ) (region : PointBox) (slabs : List SlabSize) (m : Motion) (S : ℕ)
+    : Type 0 where
   pub long : length boxes ≡ start + parts
   pub each : (n : ℕ) (p : List ℤ) (d : PointBox) → n < parts → IsInside region p → is_left_between slabs m p n (n + 1) S ≡ true
       → IsInside (slice_index_or boxes (start + n) d) p

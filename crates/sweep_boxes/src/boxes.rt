@@ -109,7 +109,8 @@ pub fn push_boxes(
     requires depth { depth ≤ 10 }
     requires low { IsWithin place_limit region.now.low }
     requires high { IsWithin place_limit region.now.high }
-    ensures covered { (p : List ℤ) → IsInside region.now p → is_possible_by stacks.now.cutter stacks.now.slabs sweep.now p (2 ^ depth) ≡ true
+    ensures covered { (p : List ℤ) → IsInside region.now p
+        → is_possible_by stacks.now.cutter stacks.now.slabs sweep.now p (2 ^ depth) ≡ true
         → OnOk result (IsInSome boxes.new.items (length boxes.old.items) p) }
     ensures kept { take (length boxes.old.items) boxes.new.items ≡ boxes.old.items }
 {

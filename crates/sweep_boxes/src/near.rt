@@ -76,8 +76,10 @@ fn near_along(region: &PointBox, from: &[i32; 3], to: &[i32; 3], reach: i32, i: 
     requires to { unsigned_abs (at to.now i) ≤ 1000000 }
     requires reach { unsigned_abs reach ≤ 500000 }
     requires some { pos 0 ≤ℤ reach }
-    ensures first { (z : ℤ) → at region.now.low i ≤ℤ z → is_near reach (at from.now i) (at to.now i) z ≡ true → result.0 ≤ℤ z }
-    ensures last { (z : ℤ) → z ≤ℤ at region.now.high i → is_near reach (at from.now i) (at to.now i) z ≡ true → z ≤ℤ result.1 }
+    ensures first { (z : ℤ) → at region.now.low i ≤ℤ z
+        → is_near reach (at from.now i) (at to.now i) z ≡ true → result.0 ≤ℤ z }
+    ensures last { (z : ℤ) → z ≤ℤ at region.now.high i
+        → is_near reach (at from.now i) (at to.now i) z ≡ true → z ≤ℤ result.1 }
     ensures least { at region.now.low i ≤ℤ result.0 }
     ensures most { result.1 ≤ℤ at region.now.high i }
     ensures low_small { unsigned_abs result.0 ≤ place_limit }
