@@ -1,10 +1,13 @@
 -- The places of a point that is held, along each axis.
-use Rattle.std.proofs.Common.{◌≡◌, ℕ, zero, suc, ◌+◌, ◌*◌, ◌≤◌, ◌<◌, List, ℤ, pos, ◌+ℤ◌, ◌*ℤ◌, ◌-ℤ◌, ◌≤ℤ◌, unsigned_abs, arith, ap, refl, sym, subst, ◌∙◌}
+use Rattle.std.proofs.Common.{◌≡◌, true, ◌&&◌, ⊎_elim, ℕ, zero, suc, ◌+◌, ◌*◌, ◌≤◌, ◌<◌, List, ℤ, pos, ◌+ℤ◌, ◌*ℤ◌, ◌-ℤ◌, ◌≤ℤ◌, unsigned_abs, arith, ap, refl, sym, subst, ◌∙◌}
 use Rattle.std.proofs.lemmas.Int.{ints}
 use Rattle.space.specs.Motion.{Motion}
 use Rattle.space.specs.Ranges.{IsBetween}
 use Rattle.space.specs.Vectors.{at, dot}
+use Rattle.std.proofs.lemmas.Bool.{and_parts}
+use Rattle.space.specs.Reach.{is_in_reach, is_near}
 use Rattle.space.proofs.Naturals.{square_not_negative}
+use Rattle.space.proofs.ReachLemmas.{decides_near, near_either}
 use Rattle.sweep_boxes.specs.Pieces.{IsAmong, IsHeldOn, middle_axis, middle_offset, offset_from}
 use Rattle.sweep_boxes.specs.Made.{IsPieceOf}
 use Rattle.sweep_boxes.specs.declared.piece.Piece.{Piece}
@@ -87,3 +90,19 @@ among_of piece m k S p low high from to of from_is to_is among =
 -- a box with ends within those of another one lies in it
 pub inner_range : (a b c d z : ℤ) → c ≤ℤ a → b ≤ℤ d → IsBetween a b z → IsBetween c d z
 inner_range a b c d z h k l = let f = l.from_least in let t = l.to_most in record { from_least = omega (arith, ints, h, f); to_most = omega (arith, ints, k, t) }
+
+-- what is in reach of two ends is in reach of what lies outside of both
+pub near_start : (reach from to z first : ℤ) → first ≤ℤ from → first ≤ℤ to → is_near reach from to z ≡ true → (first -ℤ reach) ≤ℤ z
+near_start reach from to z first a b h =
+    ⊎_elim (λ l. omega (arith, ints, a, l)) (λ l. omega (arith, ints, b, l)) (near_either reach from to z ((decides_near reach from to z).0 h)).0
+
+pub near_end : (reach from to z last : ℤ) → from ≤ℤ last → to ≤ℤ last → is_near reach from to z ≡ true → z ≤ℤ (last +ℤ reach)
+near_end reach from to z last a b h =
+    ⊎_elim (λ l. omega (arith, ints, a, l)) (λ l. omega (arith, ints, b, l)) (near_either reach from to z ((decides_near reach from to z).0 h)).1
+
+-- reach is reach along each axis
+pub reach_parts : (reach : ℤ) (from to p : List ℤ) → is_in_reach reach from to p ≡ true
+    → (is_near reach (at from 0) (at to 0) (at p 0) ≡ true) × (is_near reach (at from 1) (at to 1) (at p 1) ≡ true) × (is_near reach (at from 2) (at to 2) (at p 2) ≡ true)
+reach_parts reach from to p h =
+    let x = is_near reach (at from 0) (at to 0) (at p 0) in let y = is_near reach (at from 1) (at to 1) (at p 1) in let z = is_near reach (at from 2) (at to 2) (at p 2) in
+    let a = and_parts x (y && z) h in let b = and_parts y z a.1 in (a.0, b.0, b.1)

@@ -44,6 +44,7 @@ doubled_far : (c : List ℤ) (a b : ℕ) → b ≡ 2 * a → pos (a * a) <ℤ do
 doubled_far c a b e far = quadruple (dot c c) (dot (doubled c) (doubled c)) a b e far (square_is c) where
   square_is : (c : List ℤ) → dot (doubled c) (doubled c) ≡ pos 4 *ℤ dot c c
   square_is c = let b = λ (k : ℕ). add (from 0 k) (from 0 k) in ring (at c 0 ∷ at c 1 ∷ at c 2 ∷ []) (dots b b) (mul (num (pos 4)) (dots (from 0) (from 0))) refl
+
   quadruple : (u v : ℤ) (a b : ℕ) → b ≡ 2 * a → pos (a * a) <ℤ u → v ≡ pos 4 *ℤ u → pos (b * b) <ℤ v
   quadruple u v a b e far is = subst (λ (n : ℕ). pos (n * n) <ℤ v) (sym e) (omega (arith, ints, far, is))
 

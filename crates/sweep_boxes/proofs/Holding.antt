@@ -23,6 +23,7 @@ doubled_square : (S : ℕ) (z : ℤ) → scaled_square (2 * S) z ≡ pos 4 *ℤ 
 doubled_square S z = ap (λ (y : ℤ). (y *ℤ z) *ℤ (y *ℤ z)) (even S) ∙ fourfold (pos S) z where
   even : (S : ℕ) → pos (2 * S) ≡ pos 2 *ℤ pos S
   even S = omega (arith, ints)
+
   fourfold : (s z : ℤ) → ((pos 2 *ℤ s) *ℤ z) *ℤ ((pos 2 *ℤ s) *ℤ z) ≡ pos 4 *ℤ ((s *ℤ z) *ℤ (s *ℤ z))
   fourfold s z = ring (s ∷ z ∷ []) (mul (mul (mul (num (pos 2)) (var 0)) (var 1)) (mul (mul (num (pos 2)) (var 0)) (var 1))) (mul (num (pos 4)) (mul (mul (var 0) (var 1)) (mul (var 0) (var 1)))) refl
 
@@ -37,9 +38,9 @@ held_on piece m k S slabs p widest highest lift grow top far of large left near 
     let P = offset_at m p (pos k) (pos S) in let Q = offset_at m p (pos (k + 1)) (pos S) in let A = axis_at m (pos k) (pos S) in let C = axis_at m (pos (k + 1)) (pos S) in
     let v = middle_offset m p k S in let x = middle_axis m k S in
     let tall_of : (n : ℤ) → pos 0 ≤ℤ n → n ≤ℤ piece.longest → (pos 4 *ℤ ((pos 4 *ℤ scaled_square S one.slab.hi) *ℤ n)) ≤ℤ pos (unsigned_abs top * unsigned_abs top) = λ n natural most.
-        subst (λ (y : ℤ). (pos 4 *ℤ (y *ℤ n)) ≤ℤ pos (unsigned_abs top * unsigned_abs top)) (doubled_square S one.slab.hi)
-        (under_of (2 * piece.scale) (2 * S) one.slab.hi highest piece.longest n (pos (unsigned_abs top * unsigned_abs top)) (omega (arith, of.scale)) size.tall size.height natural most
-        (subst (λ (y : ℤ). (((pos (2 * piece.scale) *ℤ highest) *ℤ (pos (2 * piece.scale) *ℤ highest)) *ℤ piece.longest) ≤ℤ y) (sym (square_of_abs top)) tall)) in
+    subst (λ (y : ℤ). (pos 4 *ℤ (y *ℤ n)) ≤ℤ pos (unsigned_abs top * unsigned_abs top)) (doubled_square S one.slab.hi)
+    (under_of (2 * piece.scale) (2 * S) one.slab.hi highest piece.longest n (pos (unsigned_abs top * unsigned_abs top)) (omega (arith, of.scale)) size.tall size.height natural most
+    (subst (λ (y : ℤ). (((pos (2 * piece.scale) *ℤ highest) *ℤ (pos (2 * piece.scale) *ℤ highest)) *ℤ piece.longest) ≤ℤ y) (sym (square_of_abs top)) tall)) in
     held_with P Q A C v x (shift_of m) (turn_of m) S one.slab g.r (unsigned_abs top) g.m g.n l.v l.b (offsets_sum m p k S) (axes_sum m k S) (offsets_step m p k S) (axes_step m k S)
     record {
       wide = record {
@@ -67,5 +68,5 @@ held_on piece m k S slabs p widest highest lift grow top far of large left near 
           subst (λ (y : List ℤ). unsigned_abs (dot y (turn_of m)) ≤ l.b) of.shift
           (subst (λ (y : List ℤ). unsigned_abs (dot piece.shift y) ≤ l.b) of.turn l.bend);
     } one.left where
-  four_some : (z : ℤ) → pos 0 ≤ℤ z → pos 0 ≤ℤ (pos 4 *ℤ z)
-  four_some z h = omega (arith, ints, h)
+      four_some : (z : ℤ) → pos 0 ≤ℤ z → pos 0 ≤ℤ (pos 4 *ℤ z)
+      four_some z h = omega (arith, ints, h)

@@ -54,12 +54,13 @@ pub held_by : (p q a c : List ℤ) (S : ℕ) (s : SlabSize) (r h m n v b : ℕ) 
     → ((pos 0 -ℤ pos (v + b)) ≤ℤ dot (sum p q) (sum a c)) × (dot (sum p q) (sum a c) ≤ℤ pos (h + (v + b)))
     × (dot (cross (sum p q) (sum a c)) (cross (sum p q) (sum a c)) ≤ℤ pos ((r + (m + n)) * (r + (m + n))))
 held_by p q a c S s r h m n v b l left =
-    let u = dot (sum p q) (sum a c) in
-    (⊎_elim (λ in_front. in_front) (λ behind. absurd (left (inl (behind_tip p q a c v b record { change = slope_is p q a c v l.slope; bend = l.bow; behind = behind })))) (under_or u (v + b)),
-    ⊎_elim (λ below. below) (λ over. absurd (left (inr (inr (inl (above_slab p q a c (scaled_square S s.hi) h v b l.tall record { change = slope_is p q a c v l.slope; bend = l.bow; over = over })))))) (over_or u (h + (v + b))),
-    ⊎_elim (λ near. near) (λ far. absurd (left (inr (inr (inr (beside p q a c (scaled_square S s.dia) r m n l.wide l.change l.bend far)))))) (over_or (dot (cross (sum p q) (sum a c)) (cross (sum p q) (sum a c))) ((r + (m + n)) * (r + (m + n))))) where
-  slope_is : (p q a c : List ℤ) (v : ℕ) → unsigned_abs (height_change (sum p q) (sum a c) (difference q p) (difference c a)) ≤ v → unsigned_abs (dot (difference q p) (sum a c) +ℤ dot (sum p q) (difference c a)) ≤ v
-  slope_is p q a c v h = h
+    let u = dot (sum p q) (sum a c) in (
+      ⊎_elim (λ in_front. in_front) (λ behind. absurd (left (inl (behind_tip p q a c v b record { change = slope_is p q a c v l.slope; bend = l.bow; behind = behind })))) (under_or u (v + b)),
+      ⊎_elim (λ below. below) (λ over. absurd (left (inr (inr (inl (above_slab p q a c (scaled_square S s.hi) h v b l.tall record { change = slope_is p q a c v l.slope; bend = l.bow; over = over })))))) (over_or u (h + (v + b))),
+      ⊎_elim (λ near. near) (λ far. absurd (left (inr (inr (inr (beside p q a c (scaled_square S s.dia) r m n l.wide l.change l.bend far)))))) (over_or (dot (cross (sum p q) (sum a c)) (cross (sum p q) (sum a c))) ((r + (m + n)) * (r + (m + n)))),
+    ) where
+      slope_is : (p q a c : List ℤ) (v : ℕ) → unsigned_abs (height_change (sum p q) (sum a c) (difference q p) (difference c a)) ≤ v → unsigned_abs (dot (difference q p) (sum a c) +ℤ dot (sum p q) (difference c a)) ≤ v
+      slope_is p q a c v h = h
 
 -- from the numbers of a piece
 pub under_of : (scale S : ℕ) (dia widest longest n r : ℤ) → scale ≡ 2 * S → pos 0 ≤ℤ dia → dia ≤ℤ widest → pos 0 ≤ℤ n → n ≤ℤ longest
@@ -70,14 +71,16 @@ under_of scale S (pos d) (pos w) (pos l) (pos n) r e a b c f g =
     let one : scale * d * (scale * d) ≤ scale * w * (scale * w) = mul-le-mul side side in
     let two : scale * d * (scale * d) * n ≤ scale * w * (scale * w) * l = mul-le-mul one long in
     four_is scale S d n r e (le_trans two (pos_le scale w l r g)) where
-  four_is : (scale S d n : ℕ) (r : ℤ) → scale ≡ 2 * S → pos (scale * d * (scale * d) * n) ≤ℤ r → (pos 4 *ℤ (scaled_square S (pos d) *ℤ pos n)) ≤ℤ r
-  four_is scale S d n r e h = subst (λ (z : ℤ). z ≤ℤ r) (same scale S d n e) h where
-    same : (scale S d n : ℕ) → scale ≡ 2 * S → pos (scale * d * (scale * d) * n) ≡ pos 4 *ℤ (scaled_square S (pos d) *ℤ pos n)
-    same scale S d n e = subst (λ (t : ℕ). pos (t * d * (t * d) * n) ≡ pos 4 *ℤ (scaled_square S (pos d) *ℤ pos n)) (sym e) (omega (arith, ints))
-  pos_le : (scale w l : ℕ) (r : ℤ) → (((pos scale *ℤ pos w) *ℤ (pos scale *ℤ pos w)) *ℤ pos l) ≤ℤ r → pos (scale * w * (scale * w) * l) ≤ℤ r
-  pos_le scale w l r h = omega (arith, ints, h)
-  le_trans : {a b : ℕ} {r : ℤ} → a ≤ b → pos b ≤ℤ r → pos a ≤ℤ r
-  le_trans h k = omega (arith, ints, h, k)
+      four_is : (scale S d n : ℕ) (r : ℤ) → scale ≡ 2 * S → pos (scale * d * (scale * d) * n) ≤ℤ r → (pos 4 *ℤ (scaled_square S (pos d) *ℤ pos n)) ≤ℤ r
+      four_is scale S d n r e h = subst (λ (z : ℤ). z ≤ℤ r) (same scale S d n e) h where
+        same : (scale S d n : ℕ) → scale ≡ 2 * S → pos (scale * d * (scale * d) * n) ≡ pos 4 *ℤ (scaled_square S (pos d) *ℤ pos n)
+        same scale S d n e = subst (λ (t : ℕ). pos (t * d * (t * d) * n) ≡ pos 4 *ℤ (scaled_square S (pos d) *ℤ pos n)) (sym e) (omega (arith, ints))
+
+      pos_le : (scale w l : ℕ) (r : ℤ) → (((pos scale *ℤ pos w) *ℤ (pos scale *ℤ pos w)) *ℤ pos l) ≤ℤ r → pos (scale * w * (scale * w) * l) ≤ℤ r
+      pos_le scale w l r h = omega (arith, ints, h)
+
+      le_trans : {a b : ℕ} {r : ℤ} → a ≤ b → pos b ≤ℤ r → pos a ≤ℤ r
+      le_trans h k = omega (arith, ints, h, k)
 under_of scale S (negsuc d) w l n r e a b c f g = absurd (omega (arith, ints, a))
 under_of scale S (pos d) (negsuc w) l n r e a b c f g = absurd (omega (arith, ints, b))
 under_of scale S (pos d) (pos w) (negsuc l) (pos n) r e a b c f g = absurd (omega (arith, ints, f))
@@ -103,26 +106,26 @@ held_with p q a c v x d e S s r h m n l b ev ex ed ee z left =
     subst (λ (y : List ℤ). IsNear y x (l + b) (h + (l + b)) (r + (m + n))) ev
     (subst (λ (y : List ℤ). IsNear (sum p q) y (l + b) (h + (l + b)) (r + (m + n))) ex
     (held_by p q a c S s r h m n l b (limits p q a c v x d e S s r h m n l b ev ex ed ee z) left)) where
-  limits : (p q a c v x d e : List ℤ) (S : ℕ) (s : SlabSize) (r h m n l b : ℕ) → sum p q ≡ v → sum a c ≡ x → difference q p ≡ d → difference c a ≡ e
-      → LimitsOf v x d e a c S s r h m n l b → Limits p q a c S s r h m n l b
-  limits p q a c v x d e S s r h m n l b ev ex ed ee z =
-      let P = sum p q in let A = sum a c in let D = difference q p in record {
-        wide = z.wide;
-        tall = z.tall;
-        change =
-            subst (λ (y : List ℤ). dot (moment_change P A D y) (moment_change P A D y) ≤ℤ pos (m * m)) (sym ee)
-            (subst (λ (y : List ℤ). dot (moment_change P A y e) (moment_change P A y e) ≤ℤ pos (m * m)) (sym ed)
-            (subst (λ (y : List ℤ). dot (moment_change P y d e) (moment_change P y d e) ≤ℤ pos (m * m)) (sym ex)
-            (subst (λ (y : List ℤ). dot (moment_change y x d e) (moment_change y x d e) ≤ℤ pos (m * m)) (sym ev) z.change)));
-        bend =
-            subst (λ (y : List ℤ). dot (cross D y) (cross D y) ≤ℤ pos (n * n)) (sym ee)
-            (subst (λ (y : List ℤ). dot (cross y e) (cross y e) ≤ℤ pos (n * n)) (sym ed) z.bend);
-        slope =
-            subst (λ (y : List ℤ). unsigned_abs (height_change P A D y) ≤ l) (sym ee)
-            (subst (λ (y : List ℤ). unsigned_abs (height_change P A y e) ≤ l) (sym ed)
-            (subst (λ (y : List ℤ). unsigned_abs (height_change P y d e) ≤ l) (sym ex)
-            (subst (λ (y : List ℤ). unsigned_abs (height_change y x d e) ≤ l) (sym ev) z.slope)));
-        bow =
-            subst (λ (y : List ℤ). unsigned_abs (dot D y) ≤ b) (sym ee)
-            (subst (λ (y : List ℤ). unsigned_abs (dot y e) ≤ b) (sym ed) z.bow);
-      }
+      limits : (p q a c v x d e : List ℤ) (S : ℕ) (s : SlabSize) (r h m n l b : ℕ) → sum p q ≡ v → sum a c ≡ x → difference q p ≡ d → difference c a ≡ e
+          → LimitsOf v x d e a c S s r h m n l b → Limits p q a c S s r h m n l b
+      limits p q a c v x d e S s r h m n l b ev ex ed ee z =
+          let P = sum p q in let A = sum a c in let D = difference q p in record {
+            wide = z.wide;
+            tall = z.tall;
+            change =
+                subst (λ (y : List ℤ). dot (moment_change P A D y) (moment_change P A D y) ≤ℤ pos (m * m)) (sym ee)
+                (subst (λ (y : List ℤ). dot (moment_change P A y e) (moment_change P A y e) ≤ℤ pos (m * m)) (sym ed)
+                (subst (λ (y : List ℤ). dot (moment_change P y d e) (moment_change P y d e) ≤ℤ pos (m * m)) (sym ex)
+                (subst (λ (y : List ℤ). dot (moment_change y x d e) (moment_change y x d e) ≤ℤ pos (m * m)) (sym ev) z.change)));
+            bend =
+                subst (λ (y : List ℤ). dot (cross D y) (cross D y) ≤ℤ pos (n * n)) (sym ee)
+                (subst (λ (y : List ℤ). dot (cross y e) (cross y e) ≤ℤ pos (n * n)) (sym ed) z.bend);
+            slope =
+                subst (λ (y : List ℤ). unsigned_abs (height_change P A D y) ≤ l) (sym ee)
+                (subst (λ (y : List ℤ). unsigned_abs (height_change P A y e) ≤ l) (sym ed)
+                (subst (λ (y : List ℤ). unsigned_abs (height_change P y d e) ≤ l) (sym ex)
+                (subst (λ (y : List ℤ). unsigned_abs (height_change y x d e) ≤ l) (sym ev) z.slope)));
+            bow =
+                subst (λ (y : List ℤ). unsigned_abs (dot D y) ≤ b) (sym ee)
+                (subst (λ (y : List ℤ). unsigned_abs (dot y e) ≤ b) (sym ed) z.bow);
+          }

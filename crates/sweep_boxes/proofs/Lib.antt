@@ -9,3 +9,5 @@ pub mod Holding
 pub mod Lined
 pub mod Boxed
 pub mod Scales
+pub mod Largest
+pub mod Coarse

@@ -27,6 +27,6 @@ pub within_margin : (a b m margin : ℤ) (k : ℕ) (r : ℤ) → unsigned_abs (a
 within_margin a b m margin k r h r_is some is =
     let same : margin ≡ pos (k * unsigned_abs m) = margin_is m margin k r r_is some is in
     (omega (arith, ints, h, same, abs_is (a -ℤ b)), omega (arith, ints, h, same, abs_is (a -ℤ b))) where
-  margin_is : (m margin : ℤ) (k : ℕ) (r : ℤ) → r ≡ pos k → pos 0 ≤ℤ m → margin ≡ r *ℤ m → margin ≡ pos (k * unsigned_abs m)
-  margin_is (pos n) margin k r r_is some is = subst (λ (z : ℤ). margin ≡ z *ℤ pos n → margin ≡ pos (k * n)) (sym r_is) (λ e. omega (arith, ints, e)) is
-  margin_is (negsuc n) margin k r r_is some is = absurd (omega (arith, ints, some))
+      margin_is : (m margin : ℤ) (k : ℕ) (r : ℤ) → r ≡ pos k → pos 0 ≤ℤ m → margin ≡ r *ℤ m → margin ≡ pos (k * unsigned_abs m)
+      margin_is (pos n) margin k r r_is some is = subst (λ (z : ℤ). margin ≡ z *ℤ pos n → margin ≡ pos (k * n)) (sym r_is) (λ e. omega (arith, ints, e)) is
+      margin_is (negsuc n) margin k r r_is some is = absurd (omega (arith, ints, some))

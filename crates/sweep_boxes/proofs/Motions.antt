@@ -26,11 +26,11 @@ axis_sum : (k S : ℕ) (f t : ℤ) → between (pos k) (pos S) f t +ℤ between 
 axis_sum k S f t =
     ap (λ z. between (pos k) (pos S) f t +ℤ between z (pos S) f t) (next k) ∙ whole (pos k) (pos S) f t
     ∙ ap (λ z. between z (pos 2 *ℤ pos S) f t) (sym (odd k)) ∙ ap (λ z. between (pos (2 * k + 1)) z f t) (sym (even S)) where
-  whole : (k S f t : ℤ) → between k S f t +ℤ between (k +ℤ pos 1) S f t ≡ between (pos 2 *ℤ k +ℤ pos 1) (pos 2 *ℤ S) f t
-  whole k S f t =
-      let K = var 0 in let Z = var 1 in let F = var 2 in let T = var 3 in let K1 = add K (num (pos 1)) in
-      let K2 = add (mul (num (pos 2)) K) (num (pos 1)) in let Z2 = mul (num (pos 2)) Z in
-      ring (k ∷ S ∷ f ∷ t ∷ []) (add (add (mul (sub Z K) F) (mul K T)) (add (mul (sub Z K1) F) (mul K1 T))) (add (mul (sub Z2 K2) F) (mul K2 T)) refl
+      whole : (k S f t : ℤ) → between k S f t +ℤ between (k +ℤ pos 1) S f t ≡ between (pos 2 *ℤ k +ℤ pos 1) (pos 2 *ℤ S) f t
+      whole k S f t =
+          let K = var 0 in let Z = var 1 in let F = var 2 in let T = var 3 in let K1 = add K (num (pos 1)) in
+          let K2 = add (mul (num (pos 2)) K) (num (pos 1)) in let Z2 = mul (num (pos 2)) Z in
+          ring (k ∷ S ∷ f ∷ t ∷ []) (add (add (mul (sub Z K) F) (mul K T)) (add (mul (sub Z K1) F) (mul K1 T))) (add (mul (sub Z2 K2) F) (mul K2 T)) refl
 
 offset_sum_of : (s p a b c : ℤ) → a +ℤ b ≡ c → (s *ℤ p -ℤ a) +ℤ (s *ℤ p -ℤ b) ≡ (pos 2 *ℤ s) *ℤ p -ℤ c
 offset_sum_of s p a b c e = omega (arith, ints, e, mul_assoc_ℤ (pos 2) s p)

@@ -76,10 +76,10 @@ radius_fits x n h some few =
       some = product_some (x *ℤ x) n (square_not_negative x) some;
       small = omega (arith, whole);
     } where
-  product_some : (z d : ℤ) → pos 0 ≤ℤ z → pos 0 ≤ℤ d → pos 0 ≤ℤ (z *ℤ d)
-  product_some (pos m) (pos n) h k = omega (arith, ints)
-  product_some (negsuc m) d h k = absurd (omega (arith, ints, h))
-  product_some (pos m) (negsuc n) h k = absurd (omega (arith, ints, k))
+      product_some : (z d : ℤ) → pos 0 ≤ℤ z → pos 0 ≤ℤ d → pos 0 ≤ℤ (z *ℤ d)
+      product_some (pos m) (pos n) h k = omega (arith, ints)
+      product_some (negsuc m) d h k = absurd (omega (arith, ints, h))
+      product_some (pos m) (negsuc n) h k = absurd (omega (arith, ints, k))
 
 pub dot_below : (p e far turn : List ℤ) → IsNearer p far → IsNearer e turn → pos (unsigned_abs (dot p e)) ≤ℤ dot far turn
 dot_below p e far turn h k =

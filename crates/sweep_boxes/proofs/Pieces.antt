@@ -189,7 +189,7 @@ lift_under : (z : ℤ) (a c : List ℤ) (r : ℕ) → IsUnder z a c r
     × ((pos 4 *ℤ (z *ℤ at (lift_of a c) 3)) ≤ℤ pos (4 * (r * r))) × ((pos 4 *ℤ (z *ℤ at (lift_of a c) 4)) ≤ℤ pos (r * r))
 lift_under z a c r h =
     let apart : z *ℤ dot (difference a c) (difference a c) ≡ (z *ℤ dot a a -ℤ pos 2 *ℤ (z *ℤ dot a c)) +ℤ z *ℤ dot c c =
-        ring (six a c z) (mul z6 (dots (less (from 0) (from 3)) (less (from 0) (from 3)))) (add (sub aa (mul (num (pos 2)) ac)) cc6) refl in
+    ring (six a c z) (mul z6 (dots (less (from 0) (from 3)) (less (from 0) (from 3)))) (add (sub aa (mul (num (pos 2)) ac)) cc6) refl in
     let some = product_some z (dot (difference a c) (difference a c)) h.some (dot_natural (difference a c)) in
     let e0 : z *ℤ at (lift_of a c) 0 ≡ z *ℤ dot a a = ring (six a c z) (mul z6 (lift6 0)) aa refl in
     let e1 : z *ℤ at (lift_of a c) 1 ≡ pos 2 *ℤ (z *ℤ dot a a) +ℤ pos 2 *ℤ (z *ℤ dot a c) = ring (six a c z) (mul z6 (lift6 1)) (add (mul (num (pos 2)) aa) (mul (num (pos 2)) ac)) refl in
@@ -199,15 +199,16 @@ lift_under z a c r h =
     bounds (z *ℤ dot a a) (z *ℤ dot a c) (z *ℤ dot c c) (z *ℤ dot (difference a c) (difference a c)) r
     (z *ℤ at (lift_of a c) 0) (z *ℤ at (lift_of a c) 1) (z *ℤ at (lift_of a c) 2) (z *ℤ at (lift_of a c) 3) (z *ℤ at (lift_of a c) 4)
     apart some h.first h.last e0 e1 e2 e3 e4 where
-  product_some : (z d : ℤ) → pos 0 ≤ℤ z → pos 0 ≤ℤ d → pos 0 ≤ℤ (z *ℤ d)
-  product_some (pos m) (pos n) h k = omega (arith, ints)
-  product_some (negsuc m) d h k = absurd (omega (arith, ints, h))
-  product_some (pos m) (negsuc n) h k = absurd (omega (arith, ints, k))
-  bounds : (n0 m n2 d : ℤ) (r : ℕ) (l0 l1 l2 l3 l4 : ℤ) → d ≡ (n0 -ℤ pos 2 *ℤ m) +ℤ n2 → pos 0 ≤ℤ d → (pos 4 *ℤ n0) ≤ℤ pos (r * r) → (pos 4 *ℤ n2) ≤ℤ pos (r * r)
-      → l0 ≡ n0 → l1 ≡ pos 2 *ℤ n0 +ℤ pos 2 *ℤ m → l2 ≡ (n0 +ℤ pos 4 *ℤ m) +ℤ n2 → l3 ≡ pos 2 *ℤ m +ℤ pos 2 *ℤ n2 → l4 ≡ n2
-      → ((pos 4 *ℤ l0) ≤ℤ pos (r * r)) × ((pos 4 *ℤ l1) ≤ℤ pos (4 * (r * r))) × ((pos 4 *ℤ l2) ≤ℤ pos (6 * (r * r))) × ((pos 4 *ℤ l3) ≤ℤ pos (4 * (r * r))) × ((pos 4 *ℤ l4) ≤ℤ pos (r * r))
-  bounds n0 m n2 d r l0 l1 l2 l3 l4 apart some first last e0 e1 e2 e3 e4 =
-      (omega (arith, ints, e0, first), omega (arith, ints, apart, some, e1, first, last), omega (arith, ints, apart, some, e2, first, last), omega (arith, ints, apart, some, e3, first, last), omega (arith, ints, e4, last))
+      product_some : (z d : ℤ) → pos 0 ≤ℤ z → pos 0 ≤ℤ d → pos 0 ≤ℤ (z *ℤ d)
+      product_some (pos m) (pos n) h k = omega (arith, ints)
+      product_some (negsuc m) d h k = absurd (omega (arith, ints, h))
+      product_some (pos m) (negsuc n) h k = absurd (omega (arith, ints, k))
+
+      bounds : (n0 m n2 d : ℤ) (r : ℕ) (l0 l1 l2 l3 l4 : ℤ) → d ≡ (n0 -ℤ pos 2 *ℤ m) +ℤ n2 → pos 0 ≤ℤ d → (pos 4 *ℤ n0) ≤ℤ pos (r * r) → (pos 4 *ℤ n2) ≤ℤ pos (r * r)
+          → l0 ≡ n0 → l1 ≡ pos 2 *ℤ n0 +ℤ pos 2 *ℤ m → l2 ≡ (n0 +ℤ pos 4 *ℤ m) +ℤ n2 → l3 ≡ pos 2 *ℤ m +ℤ pos 2 *ℤ n2 → l4 ≡ n2
+          → ((pos 4 *ℤ l0) ≤ℤ pos (r * r)) × ((pos 4 *ℤ l1) ≤ℤ pos (4 * (r * r))) × ((pos 4 *ℤ l2) ≤ℤ pos (6 * (r * r))) × ((pos 4 *ℤ l3) ≤ℤ pos (4 * (r * r))) × ((pos 4 *ℤ l4) ≤ℤ pos (r * r))
+      bounds n0 m n2 d r l0 l1 l2 l3 l4 apart some first last e0 e1 e2 e3 e4 =
+          (omega (arith, ints, e0, first), omega (arith, ints, apart, some, e1, first, last), omega (arith, ints, apart, some, e2, first, last), omega (arith, ints, apart, some, e3, first, last), omega (arith, ints, e4, last))
 
 above : (w v l : ℤ) (k n : ℕ) → pos 4 *ℤ w ≡ v -ℤ l → pos n <ℤ v → l ≤ℤ pos n → pos 0 <ℤ w
 above w v l k n e h u = omega (arith, ints, e, h, u)
@@ -297,8 +298,8 @@ height4 p q a c z = ring (twelve p q a c z) (sixteen (T 4)) (sub (mul z1 z1) (ta
 product_over : (x y : ℤ) (r : ℕ) → pos r <ℤ x → pos r <ℤ y → pos (r * r) <ℤ (x *ℤ y)
 product_over (pos m) (pos n) r h k =
     let more = mul-le-mul (over m r h) (over n r k) in omega (arith, ints, more) where
-  over : (m r : ℕ) → pos r <ℤ pos m → r + 1 ≤ m
-  over m r h = omega (arith, ints, h)
+      over : (m r : ℕ) → pos r <ℤ pos m → r + 1 ≤ m
+      over m r h = omega (arith, ints, h)
 product_over (negsuc m) y r h k = absurd (omega (arith, ints, h))
 product_over (pos m) (negsuc n) r h k = absurd (omega (arith, ints, k))
 

@@ -32,17 +32,17 @@ times_is a t = omega (arith, ints)
 between_grown : (k S t : ℕ) (f e : ℤ) → between (pos (k * t)) (pos (S * t)) f e ≡ pos t *ℤ between (pos k) (pos S) f e
 between_grown k S t f e =
     ap (λ z. between z (pos (S * t)) f e) (times_is k t) ∙ ap (λ z. between (pos k *ℤ pos t) z f e) (times_is S t) ∙ both (pos k) (pos S) (pos t) f e where
-  both : (k S t f e : ℤ) → between (k *ℤ t) (S *ℤ t) f e ≡ t *ℤ between k S f e
-  both k S t f e =
-      let K = var 0 in let Z = var 1 in let T = var 2 in let F = var 3 in let E = var 4 in
-      ring (k ∷ S ∷ t ∷ f ∷ e ∷ []) (add (mul (sub (mul Z T) (mul K T)) F) (mul (mul K T) E)) (mul T (add (mul (sub Z K) F) (mul K E))) refl
+      both : (k S t f e : ℤ) → between (k *ℤ t) (S *ℤ t) f e ≡ t *ℤ between k S f e
+      both k S t f e =
+          let K = var 0 in let Z = var 1 in let T = var 2 in let F = var 3 in let E = var 4 in
+          ring (k ∷ S ∷ t ∷ f ∷ e ∷ []) (add (mul (sub (mul Z T) (mul K T)) F) (mul (mul K T) E)) (mul T (add (mul (sub Z K) F) (mul K E))) refl
 
 offset_grown : (k S t : ℕ) (p f e : ℤ) → offset (pos (k * t)) (pos (S * t)) p f e ≡ pos t *ℤ offset (pos k) (pos S) p f e
 offset_grown k S t p f e =
     ap (λ z. pos (S * t) *ℤ p -ℤ z) (between_grown k S t f e) ∙ ap (λ z. z *ℤ p -ℤ pos t *ℤ between (pos k) (pos S) f e) (times_is S t)
     ∙ both (pos S) (pos t) p (between (pos k) (pos S) f e) where
-  both : (S t p b : ℤ) → (S *ℤ t) *ℤ p -ℤ t *ℤ b ≡ t *ℤ (S *ℤ p -ℤ b)
-  both S t p b = ring (S ∷ t ∷ p ∷ b ∷ []) (sub (mul (mul (var 0) (var 1)) (var 2)) (mul (var 1) (var 3))) (mul (var 1) (sub (mul (var 0) (var 2)) (var 3))) refl
+      both : (S t p b : ℤ) → (S *ℤ t) *ℤ p -ℤ t *ℤ b ≡ t *ℤ (S *ℤ p -ℤ b)
+      both S t p b = ring (S ∷ t ∷ p ∷ b ∷ []) (sub (mul (mul (var 0) (var 1)) (var 2)) (mul (var 1) (var 3))) (mul (var 1) (sub (mul (var 0) (var 2)) (var 3))) refl
 
 offsets_grown : (m : Motion) (p : List ℤ) (k S t : ℕ) → offset_at m p (pos (k * t)) (pos (S * t)) ≡ grown (pos t) (offset_at m p (pos k) (pos S))
 offsets_grown m p k S t =
@@ -174,10 +174,11 @@ excluded_grown s S t u n d some long x =
     (λ y. ⊎_elim (λ c. inr (inl (subst AllNegative (sym (height s.lo)) (four_negative (k * k) (height_less (scaled_square S s.lo) u n) more (omega arith) c))))
     (λ z. ⊎_elim (λ c. inr (inr (inl (subst AllPositive (sym (height s.hi)) (four_positive (k * k) (height_less (scaled_square S s.hi) u n) more (omega arith) c)))))
     (λ c. inr (inr (inr (subst AllPositive (sym (width s.dia)) (four_positive (k * k) (width_less (scaled_square S s.dia) u n d) more (omega arith) c))))) z) y) x where
-  square_is : (t : ℕ) → pos t *ℤ pos t ≡ pos (t * t)
-  square_is t = omega (arith, ints)
-  fourth_is : (t : ℕ) → (pos t *ℤ pos t) *ℤ (pos t *ℤ pos t) ≡ pos (t * t * (t * t))
-  fourth_is t = ap (λ (y : ℤ). y *ℤ y) (square_is t) ∙ square_is (t * t)
+      square_is : (t : ℕ) → pos t *ℤ pos t ≡ pos (t * t)
+      square_is t = omega (arith, ints)
+
+      fourth_is : (t : ℕ) → (pos t *ℤ pos t) *ℤ (pos t *ℤ pos t) ≡ pos (t * t * (t * t))
+      fourth_is t = ap (λ (y : ℤ). y *ℤ y) (square_is t) ∙ square_is (t * t)
 
 pub out_grown : (slabs : List SlabSize) (m : Motion) (p : List ℤ) (j k S t : ℕ) → 0 < t → AllOut slabs m p j k S → AllOut slabs m p (j * t) (k * t) (S * t)
 out_grown slabs m p j k S t some out = record {

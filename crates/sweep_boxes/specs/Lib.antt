@@ -5,3 +5,4 @@ pub mod Made
 pub mod Boxes
 pub mod Held
 pub mod Lines
+pub mod Covers

@@ -1,7 +1,9 @@
 -- The places of a line that are held.
-use Rattle.std.specs.Prelude.{ℕ, ◌*◌, ◌≤◌, ℤ, pos, ◌*ℤ◌, ◌-ℤ◌, ◌≤ℤ◌, unsigned_abs}
+use Rattle.std.specs.Prelude.{List, ℕ, ◌*◌, ◌≤◌, ℤ, pos, ◌*ℤ◌, ◌-ℤ◌, ◌≤ℤ◌, unsigned_abs}
 use Rattle.sweep_boxes.specs.declared.held.Hold.{Hold}
 use Rattle.sweep_boxes.specs.declared.line.Line.{Line}
+use Rattle.sweep_boxes.specs.declared.piece.Piece.{Piece}
+use Rattle.sweep_boxes.specs.Pieces.{IsHeldOn, offset_from}
 
 -- The place z is in the line's range, and at the height u, which is held: what of its offset isn't along the axis is at most the
 -- distance from the axis times what of the axis isn't along the line.
@@ -12,3 +14,7 @@ pub record IsOnLine (line : Line) (hold : Hold) (z u : ℤ) : Type 0 where
   pub below : u ≤ℤ hold.most
   pub near : (k : ℕ) → (line.square -ℤ line.axis *ℤ line.axis) ≤ℤ pos (k * k)
       → unsigned_abs ((pos line.scale *ℤ z -ℤ line.tip) *ℤ line.square -ℤ u *ℤ line.axis) ≤ k * unsigned_abs hold.moment
+
+-- the point p is held on the piece
+abbrev pub IsHeldPlace : Hold → Piece → List ℤ → Type 0
+IsHeldPlace hold piece p = IsHeldOn hold.least hold.most hold.moment (offset_from (pos piece.scale) piece.tip p) piece.axis

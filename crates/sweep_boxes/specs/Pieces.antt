@@ -1,5 +1,5 @@
 -- A part of a move, cell k of S that are equally long, by its middle and by what changes on it. Lengths are taken times 2 S.
-use Rattle.std.specs.Prelude.{◌≡◌, ℕ, ◌+◌, ◌*◌, ◌≤◌, List, [], ◌∷◌, ℤ, pos, ◌+ℤ◌, ◌*ℤ◌, ◌-ℤ◌, ◌≤ℤ◌, unsigned_abs}
+use Rattle.std.specs.Prelude.{ℕ, ◌+◌, ◌*◌, ◌≤◌, List, [], ◌∷◌, ℤ, pos, ◌+ℤ◌, ◌*ℤ◌, ◌-ℤ◌, ◌≤ℤ◌, unsigned_abs}
 use Rattle.std.specs.List.{Contains}
 use Rattle.space.specs.Motion.{Motion, axis_at, between, offset_at}
 use Rattle.space.specs.Ranges.{IsBetween}

@@ -19,7 +19,14 @@ fn length_along(v: &[i128; 3], i: usize) -> i128
 
 /// How far from zero component `i` of the sum of c and of the cross product of two vectors can be, by how far the components `j`
 /// and `k` of these two are from zero.
-fn change_along(c: &[i128; 3], far: &[i128; 3], turn: &[i128; 3], i: usize, j: usize, k: usize) -> i128
+fn change_along(
+    c: &[i128; 3],
+    far: &[i128; 3],
+    turn: &[i128; 3],
+    i: usize,
+    j: usize,
+    k: usize,
+) -> i128
     requires i { i < 3 }
     requires j { j < 3 }
     requires k { k < 3 }

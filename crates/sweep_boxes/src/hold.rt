@@ -9,8 +9,8 @@ ghost use Rattle.sweep_boxes.specs.Limits.{place_limit, side_limit};
 ghost use Rattle.sweep_boxes.specs.Made.{IsPieceOf};
 ghost use Rattle.sweep_boxes.specs.Pieces.{AreAsLarge, IsAmong, IsHeldOn, IsNearer, middle_axis, middle_offset};
 
-use crate::held::Hold;
 use crate::change::{change_limit, length_limit};
+use crate::held::Hold;
 use crate::offsets::{farthest, least_dot, most_dot, sizes};
 use crate::piece::Piece;
 use crate::vector::{cross, dot, root_up, weighted};
@@ -105,7 +105,8 @@ fn least_of(axis: &[i128; 3], low: &[i128; 3], high: &[i128; 3], lift: i128) -> 
     requires low { IsWithin side_limit low.now }
     requires high { IsWithin side_limit high.now }
     requires lift { unsigned_abs lift ≤ 3 * 10 ^ 18 }
-    ensures value { (v : List ℤ) → IsAmong low.now high.now v → (pos 0 -ℤ lift) ≤ℤ dot v axis.now → result ≤ℤ dot v axis.now }
+    ensures value { (v : List ℤ) → IsAmong low.now high.now v
+        → (pos 0 -ℤ lift) ≤ℤ dot v axis.now → result ≤ℤ dot v axis.now }
     ensures small { unsigned_abs result ≤ 4 * 10 ^ 18 }
 {
     greater(least_dot(axis, low, high), -lift)
@@ -118,7 +119,8 @@ fn most_of(axis: &[i128; 3], low: &[i128; 3], high: &[i128; 3], top: i128, lift:
     requires high { IsWithin side_limit high.now }
     requires top { unsigned_abs top ≤ 10 ^ 18 }
     requires lift { unsigned_abs lift ≤ 3 * 10 ^ 18 }
-    ensures value { (v : List ℤ) → IsAmong low.now high.now v → dot v axis.now ≤ℤ (top +ℤ lift) → dot v axis.now ≤ℤ result }
+    ensures value { (v : List ℤ) → IsAmong low.now high.now v
+        → dot v axis.now ≤ℤ (top +ℤ lift) → dot v axis.now ≤ℤ result }
     ensures small { unsigned_abs result ≤ 4 * 10 ^ 18 }
 {
     lesser(most_dot(axis, low, high), top + lift)
@@ -130,8 +132,8 @@ pub fn hold_of(piece: &Piece, widest: i32, highest: i32, low: &[i128; 3], high: 
     requires highest { unsigned_abs highest ≤ place_limit }
     requires low { IsWithin side_limit low.now }
     requires high { IsWithin side_limit high.now }
-    ensures { (m : Motion) (k S : ℕ) (slabs : List SlabSize) (p : List ℤ) → IsPieceOf piece.now m k S → AreAsLarge widest highest slabs
-        → IsAmong low.now high.now (middle_offset m p k S) → is_left_between slabs m p k (k + 1) S ≡ true
+    ensures { (m : Motion) (k S : ℕ) (slabs : List SlabSize) (p : List ℤ) → IsPieceOf piece.now m k S
+        → AreAsLarge widest highest slabs → IsAmong low.now high.now (middle_offset m p k S) → is_left_between slabs m p k (k + 1) S ≡ true
         → IsHeldOn result.least result.most result.moment (middle_offset m p k S) (middle_axis m k S) }
 {
     let far = farthest(low, high);

@@ -1,16 +1,20 @@
 //! Boxes that hold all points which a part of a move may meet.
 #![tactic(auto)]
 
+mod boxes;
 mod change;
 mod cut;
 mod held;
 mod hold;
 mod line;
 mod narrow;
+mod near;
 mod offsets;
 mod piece;
 mod point_box;
 mod side;
+mod size;
 mod vector;
 
+pub use boxes::push_boxes;
 pub use point_box::PointBox;

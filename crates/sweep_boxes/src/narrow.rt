@@ -7,7 +7,8 @@ ghost use Rattle.bern_form.specs.Slab.{SlabSize};
 ghost use Rattle.sweep_boxes.specs.Boxes.{IsInside};
 ghost use Rattle.sweep_boxes.specs.Limits.{place_limit, side_limit};
 ghost use Rattle.sweep_boxes.specs.Made.{IsPieceOf};
-ghost use Rattle.sweep_boxes.specs.Pieces.{AreAsLarge, IsHeldOn, offset_from};
+ghost use Rattle.sweep_boxes.specs.Lines.{IsHeldPlace};
+ghost use Rattle.sweep_boxes.specs.Pieces.{AreAsLarge};
 
 use crate::held::Hold;
 use crate::hold::hold_of;
@@ -26,9 +27,9 @@ fn ends_along(piece: &Piece, hold: &Hold, square: i128, region: &PointBox, i: us
     requires few { unsigned_abs square ≤ 3 * (side_limit * side_limit) }
     requires low { unsigned_abs (at region.now.low i) ≤ place_limit }
     requires high { unsigned_abs (at region.now.high i) ≤ place_limit }
-    ensures first { (p : List ℤ) → IsHeldOn hold.now.least hold.now.most hold.now.moment (offset_from (pos piece.now.scale) piece.now.tip p) piece.now.axis
+    ensures first { (p : List ℤ) → IsHeldPlace hold.now piece.now p
         → at region.now.low i ≤ℤ at p i → at p i ≤ℤ at region.now.high i → result.0 ≤ℤ at p i }
-    ensures last { (p : List ℤ) → IsHeldOn hold.now.least hold.now.most hold.now.moment (offset_from (pos piece.now.scale) piece.now.tip p) piece.now.axis
+    ensures last { (p : List ℤ) → IsHeldPlace hold.now piece.now p
         → at region.now.low i ≤ℤ at p i → at p i ≤ℤ at region.now.high i → at p i ≤ℤ result.1 }
     ensures low { at region.now.low i ≤ℤ result.0 }
     ensures high { result.1 ≤ℤ at region.now.high i }
@@ -53,8 +54,8 @@ pub fn narrowed(piece: &Piece, widest: i32, highest: i32, region: &PointBox) -> 
     requires highest { unsigned_abs highest ≤ place_limit }
     requires low { IsWithin place_limit region.now.low }
     requires high { IsWithin place_limit region.now.high }
-    ensures kept { (m : Motion) (k S : ℕ) (slabs : List SlabSize) (p : List ℤ) → IsPieceOf piece.now m k S → AreAsLarge widest highest slabs
-        → IsInside region.now p → is_left_between slabs m p k (k + 1) S ≡ true → IsInside result p }
+    ensures kept { (m : Motion) (k S : ℕ) (slabs : List SlabSize) (p : List ℤ) → IsPieceOf piece.now m k S
+        → AreAsLarge widest highest slabs → IsInside region.now p → is_left_between slabs m p k (k + 1) S ≡ true → IsInside result p }
     ensures within { (p : List ℤ) → IsInside result p → IsInside region.now p }
     ensures low { IsWithin place_limit result.low }
     ensures high { IsWithin place_limit result.high }

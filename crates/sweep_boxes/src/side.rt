@@ -143,26 +143,34 @@ fn first_place(place: i128, start: i32) -> i32
 /// The first place on a line of those that are held.
 fn first_end(line: &Line, hold: &Hold, margin: i128) -> i32
     requires margin { unsigned_abs margin ≤ 3 * 10 ^ 36 }
-    ensures value { (z u : ℤ) → line.now.low ≤ℤ z → z ≤ℤ line.now.high → hold.now.least ≤ℤ u → u ≤ℤ hold.now.most
+    ensures value { (z u : ℤ) → line.now.low ≤ℤ z → z ≤ℤ line.now.high
+        → hold.now.least ≤ℤ u → u ≤ℤ hold.now.most
         → (u *ℤ line.now.axis -ℤ margin) ≤ℤ ((pos line.now.scale *ℤ z -ℤ line.now.tip) *ℤ line.now.square) → result ≤ℤ z }
     ensures low { line.now.low ≤ℤ result }
     ensures small { unsigned_abs result ≤ place_limit }
 {
     let bound = least_along(hold.least, hold.most, line.axis) - margin;
-    let place = quotient(from_tip(bound, line.tip, line.square), scaled(line.scale, line.square));
+    let place = quotient(
+        from_tip(bound, line.tip, line.square),
+        scaled(line.scale, line.square),
+    );
     first_place(place, line.low)
 }
 
 /// The last place on a line of those that are held.
 fn last_end(line: &Line, hold: &Hold, margin: i128) -> i32
     requires margin { unsigned_abs margin ≤ 3 * 10 ^ 36 }
-    ensures value { (z u : ℤ) → line.now.low ≤ℤ z → z ≤ℤ line.now.high → hold.now.least ≤ℤ u → u ≤ℤ hold.now.most
+    ensures value { (z u : ℤ) → line.now.low ≤ℤ z → z ≤ℤ line.now.high
+        → hold.now.least ≤ℤ u → u ≤ℤ hold.now.most
         → ((pos line.now.scale *ℤ z -ℤ line.now.tip) *ℤ line.now.square) ≤ℤ (u *ℤ line.now.axis +ℤ margin) → z ≤ℤ result }
     ensures high { result ≤ℤ line.now.high }
     ensures small { unsigned_abs result ≤ place_limit }
 {
     let bound = most_along(hold.least, hold.most, line.axis) + margin;
-    let place = quotient(from_tip(bound, line.tip, line.square), scaled(line.scale, line.square));
+    let place = quotient(
+        from_tip(bound, line.tip, line.square),
+        scaled(line.scale, line.square),
+    );
     last_place(place, line.high)
 }
 

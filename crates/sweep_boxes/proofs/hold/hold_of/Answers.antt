@@ -31,16 +31,16 @@ returns c m k S slabs p of large among left =
     let v = middle_offset m p k S in let axis = middle_axis m k S in
     let near = c.farthest-far.ensures.value v among in
     let lift = c.lift_of-lift.ensures.value in let grow : IsGrown c.grown.result c.args.piece.now c.args.widest c.farthest-far.result =
-        subst (λ (z : ℤ). IsGrown c.grown.result c.args.piece.now z c.farthest-far.result) (to_z-of_z w32 c.args.widest w) c.grown.ensures.value in
+    subst (λ (z : ℤ). IsGrown c.grown.result c.args.piece.now z c.farthest-far.result) (to_z-of_z w32 c.args.widest w) c.grown.ensures.value in
     let held = held_on c.args.piece.now m k S slabs p c.args.widest c.args.highest c.lift_of-lift.result c.grown.result c.radius-top.result c.farthest-far.result of large left near lift grow c.radius-top.ensures.some (simp to_z-of_z at c.radius-top.ensures.value) in
     let above : (pos 0 -ℤ c.lift_of-lift.result) ≤ℤ dot v axis = above_lift c.lift_of-lift.result (dot v axis) (lift.v + lift.b) lift.total_is held.0 in
     let below : dot v axis ≤ℤ (c.radius-top.result +ℤ c.lift_of-lift.result) = below_top c.radius-top.result c.lift_of-lift.result (dot v axis) (lift.v + lift.b) lift.total_is c.radius-top.ensures.some held.1 in
     let least : c.least_of.result ≤ℤ dot v axis =
-        subst (λ (y : List ℤ). c.least_of.result ≤ℤ dot v y) of.axis
-        (c.least_of.ensures.value v among (subst (λ (y : List ℤ). (pos 0 -ℤ to_z w128 (of_z w128 c.lift_of-lift.result)) ≤ℤ dot v y) (sym of.axis) (simp to_z-of_z above))) in
+    subst (λ (y : List ℤ). c.least_of.result ≤ℤ dot v y) of.axis
+    (c.least_of.ensures.value v among (subst (λ (y : List ℤ). (pos 0 -ℤ to_z w128 (of_z w128 c.lift_of-lift.result)) ≤ℤ dot v y) (sym of.axis) (simp to_z-of_z above))) in
     let most : dot v axis ≤ℤ c.most_of.result =
-        subst (λ (y : List ℤ). dot v y ≤ℤ c.most_of.result) of.axis
-        (c.most_of.ensures.value v among (subst (λ (y : List ℤ). dot v y ≤ℤ (to_z w128 (of_z w128 c.radius-top.result) +ℤ to_z w128 (of_z w128 c.lift_of-lift.result))) (sym of.axis) (simp to_z-of_z below))) in
+    subst (λ (y : List ℤ). dot v y ≤ℤ c.most_of.result) of.axis
+    (c.most_of.ensures.value v among (subst (λ (y : List ℤ). dot v y ≤ℤ (to_z w128 (of_z w128 c.radius-top.result) +ℤ to_z w128 (of_z w128 c.lift_of-lift.result))) (sym of.axis) (simp to_z-of_z below))) in
     simp to_z-of_z
     (record {
       above = least;

@@ -1,0 +1,16 @@
+use Rattle.std.proofs.Common.{◌^◌, to_z, of_z, FitsSigned, rules}
+use Rattle.std.proofs.lemmas.Int.{to_z-of_z}
+use mir.Syntax.{w32}
+use Rattle.sweep_boxes.specs.Pieces.{AreAsLarge}
+use Rattle.sweep_boxes.proofs.boxes.part_box.Goals as goal
+
+pub returns-clause-kept : goal.returns-clause-kept
+returns-clause-kept c slabs p large inside left =
+    let wide : FitsSigned w32 c.args.size.now.widest = search rules in let tall : FitsSigned w32 c.args.size.now.highest = search rules in
+    let size : AreAsLarge (to_z w32 (of_z w32 c.args.size.now.widest)) (to_z w32 (of_z w32 c.args.size.now.highest)) slabs = simp to_z-of_z large in
+    let m = c.args.sweep.now in let k = c.args.cell in let S = 2 ^ c.args.level in
+    let once = c.narrowed-once.ensures.kept m k S slabs p c.piece_of-piece.ensures size inside left in
+    c.narrowed.ensures.kept m k S slabs p c.piece_of-piece.ensures size once left
+
+pub returns-clause-within : goal.returns-clause-within
+returns-clause-within c p inside = c.narrowed-once.ensures.within p (c.narrowed.ensures.within p inside)

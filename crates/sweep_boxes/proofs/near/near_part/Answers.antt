@@ -1,0 +1,41 @@
+use Rattle.std.proofs.Common.{◌≡◌, ◌≤◌, ◌≤ℤ◌, ◌+ℤ◌, ◌-ℤ◌, List, ℕ, ℤ, pos, true, to_z, of_z, FitsSigned, arith, rules, refl, subst, sym}
+use Rattle.std.proofs.lemmas.Int.{ints, to_z-of_z}
+use mir.Syntax.{w32, w128}
+use Rattle.space.specs.Vectors.{at, dot}
+use Rattle.space.specs.Reach.{is_in_reach, is_near}
+use Rattle.sweep_boxes.proofs.Boxed.{inner_range, reach_parts}
+use Rattle.sweep_boxes.proofs.near.near_part.Goals as goal
+
+pub returns-clause-value : goal.returns-clause-value
+returns-clause-value c p inside near =
+    let x0 : FitsSigned w32 c.near_along-x0.result.0 = search rules in
+    let x1 : FitsSigned w32 c.near_along-x0.result.1 = search rules in
+    let y0 : FitsSigned w32 c.near_along-y0.result.0 = search rules in
+    let y1 : FitsSigned w32 c.near_along-y0.result.1 = search rules in
+    let z0 : FitsSigned w32 c.near_along-z0.result.0 = search rules in
+    let z1 : FitsSigned w32 c.near_along-z0.result.1 = search rules in
+    let reach = c.ranges.reach in
+    let a = reach_parts c.args.reach c.args.from.now c.args.to.now p near in
+    let x : is_near (to_z w32 (of_z w32 c.args.reach)) (at c.args.from.now 0) (at c.args.to.now 0) (at p 0) ≡ true = simp to_z-of_z a.0 in
+    let y : is_near (to_z w32 (of_z w32 c.args.reach)) (at c.args.from.now 1) (at c.args.to.now 1) (at p 1) ≡ true = simp to_z-of_z a.1 in
+    let z : is_near (to_z w32 (of_z w32 c.args.reach)) (at c.args.from.now 2) (at c.args.to.now 2) (at p 2) ≡ true = simp to_z-of_z a.2 in
+    simp to_z-of_z (record {
+      x = record { from_least = c.near_along-x0.ensures.first (at p 0) inside.x.from_least x; to_most = c.near_along-x0.ensures.last (at p 0) inside.x.to_most x };
+      y = record { from_least = c.near_along-y0.ensures.first (at p 1) inside.y.from_least y; to_most = c.near_along-y0.ensures.last (at p 1) inside.y.to_most y };
+      z = record { from_least = c.near_along-z0.ensures.first (at p 2) inside.z.from_least z; to_most = c.near_along-z0.ensures.last (at p 2) inside.z.to_most z };
+    })
+
+pub returns-clause-within : goal.returns-clause-within
+returns-clause-within c p inside =
+    let x0 : FitsSigned w32 c.near_along-x0.result.0 = search rules in
+    let x1 : FitsSigned w32 c.near_along-x0.result.1 = search rules in
+    let y0 : FitsSigned w32 c.near_along-y0.result.0 = search rules in
+    let y1 : FitsSigned w32 c.near_along-y0.result.1 = search rules in
+    let z0 : FitsSigned w32 c.near_along-z0.result.0 = search rules in
+    let z1 : FitsSigned w32 c.near_along-z0.result.1 = search rules in
+    let here = simp to_z-of_z at inside in
+    record {
+      x = inner_range _ _ _ _ _ c.near_along-x0.ensures.least c.near_along-x0.ensures.most here.x;
+      y = inner_range _ _ _ _ _ c.near_along-y0.ensures.least c.near_along-y0.ensures.most here.y;
+      z = inner_range _ _ _ _ _ c.near_along-z0.ensures.least c.near_along-z0.ensures.most here.z;
+    }
