@@ -1,0 +1,4 @@
+pub mod Bits
+pub mod Told
+pub mod Rays
+pub mod Ready

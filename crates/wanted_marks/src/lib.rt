@@ -1,0 +1,11 @@
+//! The marks of a ray's wanted points, a word of 64 at a time.
+#![tactic(auto)]
+
+mod bits;
+mod move_marker;
+mod ray_marker;
+mod word;
+
+pub use move_marker::MoveMarker;
+pub use ray_marker::RayMarker;
+pub use word::WordMarks;
