@@ -1,3 +1,9 @@
 pub mod BitLemmas
 pub mod Telling
 pub mod Taking
+pub mod Stepping
+pub mod Fitting
+pub mod Exceeding
+pub mod Dropping
+pub mod Widest
+pub mod OnRays

@@ -1,5 +1,5 @@
 -- The points of one ray against one move of a cutter.
-use Rattle.std.specs.Prelude.{◌≡◌, ℕ, ◌+◌, ◌^◌, ◌<◌, Bool, true, ◌&&◌, if◌then◌else◌}
+use Rattle.std.specs.Prelude.{◌≡◌, ℕ, ◌+◌, ◌^◌, ◌<◌, Bool, true, false, ◌&&◌, if◌then◌else◌, List, ℤ}
 use Rattle.space.specs.Motion.{Motion}
 use Rattle.cutter_slabs.specs.Cutter.{CutterSize}
 use Rattle.cutter_marks.specs.MarkBy.{is_possible_by, is_sure_by}
@@ -25,6 +25,11 @@ pub record RayOf : Type 0 where
 pub record IsRayOf (r : RayOf) : Type 0 where
   pub on_grid : IsRay r.grid r.ray
   pub few : points_of r.grid r.ray.family < 2 ^ 32
+
+-- the point is neither sure to be cut by the move nor possible
+pub record IsClearOf (v : MoveOf) (p : List ℤ) : Type 0 where
+  pub not_sure : is_sure_by v.cutter v.slabs v.motion p (2 ^ v.depth) ≡ false
+  pub not_possible : is_possible_by v.cutter v.slabs v.motion p (2 ^ v.depth) ≡ false
 
 -- the point at an index of the ray is sure to be cut by the move, and it may be met by it
 abbrev pub is_sure_at : RayOf → ℕ → Bool

@@ -2,8 +2,13 @@
 #![tactic(auto)]
 
 mod bits;
+mod limits;
 mod move_marker;
 mod ray_marker;
+mod scalar;
+mod scaled;
+mod turn;
+mod widths;
 mod word;
 
 pub use move_marker::MoveMarker;

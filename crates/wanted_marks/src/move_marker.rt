@@ -1,35 +1,60 @@
+ghost use Rattle.std.specs.Prelude.{◌≡◌, ◌^◌, ◌≤◌};
+ghost use Rattle.bern_form.specs.Sizes.{scale_limit};
+
+use crate::limits::{greatest_diameter, limits_of};
 use crate::ray_marker::RayMarker;
+use crate::turn::Turn;
+use crate::widths::Widths;
 use axis_cells::{Mark, Sweep};
 use box_bisect::mark_point_uncounted;
 use cutter_slabs::Stacks;
 use ray_grid::{Grid, Ray};
 use std::marker::Model;
 
-/// A move of a cutter, ready to mark points of rays.
+/// A move of a cutter, ready to mark points of rays. It keeps what is the same for all of them: how the axis turns, and the
+/// limits beyond which a point is beside every outer slab throughout the move.
 #[derive(Drop)]
 pub struct MoveMarker<'a> {
     sweep: &'a Sweep,
     stacks: &'a Stacks,
     depth: u32,
+    scale: u32,
+    turn: Turn,
+    limits: [i128; 5],
+}
+
+/// How many cells a depth has: 2^depth.
+#[inline]
+fn cells_of(depth: u32) -> u32
+    requires { depth ≤ 10 }
+    ensures cells { result ≡ 2 ^ depth }
+    ensures few { result ≤ scale_limit }
+{
+    1 << depth
 }
 
 impl<'a> Model for MoveMarker<'a> {
     ghost use Rattle.wanted_marks.specs.Rays.{MoveOf};
-    ghost use Rattle.wanted_marks.specs.Ready.{IsReady};
+    ghost use Rattle.wanted_marks.specs.Ready.{IsReadyMove};
 
     ghost Value = { MoveOf };
 
     ghost view = { λ s. record { cutter = s.stacks.now.cutter; slabs = s.stacks.now.slabs; motion = s.sweep.now; depth = s.depth } };
 
-    ghost invariant = { λ s. IsReady record { cutter = s.stacks.now.cutter; slabs = s.stacks.now.slabs; motion = s.sweep.now; depth = s.depth } };
+    ghost invariant = { λ s. IsReadyMove s.scale s.turn.first s.turn.last s.turn.n.c s.limits
+        record { cutter = s.stacks.now.cutter; slabs = s.stacks.now.slabs; motion = s.sweep.now; depth = s.depth } };
 }
 
 impl<'a> MoveMarker<'a> {
-    ghost use Rattle.std.specs.Prelude.{◌≡◌, ◌^◌, ◌<◌, ◌≤◌};
+    ghost use Rattle.std.specs.Prelude.{◌≡◌, ◌^◌, ◌<◌, ◌≤◌, ℕ, ℤ, List, pos, IsTrue, All};
+    ghost use Rattle.std.specs.Option.{IfSome};
     ghost use Rattle.space.specs.Ranges.{IsPoint};
+    ghost use Rattle.bern_form.specs.Forms.{IsSmall};
     ghost use Rattle.cutter_marks.specs.MarkBy.{is_possible_by, is_sure_by};
     ghost use Rattle.ray_grid.specs.Lattice.{IsRay};
+    ghost use Rattle.wanted_marks.specs.Rays.{IsClearOf};
     ghost use Rattle.wanted_marks.specs.Told.{tells_possible, tells_sure};
+    ghost use Rattle.wanted_marks.specs.Widths.{AreWidths, quadratics, width_of};
 
     /// For marks by the stacks and the reach of a cutter, at the samples and on the cells of a depth.
     pub fn new(sweep: &'a Sweep, stacks: &'a Stacks, depth: u32) -> MoveMarker<'a>
@@ -39,10 +64,16 @@ impl<'a> MoveMarker<'a> {
         // A sweep is valid by its type, which is known where a field of it is seen; a stack tells that sure points are possible.
         let _valid = &sweep.from;
         let _stack = stacks.inner();
+        let scale = cells_of(depth);
+        let turn = Turn::of_sweep(sweep, scale);
+        let limits = limits_of(&turn.n, scale, greatest_diameter(stacks.outer()));
         MoveMarker {
             sweep,
             stacks,
             depth,
+            scale,
+            turn,
+            limits,
         }
     }
 
@@ -61,5 +92,32 @@ impl<'a> MoveMarker<'a> {
         ensures possible { tells_possible result ≡ is_possible_by self.now.cutter self.now.slabs self.now.motion point (2 ^ self.now.depth) }
     {
         mark_point_uncounted(self.sweep, self.stacks, point, self.depth)
+    }
+
+    /// The width forms along a ray of two points or more: its first two points give the line.
+    pub(crate) fn widths_on(&self, grid: &Grid, ray: &Ray) -> Option<Widths>
+        requires { IsRay grid.now ray.now }
+        ensures { IfSome result (λ w. AreWidths w.constant.c w.first.c w.second.c record { sweep = self.now; grid = grid.now; ray = ray.now }) }
+    {
+        let points = grid.points(ray.family);
+        if points < 2 {
+            return None;
+        }
+        let start = grid.point(ray, 0);
+        let next = grid.point(ray, 1);
+        // The points between the first and the last lie within a metre as these two do.
+        let _last = grid.point(ray, points - 1);
+        Some(Widths::along(self.sweep, &self.turn, &start, &next, self.scale))
+    }
+
+    /// Whether the point l steps on is beside every outer slab throughout the move. It is then neither sure nor possible.
+    #[inline]
+    pub(crate) fn is_beside(&self, widths: &Widths, l: u32) -> bool
+        requires { All IsSmall (quadratics widths.now.constant.c widths.now.first.c widths.now.second.c (pos l)) }
+        ensures { IsTrue result → (p : List ℤ)
+            → quadratics widths.now.constant.c widths.now.first.c widths.now.second.c (pos l) ≡ width_of self.now.motion p (2 ^ self.now.depth)
+            → IsClearOf self.now p }
+    {
+        widths.exceed(l, &self.limits)
     }
 }

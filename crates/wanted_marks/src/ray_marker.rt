@@ -1,5 +1,6 @@
 use crate::bits::{chosen_bits, lowest_bit, without_bit};
 use crate::move_marker::MoveMarker;
+use crate::widths::Widths;
 use crate::word::WordMarks;
 use axis_cells::Mark;
 use ray_grid::{Grid, Ray};
@@ -11,31 +12,52 @@ pub struct RayMarker<'a> {
     mover: &'a MoveMarker<'a>,
     grid: &'a Grid,
     ray: Ray,
+    widths: Option<Widths>,
 }
 
 impl<'a> Model for RayMarker<'a> {
-    ghost use Rattle.wanted_marks.specs.Rays.{IsRayOf, RayOf};
+    ghost use Rattle.wanted_marks.specs.Rays.{RayOf};
+    ghost use Rattle.wanted_marks.specs.ReadyRay.{IsReadyRay};
 
     ghost Value = { RayOf };
 
     ghost view = { λ s. record { sweep = s.mover.now; grid = s.grid.now; ray = s.ray } };
 
-    ghost invariant = { λ s. IsRayOf record { sweep = s.mover.now; grid = s.grid.now; ray = s.ray } };
+    ghost invariant = { λ s. IsReadyRay s.widths record { sweep = s.mover.now; grid = s.grid.now; ray = s.ray } };
 }
 
 impl<'a> RayMarker<'a> {
-    ghost use Rattle.std.specs.Prelude.{◌≡◌, ℕ, ◌<◌};
-    ghost use Rattle.ray_grid.specs.Lattice.{IsRay, points_of};
+    ghost use Rattle.std.specs.Prelude.{◌≡◌, ℕ, ◌<◌, IsTrue};
+    ghost use Rattle.ray_grid.specs.Lattice.{IsRay, point_of, points_of};
     ghost use Rattle.wanted_marks.specs.Bits.{has_bit};
-    ghost use Rattle.wanted_marks.specs.Rays.{AreOnRay, is_possible_at, is_possible_bit, is_sure_at, is_sure_bit, is_told_bit};
+    ghost use Rattle.wanted_marks.specs.Rays.{AreOnRay, IsClearOf, is_possible_at, is_possible_bit, is_sure_at, is_sure_bit, is_told_bit};
     ghost use Rattle.wanted_marks.specs.Told.{tells_possible, tells_sure};
 
     pub(crate) fn new(mover: &'a MoveMarker<'a>, grid: &'a Grid, ray: Ray) -> RayMarker<'a>
         requires { IsRay grid.now ray }
         ensures { result ≡ record { sweep = mover.now; grid = grid.now; ray = ray } }
     {
-        let _points = grid.points(ray.family);
-        RayMarker { mover, grid, ray }
+        let _few = grid.points(ray.family);
+        let widths = mover.widths_on(grid, &ray);
+        RayMarker {
+            mover,
+            grid,
+            ray,
+            widths,
+        }
+    }
+
+    /// Whether the point at an index is beside every outer slab throughout the move. It is then neither sure nor
+    /// possible.
+    #[inline]
+    fn is_beside(&self, l: u32) -> bool
+        requires { l < points_of self.now.grid self.now.ray.family }
+        ensures { IsTrue result → IsClearOf self.now.sweep (point_of self.now.grid self.now.ray l) }
+    {
+        match &self.widths {
+            None => false,
+            Some(widths) => self.mover.is_beside(widths, l),
+        }
     }
 
     /// The mark of the point at an index.
@@ -44,6 +66,9 @@ impl<'a> RayMarker<'a> {
         ensures sure { tells_sure result ≡ is_sure_at self.now l }
         ensures possible { tells_possible result ≡ is_possible_at self.now l }
     {
+        if self.is_beside(l) {
+            return Mark::Clear;
+        }
         self.mover.mark_point(self.grid.point(&self.ray, l))
     }
 

@@ -15,7 +15,7 @@ loop-rest-init c =
 
 pub overflow_add-first : goal.overflow_add-first
 overflow_add-first c =
-    let b = c.lowest_bit-b in let few = (subst IsRayOf c.self.view_is c.self.invariant).few in
+    let b = c.lowest_bit-b in let few = (subst IsRayOf c.self.view_is c.self.invariant.ray_of).few in
     let here = c.requires b.result b.ensures.within (c.loop-rest.invariant.wanted b.result b.ensures.within b.ensures.set) in omega (arith, few, here)
 
 pub loop-rest-preserved : goal.loop-rest-preserved

@@ -1,0 +1,110 @@
+ghost use Rattle.std.specs.Prelude.{◌≡◌, ◌*◌, ◌<◌, ◌≤◌, ℤ, List, pos, ◌+ℤ◌, ◌*ℤ◌, int_lt, unsigned_abs, All};
+ghost use Rattle.std.specs.Int.{int_wrap};
+ghost use mir.Syntax.{w128};
+ghost use Rattle.space.specs.Ranges.{IsPoint};
+ghost use Rattle.space.specs.Vectors.{at};
+ghost use Rattle.bern_form.specs.Forms.{IsSmall, all_positive, difference4};
+ghost use Rattle.bern_form.specs.Sizes.{IsBounded2, axis_limit, offset_limit, scale_limit};
+ghost use Rattle.wanted_marks.specs.Lines.{IsAlong};
+ghost use Rattle.wanted_marks.specs.Widths.{IsTurn, quadratic, quadratics, spread_form, width_of};
+
+use crate::scalar::scalar_form;
+use crate::scaled::scaled_way;
+use crate::turn::Turn;
+use axis_cells::Sweep;
+use bern_form::{Form2, Form4, minus4, scale4, times22};
+
+/// A multiple of d n - u v.
+fn spread_form(d: &Form2, n: &Form2, u: &Form2, v: &Form2, by: i128) -> Form4
+    requires d { IsBounded2 (3 * (offset_limit * offset_limit)) d.now.c }
+    requires n { IsBounded2 (3 * (axis_limit * axis_limit)) n.now.c }
+    requires u { IsBounded2 (3 * (offset_limit * axis_limit)) u.now.c }
+    requires v { IsBounded2 (3 * (offset_limit * axis_limit)) v.now.c }
+    requires by { unsigned_abs by ≤ 8 }
+    ensures { result.c ≡ spread_form by d.now.c n.now.c u.now.c v.now.c }
+{
+    scale4(&minus4(&times22(d, n), &times22(u, v)), by)
+}
+
+/// a + l x, or what is left of it in 128 bits.
+#[inline]
+fn wrapped(a: i128, l: i128, x: i128) -> i128
+    ensures { result ≡ int_wrap w128 (a +ℤ l *ℤ x) }
+{
+    l.wrapping_mul(x).wrapping_add(a)
+}
+
+/// a + b l + c l^2. The parts may be larger than what fits: where the whole fits, what wrapped comes back.
+#[inline]
+fn quadratic(a: i128, b: i128, c: i128, l: u32) -> i128
+    requires { IsSmall (quadratic a b c (pos l)) }
+    ensures { result ≡ quadratic a b c (pos l) }
+{
+    let l = i128::from(l);
+    wrapped(a, l, wrapped(b, l, c))
+}
+
+/// The width form 4 (d n - u^2) of the points of a line on a whole move: the form of the first point, and what l and l^2 are
+/// taken times in that of the point l steps on.
+#[derive(Drop)]
+pub struct Widths {
+    pub constant: Form4,
+    pub first: Form4,
+    pub second: Form4,
+}
+
+impl Widths {
+    /// Of the line through two points. Along it the offset from the tip grows by the same vector w with each step, so u by w.a
+    /// and d by 2 p.w, and |w|^2 with the square.
+    pub fn along(
+        sweep: &Sweep,
+        turn: &Turn,
+        start: &[i32; 3],
+        next: &[i32; 3],
+        scale: u32,
+    ) -> Widths
+        requires turn { IsTurn turn.now.first turn.now.last turn.now.n.c sweep.now scale }
+        requires start { IsPoint start.now }
+        requires next { IsPoint next.now }
+        requires scale { scale ≤ scale_limit }
+        ensures { (p : List ℤ) (l : ℤ) → IsAlong start.now next.now p l
+            → quadratics result.constant.c result.first.c result.second.c l ≡ width_of sweep.now p scale }
+    {
+        let from = scaled_way(scale, &sweep.from, start);
+        let to = scaled_way(scale, &sweep.to, start);
+        let step = scaled_way(scale, start, next);
+        let u = scalar_form(&from, &to, &turn.first, &turn.last);
+        let u_step = scalar_form(&step, &step, &turn.first, &turn.last);
+        let d = scalar_form(&from, &to, &from, &to);
+        let d_step = scalar_form(&from, &to, &step, &step);
+        let step_square = scalar_form(&step, &step, &step, &step);
+        Widths {
+            constant: spread_form(&d, &turn.n, &u, &u, 4),
+            first: spread_form(&d_step, &turn.n, &u, &u_step, 8),
+            second: spread_form(&step_square, &turn.n, &u_step, &u_step, 4),
+        }
+    }
+
+    /// Whether a coefficient at the point l steps on is above its limit.
+    #[inline]
+    fn is_above(&self, k: usize, l: u32, limit: i128) -> bool
+        requires place { k < 5 }
+        requires small { IsSmall (quadratic (at self.now.constant.c k) (at self.now.first.c k) (at self.now.second.c k) (pos l)) }
+        ensures { result ≡ int_lt limit (quadratic (at self.now.constant.c k) (at self.now.first.c k) (at self.now.second.c k) (pos l)) }
+    {
+        limit < quadratic(self.constant.c[k], self.first.c[k], self.second.c[k], l)
+    }
+
+    /// Whether each coefficient at the point l steps on is above its limit.
+    pub fn exceed(&self, l: u32, limits: &[i128; 5]) -> bool
+        requires { All IsSmall (quadratics self.now.constant.c self.now.first.c self.now.second.c (pos l)) }
+        ensures { result ≡ all_positive (difference4 (quadratics self.now.constant.c self.now.first.c self.now.second.c (pos l)) limits.now) }
+    {
+        for k in 0..5 {
+            if !self.is_above(k, l, limits[k]) {
+                return false;
+            }
+        }
+        true
+    }
+}
