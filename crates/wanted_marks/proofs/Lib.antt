@@ -7,3 +7,4 @@ pub mod Exceeding
 pub mod Dropping
 pub mod Widest
 pub mod OnRays
+pub mod Holding

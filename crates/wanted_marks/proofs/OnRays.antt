@@ -9,14 +9,15 @@ use Rattle.space.specs.Ranges.{IsPoint, metre}
 use Rattle.space.specs.Vectors.{at}
 use Rattle.space.proofs.Solver.{var, num, add, mul, ring}
 use Rattle.space.proofs.Terms.{sub}
+use Rattle.bern_form.specs.Between.{u_between}
 use Rattle.bern_form.specs.Forms.{IsSmall}
-use Rattle.bern_form.specs.Sizes.{scale_limit}
+use Rattle.bern_form.specs.Sizes.{axis_limit, offset_limit, scale_limit}
 use Rattle.bern_form.proofs.Sizes.{axis_within, offset_within}
 use Rattle.axis_cells.proofs.Bounds.{between_fits}
 use Rattle.ray_grid.specs.declared.ray.Family.{Family}
 use Rattle.ray_grid.specs.declared.ray.Family.TheVariants.{X, Y, Z}
 use Rattle.ray_grid.specs.Lattice.{point_at, point_of}
-use Rattle.wanted_marks.specs.Lines.{IsAlong}
+use Rattle.wanted_marks.specs.Ways.{IsAlong}
 use Rattle.wanted_marks.specs.Rays.{RayOf}
 use Rattle.wanted_marks.specs.Widths.{width_of}
 
@@ -60,3 +61,9 @@ width_small m p S sweep point few =
     (between_fits (offset_at m p (pos 0) (pos S)) (offset_at m p (pos S) (pos S)) (axis_at m (pos 0) (pos S)) (axis_at m (pos S) (pos S))
     (offset_within m p 0 S sweep point (omega arith) few) (offset_within m p S S sweep point (omega arith) few)
     (axis_within m 0 S sweep (omega arith) few) (axis_within m S S sweep (omega arith) few)).width
+
+pub height_small : (m : Motion) (p : List ℤ) (S : ℕ) → IsSweep m → IsPoint p → S ≤ scale_limit → unsigned_abs (at (u_between m p 0 S S) 2) ≤ 3 * (offset_limit * axis_limit)
+height_small m p S sweep point few =
+    (between_fits (offset_at m p (pos 0) (pos S)) (offset_at m p (pos S) (pos S)) (axis_at m (pos 0) (pos S)) (axis_at m (pos S) (pos S))
+    (offset_within m p 0 S sweep point (omega arith) few) (offset_within m p S S sweep point (omega arith) few)
+    (axis_within m 0 S sweep (omega arith) few) (axis_within m S S sweep (omega arith) few)).ahead.last

@@ -8,7 +8,7 @@ use Rattle.space.proofs.Terms.{from, sub}
 use Rattle.bern_form.specs.Between.{d_between, n_between, u_between}
 use Rattle.bern_form.specs.Cells.{dot_on_cell}
 use Rattle.bern_form.specs.Forms.{difference4, product22, scaled4}
-use Rattle.wanted_marks.specs.Lines.{IsAlong, scaled_vector, scaled_way}
+use Rattle.wanted_marks.specs.Ways.{IsAlong, scaled_vector, scaled_way}
 use Rattle.wanted_marks.specs.Widths.{IsTurn, quadratic, quadratics, spread_form, width_of}
 
 pub same3 : (a b c d e f : ℤ) → a ≡ d → b ≡ e → c ≡ f → a ∷ b ∷ c ∷ [] ≡ d ∷ e ∷ f ∷ []
@@ -177,3 +177,19 @@ widths_are m first next p S l A C n o q v u w d f g c0 c1 c2 turn line eo eq ev 
     ap (λ x. quadratics x c1 c2 l) e0 ∙ ap₂ (λ x y. quadratics (spread_form (pos 4) d n u u) x y l) e1 e2
     ∙ width_moves n u w d f g l
     ∙ ap₂ (λ x y. spread_form (pos 4) x n y y) (sym D) (sym U) ∙ ap (λ x. spread_form (pos 4) (d_between m p 0 S S) x (u_between m p 0 S S) (u_between m p 0 S S)) turn.n_is
+
+-- u at the last sample, of the point l steps on
+pub height_is : (m : Motion) (first next p : List ℤ) (S : ℕ) (l : ℤ) (A C n o q v u w : List ℤ)
+    → IsTurn A C n m S → IsAlong first next p l
+    → o ≡ scaled_way (pos S) m.from first → q ≡ scaled_way (pos S) m.to first → v ≡ scaled_way (pos S) first next
+    → u ≡ dot_on_cell o q A C → w ≡ dot_on_cell v v A C
+    → at u 2 +ℤ l *ℤ at w 2 ≡ at (u_between m p 0 S S) 2
+height_is m first next p S l A C n o q v u w turn line eo eq ev eu ew =
+    let s = pos S in
+    let P = offset_at m p (pos 0) s in let Q = offset_at m p s s in
+    let start : P ≡ moved o v l = offset_moves m first next p (pos 0) s l line ∙ ap₂ (λ x y. moved x y l) (sym (eo ∙ first_offset m first s)) (sym ev) in
+    let end : Q ≡ moved q v l = offset_moves m first next p s s l line ∙ ap₂ (λ x y. moved x y l) (sym (eq ∙ last_offset m first s)) (sym ev) in
+    let U : u_between m p 0 S S ≡ moved u w l =
+    ap₂ (λ x y. dot_on_cell x y (axis_at m (pos 0) s) (axis_at m s s)) start end ∙ ap₂ (λ x y. dot_on_cell (moved o v l) (moved q v l) x y) (sym turn.first_is) (sym turn.last_is)
+    ∙ u_moves o q A C v l ∙ ap₂ (λ x y. moved x y l) (sym eu) (sym ew) in
+    ap (λ x. at x 2) (sym U)

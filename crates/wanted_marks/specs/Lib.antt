@@ -1,8 +1,10 @@
 pub mod Bits
 pub mod Told
 pub mod Rays
-pub mod Lines
+pub mod Ways
 pub mod Widths
+pub mod Lines
 pub mod Limits
+pub mod Samples
 pub mod Ready
 pub mod ReadyRay

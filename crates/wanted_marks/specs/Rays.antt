@@ -31,6 +31,11 @@ pub record IsClearOf (v : MoveOf) (p : List ℤ) : Type 0 where
   pub not_sure : is_sure_by v.cutter v.slabs v.motion p (2 ^ v.depth) ≡ false
   pub not_possible : is_possible_by v.cutter v.slabs v.motion p (2 ^ v.depth) ≡ false
 
+-- the point is sure, and so possible
+pub record IsRemovedBy (v : MoveOf) (p : List ℤ) : Type 0 where
+  pub sure : is_sure_by v.cutter v.slabs v.motion p (2 ^ v.depth) ≡ true
+  pub possible : is_possible_by v.cutter v.slabs v.motion p (2 ^ v.depth) ≡ true
+
 -- the point at an index of the ray is sure to be cut by the move, and it may be met by it
 abbrev pub is_sure_at : RayOf → ℕ → Bool
 is_sure_at r l = is_sure_by r.sweep.cutter r.sweep.slabs r.sweep.motion (point_of r.grid r.ray l) (2 ^ r.sweep.depth)

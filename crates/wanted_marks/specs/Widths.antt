@@ -1,12 +1,10 @@
 -- How wide of the axis a point stands on a whole move: the form 4 (d n - u^2), which is four times the squared distance from the
 -- axis times n. Along a line it is a quadratic in the number of steps, coefficient by coefficient.
-use Rattle.std.specs.Prelude.{◌≡◌, ℕ, ◌^◌, ◌<◌, List, [], ◌∷◌, ℤ, pos, ◌+ℤ◌, ◌*ℤ◌, All}
+use Rattle.std.specs.Prelude.{◌≡◌, ℕ, List, [], ◌∷◌, ℤ, pos, ◌+ℤ◌, ◌*ℤ◌}
 use Rattle.space.specs.Motion.{Motion, axis_at}
 use Rattle.space.specs.Vectors.{at}
 use Rattle.bern_form.specs.Between.{d_between, n_between, u_between}
-use Rattle.bern_form.specs.Forms.{IsSmall, difference4, product22, scaled4}
-use Rattle.ray_grid.specs.Lattice.{point_of, points_of}
-use Rattle.wanted_marks.specs.Rays.{RayOf}
+use Rattle.bern_form.specs.Forms.{difference4, product22, scaled4}
 
 -- the coefficients of a multiple of d n - u v
 abbrev pub spread_form : ℤ → List ℤ → List ℤ → List ℤ → List ℤ → List ℤ
@@ -35,8 +33,3 @@ pub record IsTurn (first last n : List ℤ) (m : Motion) (S : ℕ) : Type 0 wher
   pub first_is : first ≡ axis_at m (pos 0) (pos S)
   pub last_is : last ≡ axis_at m (pos S) (pos S)
   pub n_is : n ≡ n_between m 0 S S
-
--- these quadratics are the width forms of the points of the ray, and small
-pub record AreWidths (a b c : List ℤ) (r : RayOf) : Type 0 where
-  pub width : (l : ℕ) → l < points_of r.grid r.ray.family → quadratics a b c (pos l) ≡ width_of r.sweep.motion (point_of r.grid r.ray l) (2 ^ r.sweep.depth)
-  pub small : (l : ℕ) → l < points_of r.grid r.ray.family → All IsSmall (quadratics a b c (pos l))

@@ -3,12 +3,13 @@
 
 mod bits;
 mod limits;
+mod line;
 mod move_marker;
 mod ray_marker;
+mod sample;
 mod scalar;
 mod scaled;
 mod turn;
-mod widths;
 mod word;
 
 pub use move_marker::MoveMarker;

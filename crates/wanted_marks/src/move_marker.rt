@@ -2,9 +2,10 @@ ghost use Rattle.std.specs.Prelude.{◌≡◌, ◌^◌, ◌≤◌};
 ghost use Rattle.bern_form.specs.Sizes.{scale_limit};
 
 use crate::limits::{greatest_diameter, limits_of};
+use crate::line::Line;
 use crate::ray_marker::RayMarker;
+use crate::sample::is_covered_by_some;
 use crate::turn::Turn;
-use crate::widths::Widths;
 use axis_cells::{Mark, Sweep};
 use box_bisect::mark_point_uncounted;
 use cutter_slabs::Stacks;
@@ -46,15 +47,14 @@ impl<'a> Model for MoveMarker<'a> {
 }
 
 impl<'a> MoveMarker<'a> {
-    ghost use Rattle.std.specs.Prelude.{◌≡◌, ◌^◌, ◌<◌, ◌≤◌, ℕ, ℤ, List, pos, IsTrue, All};
+    ghost use Rattle.std.specs.Prelude.{◌≡◌, ◌^◌, ◌<◌, ◌≤◌, ℕ, ℤ, List, pos, IsTrue};
     ghost use Rattle.std.specs.Option.{IfSome};
     ghost use Rattle.space.specs.Ranges.{IsPoint};
-    ghost use Rattle.bern_form.specs.Forms.{IsSmall};
     ghost use Rattle.cutter_marks.specs.MarkBy.{is_possible_by, is_sure_by};
     ghost use Rattle.ray_grid.specs.Lattice.{IsRay};
-    ghost use Rattle.wanted_marks.specs.Rays.{IsClearOf};
+    ghost use Rattle.wanted_marks.specs.Lines.{FitsAt, HasForms, IsLineOf};
+    ghost use Rattle.wanted_marks.specs.Rays.{IsClearOf, IsRemovedBy};
     ghost use Rattle.wanted_marks.specs.Told.{tells_possible, tells_sure};
-    ghost use Rattle.wanted_marks.specs.Widths.{AreWidths, quadratics, width_of};
 
     /// For marks by the stacks and the reach of a cutter, at the samples and on the cells of a depth.
     pub fn new(sweep: &'a Sweep, stacks: &'a Stacks, depth: u32) -> MoveMarker<'a>
@@ -94,10 +94,10 @@ impl<'a> MoveMarker<'a> {
         mark_point_uncounted(self.sweep, self.stacks, point, self.depth)
     }
 
-    /// The width forms along a ray of two points or more: its first two points give the line.
-    pub(crate) fn widths_on(&self, grid: &Grid, ray: &Ray) -> Option<Widths>
+    /// The line through the points of a ray, where it has two or more.
+    pub(crate) fn line_of(&self, grid: &Grid, ray: &Ray) -> Option<Line>
         requires { IsRay grid.now ray.now }
-        ensures { IfSome result (λ w. AreWidths w.constant.c w.first.c w.second.c record { sweep = self.now; grid = grid.now; ray = ray.now }) }
+        ensures { IfSome result (λ line. IsLineOf line record { sweep = self.now; grid = grid.now; ray = ray.now }) }
     {
         let points = grid.points(ray.family);
         if points < 2 {
@@ -107,17 +107,30 @@ impl<'a> MoveMarker<'a> {
         let next = grid.point(ray, 1);
         // The points between the first and the last lie within a metre as these two do.
         let _last = grid.point(ray, points - 1);
-        Some(Widths::along(self.sweep, &self.turn, &start, &next, self.scale))
+        Some(Line::through(&start, &next, self.sweep, &self.turn, self.scale))
     }
 
     /// Whether the point l steps on is beside every outer slab throughout the move. It is then neither sure nor possible.
     #[inline]
-    pub(crate) fn is_beside(&self, widths: &Widths, l: u32) -> bool
-        requires { All IsSmall (quadratics widths.now.constant.c widths.now.first.c widths.now.second.c (pos l)) }
-        ensures { IsTrue result → (p : List ℤ)
-            → quadratics widths.now.constant.c widths.now.first.c widths.now.second.c (pos l) ≡ width_of self.now.motion p (2 ^ self.now.depth)
-            → IsClearOf self.now p }
+    pub(crate) fn is_beside(&self, line: &Line, l: u32) -> bool
+        requires { FitsAt line.now (pos l) }
+        ensures { IsTrue result → (p : List ℤ) → HasForms line.now (pos l) self.now.motion p (2 ^ self.now.depth) → IsClearOf self.now p }
     {
-        widths.exceed(l, &self.limits)
+        line.exceed(l, &self.limits)
+    }
+
+    /// Whether some inner slab holds the point l steps on at the last sample. It is then sure.
+    #[inline]
+    pub(crate) fn is_held_last(&self, line: &Line, l: u32) -> bool
+        requires { FitsAt line.now (pos l) }
+        ensures { IsTrue result → (p : List ℤ) → HasForms line.now (pos l) self.now.motion p (2 ^ self.now.depth) → IsRemovedBy self.now p }
+    {
+        is_covered_by_some(
+            self.stacks.inner(),
+            self.scale,
+            line.last_height(l),
+            self.turn.n.c[2],
+            line.last_width(l),
+        )
     }
 }

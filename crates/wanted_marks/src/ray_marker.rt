@@ -1,6 +1,6 @@
 use crate::bits::{chosen_bits, lowest_bit, without_bit};
+use crate::line::Line;
 use crate::move_marker::MoveMarker;
-use crate::widths::Widths;
 use crate::word::WordMarks;
 use axis_cells::Mark;
 use ray_grid::{Grid, Ray};
@@ -12,7 +12,7 @@ pub struct RayMarker<'a> {
     mover: &'a MoveMarker<'a>,
     grid: &'a Grid,
     ray: Ray,
-    widths: Option<Widths>,
+    line: Option<Line>,
 }
 
 impl<'a> Model for RayMarker<'a> {
@@ -23,14 +23,14 @@ impl<'a> Model for RayMarker<'a> {
 
     ghost view = { λ s. record { sweep = s.mover.now; grid = s.grid.now; ray = s.ray } };
 
-    ghost invariant = { λ s. IsReadyRay s.widths record { sweep = s.mover.now; grid = s.grid.now; ray = s.ray } };
+    ghost invariant = { λ s. IsReadyRay s.line record { sweep = s.mover.now; grid = s.grid.now; ray = s.ray } };
 }
 
 impl<'a> RayMarker<'a> {
     ghost use Rattle.std.specs.Prelude.{◌≡◌, ℕ, ◌<◌, IsTrue};
     ghost use Rattle.ray_grid.specs.Lattice.{IsRay, point_of, points_of};
     ghost use Rattle.wanted_marks.specs.Bits.{has_bit};
-    ghost use Rattle.wanted_marks.specs.Rays.{AreOnRay, IsClearOf, is_possible_at, is_possible_bit, is_sure_at, is_sure_bit, is_told_bit};
+    ghost use Rattle.wanted_marks.specs.Rays.{AreOnRay, IsClearOf, IsRemovedBy, is_possible_at, is_possible_bit, is_sure_at, is_sure_bit, is_told_bit};
     ghost use Rattle.wanted_marks.specs.Told.{tells_possible, tells_sure};
 
     pub(crate) fn new(mover: &'a MoveMarker<'a>, grid: &'a Grid, ray: Ray) -> RayMarker<'a>
@@ -38,12 +38,12 @@ impl<'a> RayMarker<'a> {
         ensures { result ≡ record { sweep = mover.now; grid = grid.now; ray = ray } }
     {
         let _few = grid.points(ray.family);
-        let widths = mover.widths_on(grid, &ray);
+        let line = mover.line_of(grid, &ray);
         RayMarker {
             mover,
             grid,
             ray,
-            widths,
+            line,
         }
     }
 
@@ -54,9 +54,21 @@ impl<'a> RayMarker<'a> {
         requires { l < points_of self.now.grid self.now.ray.family }
         ensures { IsTrue result → IsClearOf self.now.sweep (point_of self.now.grid self.now.ray l) }
     {
-        match &self.widths {
+        match &self.line {
             None => false,
-            Some(widths) => self.mover.is_beside(widths, l),
+            Some(line) => self.mover.is_beside(line, l),
+        }
+    }
+
+    /// Whether some inner slab holds the point at an index at the last sample. It is then sure.
+    #[inline]
+    fn is_held_last(&self, l: u32) -> bool
+        requires { l < points_of self.now.grid self.now.ray.family }
+        ensures { IsTrue result → IsRemovedBy self.now.sweep (point_of self.now.grid self.now.ray l) }
+    {
+        match &self.line {
+            None => false,
+            Some(line) => self.mover.is_held_last(line, l),
         }
     }
 
@@ -68,6 +80,9 @@ impl<'a> RayMarker<'a> {
     {
         if self.is_beside(l) {
             return Mark::Clear;
+        }
+        if self.is_held_last(l) {
+            return Mark::Removed;
         }
         self.mover.mark_point(self.grid.point(&self.ray, l))
     }

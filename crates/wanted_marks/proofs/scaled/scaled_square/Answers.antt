@@ -8,4 +8,4 @@ returns-clause-square c = search rules
 
 pub returns-clause-small : goal.returns-clause-small
 returns-clause-small c =
-    subst (λ (z : ℤ). unsigned_abs z ≤ length_limit * length_limit) (sym (returns-clause-square c)) (square_small c.args.scale c.args.diameter c.requires.scale c.requires.diameter)
+    subst (λ (z : ℤ). unsigned_abs z ≤ length_limit * length_limit) (sym (returns-clause-square c)) (square_small c.args.scale c.args.length c.requires.scale c.requires.length)

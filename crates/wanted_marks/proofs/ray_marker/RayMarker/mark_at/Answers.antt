@@ -6,3 +6,9 @@ returns-then-is_beside-clause-sure c = sym (c.is_beside.ensures c.if-is_beside.t
 
 pub returns-then-is_beside-clause-possible : goal.returns-then-is_beside-clause-possible
 returns-then-is_beside-clause-possible c = sym (c.is_beside.ensures c.if-is_beside.true).not_possible
+
+pub returns-then-is_held_last-clause-sure : goal.returns-then-is_held_last-clause-sure
+returns-then-is_held_last-clause-sure c = sym (c.is_held_last.ensures c.if-is_held_last.true).sure
+
+pub returns-then-is_held_last-clause-possible : goal.returns-then-is_held_last-clause-possible
+returns-then-is_held_last-clause-possible c = sym (c.is_held_last.ensures c.if-is_held_last.true).possible

@@ -2,7 +2,7 @@ use Rattle.std.proofs.Common.{ℤ, ◌≡◌, arith, ◌+ℤ◌, ◌*ℤ◌, ◌
 use Rattle.std.proofs.lemmas.Int.{ints, wrapping_add_onto, int_wrap-add_left, wrapping_mul_is}
 use Rattle.std.specs.Int.{int_wrap}
 use mir.Syntax.{w128}
-use Rattle.wanted_marks.proofs.widths.wrapped.Goals as goal
+use Rattle.wanted_marks.proofs.line.wrapped.Goals as goal
 
 turned : (a b : ℤ) → a +ℤ b ≡ b +ℤ a
 turned a b = omega (arith, ints)

@@ -6,10 +6,10 @@ use Rattle.space.specs.Vectors.{at}
 use Rattle.wanted_marks.specs.Widths.{quadratic, quadratics}
 use Rattle.wanted_marks.proofs.Exceeding.{all_more, one_not_more}
 use Rattle.wanted_marks.proofs.Fitting.{at_quadratics, small_at}
-use Rattle.wanted_marks.proofs.widths.Widths.exceed.Goals as goal
+use Rattle.wanted_marks.proofs.line.Line.exceed.Goals as goal
 
 pub is_above-requires-clause-small : goal.is_above-requires-clause-small
-is_above-requires-clause-small c = let s = c.args.self.now in small_at s.constant.c s.first.c s.second.c (pos c.args.l) c.loop-k.k c.loop-k-test.true c.requires
+is_above-requires-clause-small c = let s = c.args.self.now in small_at s.constant.c s.first.c s.second.c (pos c.args.l) c.loop-k.k c.loop-k-test.true c.requires.width
 
 pub returns-then-not-is_above : goal.returns-then-not-is_above
 returns-then-not-is_above c =

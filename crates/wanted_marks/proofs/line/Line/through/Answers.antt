@@ -3,10 +3,12 @@ use Rattle.space.specs.Motion.{Motion}
 use Rattle.space.specs.Ranges.{IsWithin}
 use Rattle.bern_form.specs.Sizes.{IsBounded2, axis_limit, offset_limit}
 use Rattle.axis_cells.proofs.Bounds.{cross_bounded}
-use Rattle.wanted_marks.specs.Lines.{IsAlong}
-use Rattle.wanted_marks.specs.Widths.{IsTurn, quadratics, width_of}
-use Rattle.wanted_marks.proofs.Stepping.{widths_are}
-use Rattle.wanted_marks.proofs.widths.Widths.along.Goals as goal
+use Rattle.wanted_marks.specs.Ways.{IsAlong}
+use Rattle.wanted_marks.specs.declared.line.Line.{Line}
+use Rattle.wanted_marks.specs.Lines.{HasForms}
+use Rattle.wanted_marks.specs.Widths.{IsTurn}
+use Rattle.wanted_marks.proofs.Stepping.{height_is, widths_are}
+use Rattle.wanted_marks.proofs.line.Line.through.Goals as goal
 
 pub spread_form-requires-clause-d : goal.spread_form-requires-clause-d
 spread_form-requires-clause-d c =
@@ -56,13 +58,17 @@ spread_form-requires-3-clause-v c =
 pub returns : goal.returns
 returns c = λ p l line.
     let s = c.sweep.inside in let t = c.args.turn.now in
-    let here = λ (m : Motion). quadratics c.spread_form.result.c c.spread_form-2.result.c c.spread_form-3.result.c l ≡ width_of m p c.args.scale in
+    let made : Line = record { constant = c.spread_form.result; first = c.spread_form-2.result; second = c.spread_form-3.result; height = c.scalar_form-u.result; height_step = c.scalar_form-u_step.result } in
     let inside : Motion = record { from = s.from; to = s.to; axis_from = s.axis_from; axis_to = s.axis_to } in
-    subst here c.sweep.view_is
-    (widths_are inside c.args.start.now c.args.next.now p c.args.scale l t.first t.last t.n.c c.scaled_way-from.result c.scaled_way-to.result c.scaled_way-step.result
-    c.scalar_form-u.result.c c.scalar_form-u_step.result.c c.scalar_form-d.result.c c.scalar_form-d_step.result.c c.scalar_form-step_square.result.c
-    c.spread_form.result.c c.spread_form-2.result.c c.spread_form-3.result.c
-    (subst (λ (m : Motion). IsTurn t.first t.last t.n.c m c.args.scale) (sym c.sweep.view_is) c.requires.turn) line
-    c.scaled_way-from.ensures.way c.scaled_way-to.ensures.way c.scaled_way-step.ensures.way
-    c.scalar_form-u.ensures c.scalar_form-u_step.ensures c.scalar_form-d.ensures c.scalar_form-d_step.ensures c.scalar_form-step_square.ensures
-    c.spread_form.ensures c.spread_form-2.ensures c.spread_form-3.ensures)
+    let turn = subst (λ (m : Motion). IsTurn t.first t.last t.n.c m c.args.scale) (sym c.sweep.view_is) c.requires.turn in
+    subst (λ (m : Motion). HasForms made l m p c.args.scale) c.sweep.view_is record {
+      width = widths_are inside c.args.start.now c.args.next.now p c.args.scale l t.first t.last t.n.c c.scaled_way-from.result c.scaled_way-to.result c.scaled_way-step.result
+          c.scalar_form-u.result.c c.scalar_form-u_step.result.c c.scalar_form-d.result.c c.scalar_form-d_step.result.c c.scalar_form-step_square.result.c
+          c.spread_form.result.c c.spread_form-2.result.c c.spread_form-3.result.c turn line
+          c.scaled_way-from.ensures.way c.scaled_way-to.ensures.way c.scaled_way-step.ensures.way
+          c.scalar_form-u.ensures c.scalar_form-u_step.ensures c.scalar_form-d.ensures c.scalar_form-d_step.ensures c.scalar_form-step_square.ensures
+          c.spread_form.ensures c.spread_form-2.ensures c.spread_form-3.ensures;
+      height = height_is inside c.args.start.now c.args.next.now p c.args.scale l t.first t.last t.n.c c.scaled_way-from.result c.scaled_way-to.result c.scaled_way-step.result
+          c.scalar_form-u.result.c c.scalar_form-u_step.result.c turn line
+          c.scaled_way-from.ensures.way c.scaled_way-to.ensures.way c.scaled_way-step.ensures.way c.scalar_form-u.ensures c.scalar_form-u_step.ensures;
+    }

@@ -4,7 +4,7 @@ use mir.Syntax.{w128}
 use Rattle.bern_form.specs.Forms.{difference4, scaled4}
 use Rattle.bern_form.proofs.Sizes.{small_as}
 use Rattle.wanted_marks.proofs.Fitting.{spread_fits}
-use Rattle.wanted_marks.proofs.widths.spread_form.Goals as goal
+use Rattle.wanted_marks.proofs.line.spread_form.Goals as goal
 
 pub times22-requires : goal.times22-requires
 times22-requires c = let a = c.args in let r = c.requires in (spread_fits a.by a.d.now.c a.n.now.c a.u.now.c a.v.now.c r.d r.n r.u r.v r.by).first

@@ -1,15 +1,15 @@
-use Rattle.std.proofs.Common.{◌≡◌, ℕ, ℤ, List, pos, ◌-◌, ◌≤◌, ◌<◌, ◌^◌, arith, subst, sym, ap, ap₂, ◌∙◌}
+use Rattle.std.proofs.Common.{◌≡◌, ℕ, ℤ, List, pos, unsigned_abs, ◌-◌, ◌*◌, ◌≤◌, ◌<◌, ◌^◌, arith, subst, sym, ap, ap₂, ◌∙◌}
 use Rattle.space.specs.Motion.{IsSweep, Motion}
 use Rattle.space.specs.Ranges.{IsPoint}
-use Rattle.bern_form.specs.Sizes.{scale_limit}
+use Rattle.bern_form.specs.Sizes.{axis_limit, offset_limit, scale_limit}
 use Rattle.bern_form.proofs.Sizes.{small_as}
 use Rattle.ray_grid.specs.Lattice.{point_of, points_of}
-use Rattle.wanted_marks.specs.Lines.{IsAlong}
-use Rattle.wanted_marks.specs.Rays.{RayOf}
+use Rattle.wanted_marks.specs.Ways.{IsAlong}
+use Rattle.wanted_marks.specs.Lines.{HasForms}
+use Rattle.wanted_marks.specs.Rays.{MoveOf, RayOf}
 use Rattle.wanted_marks.specs.Ready.{IsReadyMove}
-use Rattle.wanted_marks.specs.Widths.{quadratics, width_of}
-use Rattle.wanted_marks.proofs.OnRays.{along_ray, point_between, width_small}
-use Rattle.wanted_marks.proofs.move_marker.MoveMarker.widths_on.Goals as goal
+use Rattle.wanted_marks.proofs.OnRays.{along_ray, height_small, point_between, width_small}
+use Rattle.wanted_marks.proofs.move_marker.MoveMarker.line_of.Goals as goal
 
 pub returns : goal.returns
 returns c =
@@ -17,17 +17,21 @@ returns c =
     let r : RayOf = record { sweep = v; grid = c.args.grid.now; ray = c.args.ray.now } in
     let ready = subst (IsReadyMove s.scale s.turn.first s.turn.last s.turn.n.c s.limits) c.self.view_is c.self.invariant in
     let S = 2 ^ v.depth in let few : S ≤ scale_limit = subst (λ k. k ≤ scale_limit) ready.scale_is ready.few in
-    let w = c.along.result in
+    let w = c.through.result in
     let start = c.point-start in let next = c.point-next in let last = c.point-last in
     let line = λ (l : ℕ). subst (λ (a : List ℤ). IsAlong a next.result (point_of r.grid r.ray l) (pos l)) (sym start.ensures.position)
     (subst (λ (a : List ℤ). IsAlong (point_of r.grid r.ray 0) a (point_of r.grid r.ray l) (pos l)) (sym next.ensures.position) (along_ray r l)) in
-    let width = λ (l : ℕ).
-    c.along.ensures (point_of r.grid r.ray l) (pos l) (line l) ∙ ap₂ (λ m k. width_of m (point_of r.grid r.ray l) k) (ap (λ x. x.motion) c.self.view_is) ready.scale_is in
+    let forms = λ (l : ℕ).
+    subst (λ k. HasForms w (pos l) v.motion (point_of r.grid r.ray l) k) ready.scale_is
+    (subst (λ (x : MoveOf). HasForms w (pos l) x.motion (point_of r.grid r.ray l) s.scale) c.self.view_is (c.through.ensures (point_of r.grid r.ray l) (pos l) (line l))) in
     let end = c.points-points.result - 1 in
     let point = λ (l : ℕ) (below : l < points_of r.grid r.ray.family).
     point_between start.result next.result (point_of r.grid r.ray l) last.result l end (omega (arith, below, c.points-points.ensures)) (line l)
     (subst (λ (a : List ℤ). IsAlong start.result next.result a (pos end)) (sym last.ensures.position) (line end)) start.ensures.near last.ensures.near in
     record {
-      width = λ l below. width l;
-      small = λ l below. small_as (width l) (width_small v.motion (point_of r.grid r.ray l) S ready.valid (point l below) few);
+      fits = λ l below. record {
+        width = small_as (forms l).width (width_small v.motion (point_of r.grid r.ray l) S ready.valid (point l below) few);
+        height = subst (λ z. unsigned_abs z ≤ 3 * (offset_limit * axis_limit)) (sym (forms l).height) (height_small v.motion (point_of r.grid r.ray l) S ready.valid (point l below) few);
+      };
+      forms = λ l below. forms l;
     }

@@ -4,7 +4,7 @@ use Rattle.std.proofs.lemmas.Int.{int_wrap_fits, int_wrap-add_right, int_wrap-mu
 use Rattle.std.specs.Int.{int_wrap}
 use mir.Syntax.{w128}
 use Rattle.wanted_marks.specs.Widths.{quadratic}
-use Rattle.wanted_marks.proofs.widths.quadratic.Goals as goal
+use Rattle.wanted_marks.proofs.line.quadratic.Goals as goal
 
 unwrapped : (a b c l : ℤ) → FitsSigned w128 (quadratic a b c l) → int_wrap w128 (a +ℤ l *ℤ int_wrap w128 (b +ℤ l *ℤ c)) ≡ quadratic a b c l
 unwrapped a b c l fits =

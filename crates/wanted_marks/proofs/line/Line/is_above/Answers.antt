@@ -3,7 +3,7 @@ use Rattle.std.proofs.lemmas.Int.{to_z-of_z}
 use mir.Syntax.{w128}
 use Rattle.space.specs.Vectors.{at}
 use Rattle.wanted_marks.specs.Widths.{quadratic}
-use Rattle.wanted_marks.proofs.widths.Widths.is_above.Goals as goal
+use Rattle.wanted_marks.proofs.line.Line.is_above.Goals as goal
 
 pub returns : goal.returns
 returns c =

@@ -1,12 +1,13 @@
-ghost use Rattle.std.specs.Prelude.{◌≡◌, ◌*◌, ◌<◌, ◌≤◌, ℤ, List, pos, ◌+ℤ◌, ◌*ℤ◌, int_lt, unsigned_abs, All};
+ghost use Rattle.std.specs.Prelude.{◌≡◌, ◌*◌, ◌<◌, ◌≤◌, ℤ, List, pos, ◌+ℤ◌, ◌*ℤ◌, int_lt, unsigned_abs};
 ghost use Rattle.std.specs.Int.{int_wrap};
 ghost use mir.Syntax.{w128};
 ghost use Rattle.space.specs.Ranges.{IsPoint};
 ghost use Rattle.space.specs.Vectors.{at};
 ghost use Rattle.bern_form.specs.Forms.{IsSmall, all_positive, difference4};
 ghost use Rattle.bern_form.specs.Sizes.{IsBounded2, axis_limit, offset_limit, scale_limit};
-ghost use Rattle.wanted_marks.specs.Lines.{IsAlong};
-ghost use Rattle.wanted_marks.specs.Widths.{IsTurn, quadratic, quadratics, spread_form, width_of};
+ghost use Rattle.wanted_marks.specs.Ways.{IsAlong};
+ghost use Rattle.wanted_marks.specs.Lines.{FitsAt, HasForms, last_height_at, width_at};
+ghost use Rattle.wanted_marks.specs.Widths.{IsTurn, quadratic, spread_form};
 
 use crate::scalar::scalar_form;
 use crate::scaled::scaled_way;
@@ -44,31 +45,32 @@ fn quadratic(a: i128, b: i128, c: i128, l: u32) -> i128
     wrapped(a, l, wrapped(b, l, c))
 }
 
-/// The width form 4 (d n - u^2) of the points of a line on a whole move: the form of the first point, and what l and l^2 are
-/// taken times in that of the point l steps on.
+/// The forms of the points of a line on a whole move. The width form 4 (d n - u^2) is kept as that of the first point, and as
+/// what l and l^2 are taken times in that of the point l steps on; u as that of the first point and what l is taken times.
 #[derive(Drop)]
-pub struct Widths {
+pub struct Line {
     pub constant: Form4,
     pub first: Form4,
     pub second: Form4,
+    pub height: Form2,
+    pub height_step: Form2,
 }
 
-impl Widths {
-    /// Of the line through two points. Along it the offset from the tip grows by the same vector w with each step, so u by w.a
+impl Line {
+    /// The line through two points. Along it the offset from the tip grows by the same vector w with each step, so u by w.a
     /// and d by 2 p.w, and |w|^2 with the square.
-    pub fn along(
-        sweep: &Sweep,
-        turn: &Turn,
+    pub fn through(
         start: &[i32; 3],
         next: &[i32; 3],
+        sweep: &Sweep,
+        turn: &Turn,
         scale: u32,
-    ) -> Widths
-        requires turn { IsTurn turn.now.first turn.now.last turn.now.n.c sweep.now scale }
+    ) -> Line
         requires start { IsPoint start.now }
         requires next { IsPoint next.now }
+        requires turn { IsTurn turn.now.first turn.now.last turn.now.n.c sweep.now scale }
         requires scale { scale ≤ scale_limit }
-        ensures { (p : List ℤ) (l : ℤ) → IsAlong start.now next.now p l
-            → quadratics result.constant.c result.first.c result.second.c l ≡ width_of sweep.now p scale }
+        ensures { (p : List ℤ) (l : ℤ) → IsAlong start.now next.now p l → HasForms result l sweep.now p scale }
     {
         let from = scaled_way(scale, &sweep.from, start);
         let to = scaled_way(scale, &sweep.to, start);
@@ -78,10 +80,12 @@ impl Widths {
         let d = scalar_form(&from, &to, &from, &to);
         let d_step = scalar_form(&from, &to, &step, &step);
         let step_square = scalar_form(&step, &step, &step, &step);
-        Widths {
+        Line {
             constant: spread_form(&d, &turn.n, &u, &u, 4),
             first: spread_form(&d_step, &turn.n, &u, &u_step, 8),
             second: spread_form(&step_square, &turn.n, &u_step, &u_step, 4),
+            height: u,
+            height_step: u_step,
         }
     }
 
@@ -97,8 +101,8 @@ impl Widths {
 
     /// Whether each coefficient at the point l steps on is above its limit.
     pub fn exceed(&self, l: u32, limits: &[i128; 5]) -> bool
-        requires { All IsSmall (quadratics self.now.constant.c self.now.first.c self.now.second.c (pos l)) }
-        ensures { result ≡ all_positive (difference4 (quadratics self.now.constant.c self.now.first.c self.now.second.c (pos l)) limits.now) }
+        requires { FitsAt self.now (pos l) }
+        ensures { result ≡ all_positive (difference4 (width_at self.now (pos l)) limits.now) }
     {
         for k in 0..5 {
             if !self.is_above(k, l, limits[k]) {
@@ -106,5 +110,23 @@ impl Widths {
             }
         }
         true
+    }
+
+    /// u at the last sample, of the point l steps on.
+    #[inline]
+    pub fn last_height(&self, l: u32) -> i128
+        requires { FitsAt self.now (pos l) }
+        ensures { result ≡ last_height_at self.now (pos l) }
+    {
+        wrapped(self.height.c[2], i128::from(l), self.height_step.c[2])
+    }
+
+    /// 4 (d n - u^2) at the last sample, of the point l steps on.
+    #[inline]
+    pub fn last_width(&self, l: u32) -> i128
+        requires { FitsAt self.now (pos l) }
+        ensures { result ≡ at (width_at self.now (pos l)) 4 }
+    {
+        quadratic(self.constant.c[4], self.first.c[4], self.second.c[4], l)
     }
 }
