@@ -4,7 +4,9 @@ pub mod Rays
 pub mod Ways
 pub mod Widths
 pub mod Lines
+pub mod Sheets
 pub mod Limits
 pub mod Samples
 pub mod Ready
 pub mod ReadyRay
+pub mod Strips

@@ -9,9 +9,12 @@ mod ray_marker;
 mod sample;
 mod scalar;
 mod scaled;
+mod sheet;
+mod strip_marker;
 mod turn;
 mod word;
 
 pub use move_marker::MoveMarker;
 pub use ray_marker::RayMarker;
+pub use strip_marker::StripMarker;
 pub use word::WordMarks;

@@ -5,8 +5,8 @@ ghost use Rattle.space.specs.Ranges.{IsPoint};
 ghost use Rattle.space.specs.Vectors.{at};
 ghost use Rattle.bern_form.specs.Forms.{IsSmall, all_positive, difference4};
 ghost use Rattle.bern_form.specs.Sizes.{IsBounded2, axis_limit, offset_limit, scale_limit};
-ghost use Rattle.wanted_marks.specs.Ways.{IsAlong};
-ghost use Rattle.wanted_marks.specs.Lines.{FitsAt, HasForms, last_height_at, width_at};
+ghost use Rattle.wanted_marks.specs.Ways.{scaled_way};
+ghost use Rattle.wanted_marks.specs.Lines.{FitsAt, IsThrough, last_height_at, width_at};
 ghost use Rattle.wanted_marks.specs.Widths.{IsTurn, quadratic, spread_form};
 
 use crate::scalar::scalar_form;
@@ -16,7 +16,7 @@ use axis_cells::Sweep;
 use bern_form::{Form2, Form4, minus4, scale4, times22};
 
 /// A multiple of d n - u v.
-fn spread_form(d: &Form2, n: &Form2, u: &Form2, v: &Form2, by: i128) -> Form4
+pub fn spread_form(d: &Form2, n: &Form2, u: &Form2, v: &Form2, by: i128) -> Form4
     requires d { IsBounded2 (3 * (offset_limit * offset_limit)) d.now.c }
     requires n { IsBounded2 (3 * (axis_limit * axis_limit)) n.now.c }
     requires u { IsBounded2 (3 * (offset_limit * axis_limit)) u.now.c }
@@ -29,7 +29,7 @@ fn spread_form(d: &Form2, n: &Form2, u: &Form2, v: &Form2, by: i128) -> Form4
 
 /// a + l x, or what is left of it in 128 bits.
 #[inline]
-fn wrapped(a: i128, l: i128, x: i128) -> i128
+pub fn wrapped(a: i128, l: i128, x: i128) -> i128
     ensures { result ≡ int_wrap w128 (a +ℤ l *ℤ x) }
 {
     l.wrapping_mul(x).wrapping_add(a)
@@ -37,7 +37,7 @@ fn wrapped(a: i128, l: i128, x: i128) -> i128
 
 /// a + b l + c l^2. The parts may be larger than what fits: where the whole fits, what wrapped comes back.
 #[inline]
-fn quadratic(a: i128, b: i128, c: i128, l: u32) -> i128
+pub fn quadratic(a: i128, b: i128, c: i128, l: u32) -> i128
     requires { IsSmall (quadratic a b c (pos l)) }
     ensures { result ≡ quadratic a b c (pos l) }
 {
@@ -70,7 +70,7 @@ impl Line {
         requires next { IsPoint next.now }
         requires turn { IsTurn turn.now.first turn.now.last turn.now.n.c sweep.now scale }
         requires scale { scale ≤ scale_limit }
-        ensures { (p : List ℤ) (l : ℤ) → IsAlong start.now next.now p l → HasForms result l sweep.now p scale }
+        ensures { IsThrough result sweep.now start.now (scaled_way (pos scale) start.now next.now) scale }
     {
         let from = scaled_way(scale, &sweep.from, start);
         let to = scaled_way(scale, &sweep.to, start);

@@ -5,11 +5,13 @@ use crate::limits::{greatest_diameter, limits_of};
 use crate::line::Line;
 use crate::ray_marker::RayMarker;
 use crate::sample::is_covered_by_some;
+use crate::sheet::Sheet;
+use crate::strip_marker::StripMarker;
 use crate::turn::Turn;
 use axis_cells::{Mark, Sweep};
 use box_bisect::mark_point_uncounted;
 use cutter_slabs::Stacks;
-use ray_grid::{Grid, Ray};
+use ray_grid::{Family, Grid, Ray};
 use std::marker::Model;
 
 /// A move of a cutter, ready to mark points of rays. It keeps what is the same for all of them: how the axis turns, and the
@@ -51,9 +53,11 @@ impl<'a> MoveMarker<'a> {
     ghost use Rattle.std.specs.Option.{IfSome};
     ghost use Rattle.space.specs.Ranges.{IsPoint};
     ghost use Rattle.cutter_marks.specs.MarkBy.{is_possible_by, is_sure_by};
-    ghost use Rattle.ray_grid.specs.Lattice.{IsRay};
+    ghost use Rattle.ray_grid.specs.Families.{first_axis};
+    ghost use Rattle.ray_grid.specs.Lattice.{IsRay, nodes_of};
     ghost use Rattle.wanted_marks.specs.Lines.{FitsAt, HasForms, IsLineOf};
     ghost use Rattle.wanted_marks.specs.Rays.{IsClearOf, IsRemovedBy};
+    ghost use Rattle.wanted_marks.specs.Strips.{IsSheetOf};
     ghost use Rattle.wanted_marks.specs.Told.{tells_possible, tells_sure};
 
     /// For marks by the stacks and the reach of a cutter, at the samples and on the cells of a depth.
@@ -85,6 +89,14 @@ impl<'a> MoveMarker<'a> {
         RayMarker::new(self, grid, ray)
     }
 
+    /// For the points of the rays of one strip, those of a family with the node i.
+    pub fn on_strip(&'a self, grid: &'a Grid, family: Family, i: u32) -> StripMarker<'a>
+        requires { i < nodes_of grid.now (first_axis family) }
+        ensures { result ≡ record { sweep = self.now; grid = grid.now; family = family; i = i } }
+    {
+        StripMarker::new(self, grid, family, i)
+    }
+
     /// The mark of one point.
     pub(crate) fn mark_point(&self, point: [i32; 3]) -> Mark
         requires { IsPoint point }
@@ -108,6 +120,41 @@ impl<'a> MoveMarker<'a> {
         // The points between the first and the last lie within a metre as these two do.
         let _last = grid.point(ray, points - 1);
         Some(Line::through(&start, &next, self.sweep, &self.turn, self.scale))
+    }
+
+    /// The sheet through the points of a strip, where it has two rays of two points or more.
+    pub(crate) fn sheet_of(&self, grid: &Grid, family: Family, i: u32) -> Option<Sheet>
+        ensures { IfSome result (λ sheet. IsSheetOf sheet record { sweep = self.now; grid = grid.now; family = family; i = i }) }
+    {
+        let first = Ray { family, i, j: 0 };
+        let second = Ray { family, i, j: 1 };
+        if !grid.has_point(&first, 1) {
+            return None;
+        }
+        if !grid.has_point(&second, 0) {
+            return None;
+        }
+        let start = grid.point(&first, 0);
+        let next = grid.point(&first, 1);
+        let beside = grid.point(&second, 0);
+        Some(Sheet::through(&start, &next, &beside, self.sweep, &self.turn, self.scale))
+    }
+
+    /// The line through the points of a ray, where it has two or more, from the sheet of its strip.
+    pub(crate) fn line_on(&self, sheet: &Sheet, grid: &Grid, ray: &Ray) -> Option<Line>
+        requires ray { IsRay grid.now ray.now }
+        requires sheet { IsSheetOf sheet.now record { sweep = self.now; grid = grid.now; family = ray.now.family; i = ray.now.i } }
+        ensures { IfSome result (λ line. IsLineOf line record { sweep = self.now; grid = grid.now; ray = ray.now }) }
+    {
+        let points = grid.points(ray.family);
+        if points < 2 {
+            return None;
+        }
+        // The points between the first and the last lie within a metre as these two do; a move is valid by its type.
+        let _start = grid.point(ray, 0);
+        let _last = grid.point(ray, points - 1);
+        let _valid = &self.depth;
+        Some(sheet.line(ray.j))
     }
 
     /// Whether the point l steps on is beside every outer slab throughout the move. It is then neither sure nor possible.

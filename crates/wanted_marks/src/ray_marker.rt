@@ -28,8 +28,10 @@ impl<'a> Model for RayMarker<'a> {
 
 impl<'a> RayMarker<'a> {
     ghost use Rattle.std.specs.Prelude.{◌≡◌, ℕ, ◌<◌, IsTrue};
+    ghost use Rattle.std.specs.Option.{IfSome};
     ghost use Rattle.ray_grid.specs.Lattice.{IsRay, point_of, points_of};
     ghost use Rattle.wanted_marks.specs.Bits.{has_bit};
+    ghost use Rattle.wanted_marks.specs.Lines.{IsLineOf};
     ghost use Rattle.wanted_marks.specs.Rays.{AreOnRay, IsClearOf, IsRemovedBy, is_possible_at, is_possible_bit, is_sure_at, is_sure_bit, is_told_bit};
     ghost use Rattle.wanted_marks.specs.Told.{tells_possible, tells_sure};
 
@@ -37,8 +39,22 @@ impl<'a> RayMarker<'a> {
         requires { IsRay grid.now ray }
         ensures { result ≡ record { sweep = mover.now; grid = grid.now; ray = ray } }
     {
-        let _few = grid.points(ray.family);
         let line = mover.line_of(grid, &ray);
+        RayMarker::with_line(mover, grid, ray, line)
+    }
+
+    /// With the line through its points, where that is known.
+    pub(crate) fn with_line(
+        mover: &'a MoveMarker<'a>,
+        grid: &'a Grid,
+        ray: Ray,
+        line: Option<Line>,
+    ) -> RayMarker<'a>
+        requires ray { IsRay grid.now ray }
+        requires line { IfSome line (λ x. IsLineOf x record { sweep = mover.now; grid = grid.now; ray = ray }) }
+        ensures { result ≡ record { sweep = mover.now; grid = grid.now; ray = ray } }
+    {
+        let _few = grid.points(ray.family);
         RayMarker {
             mover,
             grid,

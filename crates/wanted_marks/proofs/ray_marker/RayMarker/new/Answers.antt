@@ -1,5 +1,0 @@
-use Rattle.std.proofs.Common.{◌<◌, ◌^◌, arith}
-use Rattle.wanted_marks.proofs.ray_marker.RayMarker.new.Goals as goal
-
-pub invariant_of-result : goal.invariant_of-result
-invariant_of-result c = record { ray_of = record { on_grid = c.requires; few = omega (arith, c.points-few.ensures) }; line_of = c.line_of-line.ensures }
