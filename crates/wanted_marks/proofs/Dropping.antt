@@ -1,7 +1,6 @@
 -- What is beside all outer slabs on the whole move is neither sure nor possible.
-use Rattle.std.proofs.Common.{◌≡◌, true, false, ℕ, zero, suc, ◌+◌, ◌^◌, ◌≤◌, ◌<◌, List, ℤ, pos, ◌-ℤ◌, ◌<ℤ◌, ◌≤ℤ◌, inr, arith, subst, ⊎_elim, Bool}
-use Rattle.std.specs.List.{Contains}
-use Rattle.std.proofs.lemmas.Bool.{and_right, cases_Bool, both_ways}
+use Rattle.std.proofs.Common.{◌≡◌, true, false, ℕ, zero, suc, ◌+◌, ◌^◌, ◌<◌, List, ℤ, pos, ◌-ℤ◌, ◌<ℤ◌, ◌≤ℤ◌, inr, arith, subst, Bool}
+use Rattle.std.proofs.lemmas.Bool.{and_right}
 use Rattle.std.proofs.lemmas.Int.{ints}
 use Rattle.std.proofs.lemmas.List.Elements.{All-contains}
 use Rattle.space.specs.Reach.{is_in_reach}
@@ -9,7 +8,6 @@ use Rattle.space.specs.Vectors.{at}
 use Rattle.bern_form.specs.Between.{n_between}
 use Rattle.bern_form.specs.Forms.{all_positive, difference4}
 use Rattle.bern_form.specs.Marks.{is_left_on, is_left_on_cell}
-use Rattle.bern_form.specs.Slab.{SlabSize}
 use Rattle.bern_form.proofs.Decided.{decides_positive, none_below}
 use Rattle.bern_form.proofs.Finer.{AllOut, left_on_none}
 use Rattle.bern_form.proofs.Relations.{AllPositive}

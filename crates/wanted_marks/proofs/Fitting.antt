@@ -1,11 +1,11 @@
 -- Numbers along a line that fit their types.
-use Rattle.std.proofs.Common.{◌≡◌, ℕ, zero, suc, ◌+◌, ◌*◌, ◌^◌, ◌≤◌, ◌<◌, [], ◌∷◌, List, ℤ, pos, ◌*ℤ◌, ◌-ℤ◌, unsigned_abs, arith, subst, refl}
+use Rattle.std.proofs.Common.{◌≡◌, ℕ, zero, suc, ◌+◌, ◌*◌, ◌≤◌, ◌<◌, List, ℤ, pos, ◌*ℤ◌, ◌-ℤ◌, unsigned_abs, arith, subst, refl}
 use Rattle.std.specs.List.{All}
 use Rattle.space.specs.Ranges.{IsPoint, IsWithin, axis_unit}
 use Rattle.space.specs.Vectors.{at}
 use Rattle.space.proofs.Naturals.{abs_mul, abs_sub}
 use Rattle.bern_form.specs.Cells.{scaled_square}
-use Rattle.bern_form.specs.Forms.{IsSmall, difference4, product22, scaled4}
+use Rattle.bern_form.specs.Forms.{IsSmall, difference4, product22}
 use Rattle.bern_form.specs.Sizes.{IsBounded2, IsBounded4, axis_limit, length_limit, offset_limit, scale_limit}
 use Rattle.bern_form.proofs.Sizes.{difference4_bounded, product22_bounded, scaled4_bounded}
 use Rattle.axis_cells.proofs.Bounds.{list4}

@@ -1,7 +1,7 @@
 -- What an inner slab holds at the last sample is sure.
-use Rattle.std.proofs.Common.{◌≡◌, true, ℕ, ◌+◌, ◌^◌, ◌<◌, List, ℤ, pos, ◌*ℤ◌, arith, subst, sym, refl, ap, ap₂, ◌∙◌}
+use Rattle.std.proofs.Common.{◌≡◌, true, ℕ, ◌+◌, ◌^◌, List, ℤ, pos, ◌*ℤ◌, arith, subst, sym, refl, ap₂, ◌∙◌}
 use Rattle.space.specs.Motion.{Motion, axis_at, offset_at}
-use Rattle.space.specs.Vectors.{at, dot, spread}
+use Rattle.space.specs.Vectors.{at, spread}
 use Rattle.bern_form.specs.Between.{n_between, u_between}
 use Rattle.bern_form.specs.Marks.{held_at_sample, some_holds}
 use Rattle.bern_form.specs.Slab.{SlabSize}

@@ -1,19 +1,18 @@
 -- Along a line the offset from the tip is linear in the number of steps, so the coefficients of u are linear in it and those of d
 -- and of 4 (d n - u^2) quadratic.
-use Rattle.std.proofs.Common.{◌≡◌, ℕ, zero, suc, ◌+◌, ◌<◌, [], ◌∷◌, List, ℤ, pos, ◌+ℤ◌, ◌*ℤ◌, ◌-ℤ◌, arith, refl, ap, ap₂, sym, ◌∙◌}
+use Rattle.std.proofs.Common.{◌≡◌, ℕ, zero, suc, [], ◌∷◌, List, ℤ, pos, ◌+ℤ◌, ◌*ℤ◌, ◌-ℤ◌, refl, ap, ap₂, sym, ◌∙◌}
 use Rattle.space.specs.Motion.{Motion, axis_at, between, offset, offset_at}
 use Rattle.space.specs.Vectors.{at}
 use Rattle.space.proofs.Solver.{Term, var, num, add, mul, ring}
 use Rattle.space.proofs.Terms.{from, sub}
 use Rattle.bern_form.specs.Between.{d_between, n_between, u_between}
 use Rattle.bern_form.specs.Cells.{dot_on_cell}
-use Rattle.bern_form.specs.Forms.{difference4, product22, scaled4}
 use Rattle.wanted_marks.specs.declared.line.Line.{Line}
 use Rattle.wanted_marks.specs.declared.sheet.Sheet.{Sheet}
 use Rattle.wanted_marks.specs.Lines.{HasForms, IsThrough, d_step, u_step, width_at}
 use Rattle.wanted_marks.specs.Sheets.{IsLineOn, IsSheet}
 use Rattle.wanted_marks.specs.Ways.{IsAlong, scaled_vector, scaled_way}
-use Rattle.wanted_marks.specs.Widths.{IsTurn, moved3, moved5, quadratic, quadratics, spread_form, width_of}
+use Rattle.wanted_marks.specs.Widths.{IsTurn, moved3, moved5, quadratics, spread_form, width_of}
 
 pub same3 : (a b c d e f : ℤ) → a ≡ d → b ≡ e → c ≡ f → a ∷ b ∷ c ∷ [] ≡ d ∷ e ∷ f ∷ []
 same3 a b c d e f h k l = ap (λ z. z ∷ b ∷ c ∷ []) h ∙ ap (λ z. d ∷ z ∷ c ∷ []) k ∙ ap (λ z. d ∷ e ∷ z ∷ []) l

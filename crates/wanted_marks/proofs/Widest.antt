@@ -6,7 +6,6 @@ use Rattle.std.proofs.lemmas.Int.{ints}
 use Rattle.std.proofs.lemmas.List.Elements.{All-weaker}
 use Rattle.std.proofs.Math.Nat.{mul-le-mul}
 use Rattle.space.specs.Vectors.{at}
-use Rattle.space.proofs.Naturals.{natural}
 use Rattle.space.proofs.Solver.{Term, var, num, add, mul, ring}
 use Rattle.space.proofs.Terms.{from}
 use Rattle.space.proofs.Tests.{decides_lt}

@@ -1,4 +1,4 @@
-use Rattle.std.proofs.Common.{ℕ, ◌<◌, ◌^◌, arith}
+use Rattle.std.proofs.Common.{◌<◌, ◌^◌, arith}
 use Rattle.wanted_marks.proofs.BitLemmas.{bits_chosen}
 use Rattle.wanted_marks.proofs.bits.chosen_bits.Goals as goal
 

@@ -1,4 +1,4 @@
-use Rattle.std.proofs.Common.{ℕ, ◌<◌, ◌^◌, arith}
+use Rattle.std.proofs.Common.{◌<◌, ◌^◌, arith}
 use Rattle.wanted_marks.proofs.BitLemmas.{lowest}
 use Rattle.wanted_marks.proofs.bits.lowest_bit.Goals as goal
 

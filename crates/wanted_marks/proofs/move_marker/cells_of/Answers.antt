@@ -1,4 +1,4 @@
-use Rattle.std.proofs.Common.{ℕ, ◌^◌, ◌*◌, ◌%◌, ◌<◌, ◌≤◌, ◌≡◌, arith, subst, sym}
+use Rattle.std.proofs.Common.{ℕ, ◌^◌, ◌*◌, ◌%◌, ◌≤◌, ◌≡◌, arith, subst, sym}
 use Rattle.std.proofs.Math.Pow.{pow_mono}
 use Rattle.wanted_marks.proofs.move_marker.cells_of.Goals as goal
 

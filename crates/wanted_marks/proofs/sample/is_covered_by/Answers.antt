@@ -1,4 +1,4 @@
-use Rattle.std.proofs.Common.{◌≡◌, ℤ, pos, ◌*ℤ◌, ◌&&◌, int_le, FitsSigned, rules, ap, subst, ◌∙◌}
+use Rattle.std.proofs.Common.{◌≡◌, pos, ◌*ℤ◌, ◌&&◌, int_le, FitsSigned, rules, ap, subst, ◌∙◌}
 use Rattle.std.proofs.lemmas.Int.{to_z-of_z}
 use mir.Syntax.{w32, w128}
 use Rattle.bern_form.specs.Slab.{SlabSize, covers}

@@ -1,4 +1,4 @@
-use Rattle.std.proofs.Common.{◌≡◌, ◌≤◌, ◌*◌, ℤ, unsigned_abs, rules, subst, sym}
+use Rattle.std.proofs.Common.{◌≤◌, ◌*◌, ℤ, unsigned_abs, rules, subst, sym}
 use Rattle.bern_form.specs.Sizes.{length_limit}
 use Rattle.wanted_marks.proofs.Fitting.{square_small}
 use Rattle.wanted_marks.proofs.scaled.scaled_square.Goals as goal

@@ -1,4 +1,4 @@
-use Rattle.std.proofs.Common.{◌≡◌, pos, ◌+ℤ◌, ◌*ℤ◌, FitsSigned, arith, rules, ap, ◌∙◌}
+use Rattle.std.proofs.Common.{pos, ◌+ℤ◌, ◌*ℤ◌, FitsSigned, arith, rules, ap, ◌∙◌}
 use Rattle.std.proofs.lemmas.Int.{fits_signed_from_abs, int_wrap_fits, to_z-of_z}
 use Rattle.std.specs.Int.{int_wrap}
 use mir.Syntax.{w128}

@@ -1,9 +1,8 @@
-use Rattle.std.proofs.Common.{◌≡◌, ℕ, ℤ, ◌+◌, ◌<◌, pos, int_lt, true, false, FitsSigned, arith, rules, subst, sym, ap, ◌∙◌}
+use Rattle.std.proofs.Common.{pos, int_lt, FitsSigned, arith, rules, sym, ap, ◌∙◌}
 use Rattle.std.proofs.lemmas.Int.{to_z-of_z}
 use mir.Syntax.{w128}
-use borrow.Author.Count.{below_more}
 use Rattle.space.specs.Vectors.{at}
-use Rattle.wanted_marks.specs.Widths.{quadratic, quadratics}
+use Rattle.wanted_marks.specs.Widths.{quadratics}
 use Rattle.wanted_marks.proofs.Exceeding.{all_more, one_not_more}
 use Rattle.wanted_marks.proofs.Fitting.{at_quadratics, small_at}
 use Rattle.wanted_marks.proofs.line.Line.exceed.Goals as goal

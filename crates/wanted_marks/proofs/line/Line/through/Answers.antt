@@ -1,6 +1,5 @@
-use Rattle.std.proofs.Common.{◌*◌, ◌≡◌, List, ℤ, pos, refl, subst, sym}
+use Rattle.std.proofs.Common.{◌*◌, List, ℤ, pos, refl, subst, sym}
 use Rattle.space.specs.Motion.{Motion}
-use Rattle.space.specs.Ranges.{IsWithin}
 use Rattle.bern_form.specs.Sizes.{IsBounded2, axis_limit, offset_limit}
 use Rattle.axis_cells.proofs.Bounds.{cross_bounded}
 use Rattle.wanted_marks.specs.Ways.{scaled_way}

@@ -1,4 +1,4 @@
-use Rattle.std.proofs.Common.{◌≡◌, true, ap, subst, sym, ◌∙◌}
+use Rattle.std.proofs.Common.{ap, subst, sym, ◌∙◌}
 use Rattle.bern_form.specs.Forms.{all_positive, difference4}
 use Rattle.wanted_marks.specs.Ready.{IsReadyMove}
 use Rattle.wanted_marks.proofs.Dropping.{is_clear}

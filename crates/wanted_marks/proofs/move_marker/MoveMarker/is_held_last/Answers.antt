@@ -1,4 +1,4 @@
-use Rattle.std.proofs.Common.{◌≡◌, ℤ, pos, ◌^◌, FitsSigned, rules, ap, ap₂, subst, sym, ◌∙◌, true}
+use Rattle.std.proofs.Common.{pos, ◌^◌, FitsSigned, rules, ap, subst, sym, ◌∙◌}
 use Rattle.std.proofs.lemmas.Int.{to_z-of_z}
 use mir.Syntax.{w128}
 use Rattle.space.specs.Motion.{axis_at, offset_at}

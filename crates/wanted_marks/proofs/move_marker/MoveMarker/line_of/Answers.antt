@@ -1,4 +1,4 @@
-use Rattle.std.proofs.Common.{◌≡◌, ℕ, ℤ, List, pos, ◌+◌, ◌-◌, ◌≤◌, arith, subst}
+use Rattle.std.proofs.Common.{ℤ, List, pos, ◌-◌, arith, subst}
 use Rattle.space.specs.Ranges.{IsPoint}
 use Rattle.ray_grid.specs.Lattice.{point_of}
 use Rattle.wanted_marks.specs.Lines.{IsThrough}

@@ -1,4 +1,4 @@
-use Rattle.std.proofs.Common.{◌≡◌, ℕ, pos, ◌+◌, ◌-◌, ◌≤◌, ◌^◌, arith, refl, subst}
+use Rattle.std.proofs.Common.{pos, ◌-◌, ◌≤◌, ◌^◌, arith, refl, subst}
 use Rattle.space.specs.Ranges.{IsPoint}
 use Rattle.bern_form.specs.Sizes.{scale_limit}
 use Rattle.ray_grid.specs.Lattice.{point_at, point_of}
@@ -6,7 +6,7 @@ use Rattle.wanted_marks.specs.Rays.{RayOf}
 use Rattle.wanted_marks.specs.Ready.{IsReadyMove}
 use Rattle.wanted_marks.specs.Strips.{StripOf, way_to}
 use Rattle.wanted_marks.proofs.OnRays.{across_rays, line_of_ray, ray_fits}
-use Rattle.wanted_marks.proofs.Stepping.{HasRay, line_is, ray_is}
+use Rattle.wanted_marks.proofs.Stepping.{line_is, ray_is}
 use Rattle.wanted_marks.proofs.move_marker.MoveMarker.line_on.Goals as goal
 
 pub line-requires : goal.line-requires

@@ -1,4 +1,4 @@
-use Rattle.std.proofs.Common.{◌≡◌, ℕ, ℤ, List, pos, true, ◌<◌, ◌≤◌, ◌^◌, FitsSigned, arith, rules, subst, sym, ap, ap₂, ◌∙◌}
+use Rattle.std.proofs.Common.{◌≡◌, ℕ, List, true, ◌<◌, ◌≤◌, ◌^◌, FitsSigned, arith, rules, subst, sym, ap, ap₂, ◌∙◌}
 use Rattle.std.specs.List.{All}
 use Rattle.std.proofs.Math.Pow.{pow_mono}
 use Rattle.std.proofs.lemmas.Int.{to_z-of_z}
@@ -8,7 +8,7 @@ use Rattle.bern_form.specs.Between.{n_between}
 use Rattle.bern_form.specs.Marks.{held_at_sample}
 use Rattle.bern_form.specs.Slab.{SlabSize}
 use Rattle.cutter_marks.specs.MarkBy.{is_possible_by, is_sure_by}
-use Rattle.wanted_marks.specs.Limits.{IsNoWider, IsWithinLimits, all_not_below_zero, raised_square}
+use Rattle.wanted_marks.specs.Limits.{IsNoWider, all_not_below_zero, raised_square}
 use Rattle.wanted_marks.proofs.Widest.{all_within}
 use Rattle.wanted_marks.proofs.move_marker.MoveMarker.new.Goals as goal
 

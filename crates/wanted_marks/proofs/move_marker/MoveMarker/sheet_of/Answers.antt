@@ -1,4 +1,4 @@
-use Rattle.std.proofs.Common.{◌≡◌, ℕ, ◌^◌, ◌≤◌, List, ℤ, pos, ap, subst}
+use Rattle.std.proofs.Common.{ℕ, List, ℤ, pos, ap, subst}
 use Rattle.space.specs.Motion.{Motion}
 use Rattle.space.specs.Ranges.{IsWithin}
 use Rattle.bern_form.specs.Sizes.{offset_limit}

@@ -1,4 +1,4 @@
-use Rattle.std.proofs.Common.{◌≡◌, ℕ, ◌+◌, ◌<◌, ◌^◌, true, arith, ap, subst, ◌∙◌}
+use Rattle.std.proofs.Common.{◌+◌, arith, ap, subst, ◌∙◌}
 use Rattle.wanted_marks.specs.Bits.{has_bit}
 use Rattle.wanted_marks.specs.Rays.{IsRayOf, is_possible_at, is_sure_at}
 use Rattle.wanted_marks.proofs.BitLemmas.{has_bit-zero}

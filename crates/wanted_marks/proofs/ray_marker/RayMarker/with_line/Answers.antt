@@ -1,4 +1,4 @@
-use Rattle.std.proofs.Common.{◌<◌, ◌^◌, arith}
+use Rattle.std.proofs.Common.{arith}
 use Rattle.wanted_marks.proofs.ray_marker.RayMarker.with_line.Goals as goal
 
 pub invariant_of-result : goal.invariant_of-result

@@ -1,4 +1,4 @@
-use Rattle.std.proofs.Common.{◌≡◌, ◌*◌, List, pos, ap, ap₂, subst, sym, ◌∙◌}
+use Rattle.std.proofs.Common.{◌*◌, pos, ap, ap₂, subst, sym, ◌∙◌}
 use Rattle.bern_form.specs.Between.{n_between}
 use Rattle.bern_form.specs.Cells.{dot_on_cell}
 use Rattle.bern_form.specs.Sizes.{IsBounded2, axis_limit, offset_limit}
