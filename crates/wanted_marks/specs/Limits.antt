@@ -22,7 +22,13 @@ abbrev pub not_below_zero : ℤ → ℤ
 not_below_zero z = if int_lt z (pos 0) then pos 0 else z
 
 abbrev pub all_not_below_zero : List ℤ → List ℤ
-all_not_below_zero c = not_below_zero (at c 0) ∷ not_below_zero (at c 1) ∷ not_below_zero (at c 2) ∷ not_below_zero (at c 3) ∷ not_below_zero (at c 4) ∷ []
+all_not_below_zero c =
+    not_below_zero (at c 0)
+    ∷ not_below_zero (at c 1)
+    ∷ not_below_zero (at c 2)
+    ∷ not_below_zero (at c 3)
+    ∷ not_below_zero (at c 4)
+    ∷ []
 
 -- no coefficient of dia^2 n raised to degree 4 is above its limit
 pub record IsWithinLimits (limits n : List ℤ) (S : ℕ) (s : SlabSize) : Type 0 where
@@ -30,4 +36,6 @@ pub record IsWithinLimits (limits n : List ℤ) (S : ℕ) (s : SlabSize) : Type 
 
 -- for each outer slab of the cutter, on the whole move
 abbrev pub AreLimits : List ℤ → MoveOf → Type 0
-AreLimits limits v = All (IsWithinLimits limits (n_between v.motion 0 (2 ^ v.depth) (2 ^ v.depth)) (2 ^ v.depth)) (outer_stack v.cutter v.slabs)
+AreLimits limits v =
+    let S = 2 ^ v.depth in
+    All (IsWithinLimits limits (n_between v.motion 0 S S) S) (outer_stack v.cutter v.slabs)

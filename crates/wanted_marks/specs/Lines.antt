@@ -8,8 +8,8 @@ use Rattle.bern_form.specs.Forms.{IsSmall}
 use Rattle.bern_form.specs.Sizes.{axis_limit, offset_limit}
 use Rattle.ray_grid.specs.Lattice.{point_of, points_of}
 use Rattle.wanted_marks.specs.declared.line.Line.{Line}
-use Rattle.wanted_marks.specs.Rays.{RayOf}
-use Rattle.wanted_marks.specs.Widths.{quadratics, spread_form, width_of}
+use Rattle.wanted_marks.specs.Rays.{MoveOf, RayOf}
+use Rattle.wanted_marks.specs.Widths.{quadratic, quadratics, spread_form, width_of}
 
 -- the width form, and u at the last sample
 abbrev pub width_at : Line → ℤ → List ℤ
@@ -17,6 +17,10 @@ width_at line l = quadratics line.constant.c line.first.c line.second.c l
 
 abbrev pub last_height_at : Line → ℤ → ℤ
 last_height_at line l = at line.height.c 2 +ℤ l *ℤ at line.height_step.c 2
+
+-- a coefficient of the width form
+abbrev pub coefficient_at : Line → ℕ → ℤ → ℤ
+coefficient_at line k l = quadratic (at line.constant.c k) (at line.first.c k) (at line.second.c k) l
 
 -- they fit 128 bits
 pub record FitsAt (line : Line) (l : ℤ) : Type 0 where
@@ -28,10 +32,14 @@ pub record HasForms (line : Line) (l : ℤ) (m : Motion) (p : List ℤ) (S : ℕ
   pub width : width_at line l ≡ width_of m p S
   pub height : last_height_at line l ≡ at (u_between m p 0 S S) 2
 
+-- on a move of a cutter, at the cells of its depth
+abbrev pub HasFormsIn : Line → ℤ → MoveOf → List ℤ → Type 0
+HasFormsIn line l v p = HasForms line l v.motion p (2 ^ v.depth)
+
 -- the line runs through the points of the ray
 pub record IsLineOf (line : Line) (r : RayOf) : Type 0 where
   pub fits : (l : ℕ) → l < points_of r.grid r.ray.family → FitsAt line (pos l)
-  pub forms : (l : ℕ) → l < points_of r.grid r.ray.family → HasForms line (pos l) r.sweep.motion (point_of r.grid r.ray l) (2 ^ r.sweep.depth)
+  pub forms : (l : ℕ) → l < points_of r.grid r.ray.family → HasFormsIn line (pos l) r.sweep (point_of r.grid r.ray l)
 
 -- what u grows by with a step v, which is taken times S; and half of what d grows by, from the point s on, but for |v|^2
 abbrev pub u_step : Motion → List ℤ → ℕ → List ℤ

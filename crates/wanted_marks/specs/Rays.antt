@@ -2,6 +2,7 @@
 use Rattle.std.specs.Prelude.{◌≡◌, ℕ, ◌+◌, ◌^◌, ◌<◌, Bool, true, false, ◌&&◌, if◌then◌else◌, List, ℤ}
 use Rattle.space.specs.Motion.{Motion}
 use Rattle.cutter_slabs.specs.Cutter.{CutterSize}
+use Rattle.cutter_slabs.specs.Stacks.{StacksOf}
 use Rattle.cutter_marks.specs.MarkBy.{is_possible_by, is_sure_by}
 use Rattle.ray_grid.specs.declared.grid.Grid.{Grid}
 use Rattle.ray_grid.specs.declared.ray.Ray.{Ray}
@@ -14,6 +15,17 @@ pub record MoveOf : Type 0 where
   pub slabs : ℕ
   pub motion : Motion
   pub depth : ℕ
+
+-- by the stacks of the cutter
+abbrev pub move_of : StacksOf → Motion → ℕ → MoveOf
+move_of stacks motion depth = record { cutter = stacks.cutter; slabs = stacks.slabs; motion = motion; depth = depth }
+
+-- the point p is sure to be cut by the move, and it may be met by it
+abbrev pub is_sure_in : MoveOf → List ℤ → Bool
+is_sure_in v p = is_sure_by v.cutter v.slabs v.motion p (2 ^ v.depth)
+
+abbrev pub is_possible_in : MoveOf → List ℤ → Bool
+is_possible_in v p = is_possible_by v.cutter v.slabs v.motion p (2 ^ v.depth)
 
 -- a ray of a grid, and a move of a cutter
 pub record RayOf : Type 0 where
@@ -28,20 +40,20 @@ pub record IsRayOf (r : RayOf) : Type 0 where
 
 -- the point is neither sure to be cut by the move nor possible
 pub record IsClearOf (v : MoveOf) (p : List ℤ) : Type 0 where
-  pub not_sure : is_sure_by v.cutter v.slabs v.motion p (2 ^ v.depth) ≡ false
-  pub not_possible : is_possible_by v.cutter v.slabs v.motion p (2 ^ v.depth) ≡ false
+  pub not_sure : is_sure_in v p ≡ false
+  pub not_possible : is_possible_in v p ≡ false
 
 -- the point is sure, and so possible
 pub record IsRemovedBy (v : MoveOf) (p : List ℤ) : Type 0 where
-  pub sure : is_sure_by v.cutter v.slabs v.motion p (2 ^ v.depth) ≡ true
-  pub possible : is_possible_by v.cutter v.slabs v.motion p (2 ^ v.depth) ≡ true
+  pub sure : is_sure_in v p ≡ true
+  pub possible : is_possible_in v p ≡ true
 
--- the point at an index of the ray is sure to be cut by the move, and it may be met by it
+-- the point at an index of the ray is sure, and possible
 abbrev pub is_sure_at : RayOf → ℕ → Bool
-is_sure_at r l = is_sure_by r.sweep.cutter r.sweep.slabs r.sweep.motion (point_of r.grid r.ray l) (2 ^ r.sweep.depth)
+is_sure_at r l = is_sure_in r.sweep (point_of r.grid r.ray l)
 
 abbrev pub is_possible_at : RayOf → ℕ → Bool
-is_possible_at r l = is_possible_by r.sweep.cutter r.sweep.slabs r.sweep.motion (point_of r.grid r.ray l) (2 ^ r.sweep.depth)
+is_possible_at r l = is_possible_in r.sweep (point_of r.grid r.ray l)
 
 -- each bit of the word, the lowest of which is the index `first`, is a point of the ray
 abbrev pub AreOnRay : RayOf → ℕ → ℕ → Type 0

@@ -7,6 +7,7 @@ use Rattle.bern_form.specs.Forms.{IsSmall}
 use Rattle.wanted_marks.specs.declared.line.Line.{Line}
 use Rattle.wanted_marks.specs.declared.sheet.Sheet.{Sheet}
 use Rattle.wanted_marks.specs.Lines.{IsThrough, u_step, width_at}
+use Rattle.wanted_marks.specs.Ways.{scaled_way}
 use Rattle.wanted_marks.specs.Widths.{moved3, moved5, spread_form}
 
 -- the sheet begins at the point s; along a line it goes on by the step v, from a line to the next by the step t
@@ -14,6 +15,10 @@ pub record IsSheet (sheet : Sheet) (m : Motion) (s v t : List ℤ) (S : ℕ) : T
   pub along : IsThrough sheet.along m s v S
   pub across : IsThrough sheet.across m s t S
   pub mixed : sheet.mixed.c ≡ spread_form (pos 8) (dot_on_cell t t v v) (n_between m 0 S S) (u_step m t S) (u_step m v S)
+
+-- the sheet begins at the point `start`; a line goes on to `next`, and the next line begins at `beside`
+abbrev pub IsSheetThrough : Sheet → Motion → List ℤ → List ℤ → List ℤ → ℕ → Type 0
+IsSheetThrough sheet m start next beside S = IsSheet sheet m start (scaled_way (pos S) start next) (scaled_way (pos S) start beside) S
 
 -- what differs from line to line of a sheet fits, at line j
 pub record FitsOn (sheet : Sheet) (j : ℤ) : Type 0 where

@@ -8,8 +8,8 @@ use Rattle.ray_grid.specs.declared.ray.Family.{Family}
 use Rattle.ray_grid.specs.Families.{first_axis}
 use Rattle.ray_grid.specs.Lattice.{nodes_of, point_at}
 use Rattle.wanted_marks.specs.declared.sheet.Sheet.{Sheet}
-use Rattle.wanted_marks.specs.Rays.{MoveOf}
-use Rattle.wanted_marks.specs.Sheets.{IsSheet}
+use Rattle.wanted_marks.specs.Rays.{MoveOf, RayOf}
+use Rattle.wanted_marks.specs.Sheets.{IsSheetThrough}
 use Rattle.wanted_marks.specs.Ways.{scaled_way}
 
 -- the rays of a family with the node i, and a move of a cutter
@@ -19,13 +19,21 @@ pub record StripOf : Type 0 where
   pub family : Family
   pub i : ℕ
 
--- the way from point 0 of ray 0 of the strip to point l of ray j, times S
+-- the ray with the node j
+abbrev pub ray_at : StripOf → ℕ → RayOf
+ray_at s j = record { sweep = s.sweep; grid = s.grid; ray = record { family = s.family; i = s.i; j = j } }
+
+-- point l of ray j of the strip
+abbrev pub strip_point : StripOf → ℕ → ℕ → List ℤ
+strip_point s j l = point_at s.grid s.family s.i j l
+
+-- the way from point 0 of ray 0 to point l of ray j, times S
 abbrev pub way_to : StripOf → ℕ → ℕ → ℕ → List ℤ
-way_to s j l S = scaled_way (pos S) (point_at s.grid s.family s.i 0 0) (point_at s.grid s.family s.i j l)
+way_to s j l S = scaled_way (pos S) (strip_point s 0 0) (strip_point s j l)
 
 -- the sheet runs through the points of the strip, by steps that are no longer than an offset can be
 pub record IsSheetOf (sheet : Sheet) (s : StripOf) : Type 0 where
-  pub forms : IsSheet sheet s.sweep.motion (point_at s.grid s.family s.i 0 0) (way_to s 0 1 (2 ^ s.sweep.depth)) (way_to s 1 0 (2 ^ s.sweep.depth)) (2 ^ s.sweep.depth)
+  pub forms : IsSheetThrough sheet s.sweep.motion (strip_point s 0 0) (strip_point s 0 1) (strip_point s 1 0) (2 ^ s.sweep.depth)
   pub within : IsWithin offset_limit (way_to s 0 1 (2 ^ s.sweep.depth))
 
 -- it is a strip of the grid, and the sheet that is kept, if any, runs through its points

@@ -20,7 +20,12 @@ moved3 a b l = (at a 0 +ℤ l *ℤ at b 0) ∷ (at a 1 +ℤ l *ℤ at b 1) ∷ (
 
 abbrev pub moved5 : List ℤ → List ℤ → ℤ → List ℤ
 moved5 a b l =
-    (at a 0 +ℤ l *ℤ at b 0) ∷ (at a 1 +ℤ l *ℤ at b 1) ∷ (at a 2 +ℤ l *ℤ at b 2) ∷ (at a 3 +ℤ l *ℤ at b 3) ∷ (at a 4 +ℤ l *ℤ at b 4) ∷ []
+    (at a 0 +ℤ l *ℤ at b 0)
+    ∷ (at a 1 +ℤ l *ℤ at b 1)
+    ∷ (at a 2 +ℤ l *ℤ at b 2)
+    ∷ (at a 3 +ℤ l *ℤ at b 3)
+    ∷ (at a 4 +ℤ l *ℤ at b 4)
+    ∷ []
 
 -- a + b l + c l^2
 abbrev pub quadratic : ℤ → ℤ → ℤ → ℤ → ℤ

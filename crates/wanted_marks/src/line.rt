@@ -6,7 +6,7 @@ ghost use Rattle.space.specs.Vectors.{at};
 ghost use Rattle.bern_form.specs.Forms.{IsSmall, all_positive, difference4};
 ghost use Rattle.bern_form.specs.Sizes.{IsBounded2, axis_limit, offset_limit, scale_limit};
 ghost use Rattle.wanted_marks.specs.Ways.{scaled_way};
-ghost use Rattle.wanted_marks.specs.Lines.{FitsAt, IsThrough, last_height_at, width_at};
+ghost use Rattle.wanted_marks.specs.Lines.{FitsAt, IsThrough, coefficient_at, last_height_at, width_at};
 ghost use Rattle.wanted_marks.specs.Widths.{IsTurn, quadratic, spread_form};
 
 use crate::scalar::scalar_form;
@@ -93,8 +93,8 @@ impl Line {
     #[inline]
     fn is_above(&self, k: usize, l: u32, limit: i128) -> bool
         requires place { k < 5 }
-        requires small { IsSmall (quadratic (at self.now.constant.c k) (at self.now.first.c k) (at self.now.second.c k) (pos l)) }
-        ensures { result ≡ int_lt limit (quadratic (at self.now.constant.c k) (at self.now.first.c k) (at self.now.second.c k) (pos l)) }
+        requires small { IsSmall (coefficient_at self.now k (pos l)) }
+        ensures { result ≡ int_lt limit (coefficient_at self.now k (pos l)) }
     {
         limit < quadratic(self.constant.c[k], self.first.c[k], self.second.c[k], l)
     }

@@ -37,33 +37,31 @@ fn cells_of(depth: u32) -> u32
 }
 
 impl<'a> Model for MoveMarker<'a> {
-    ghost use Rattle.wanted_marks.specs.Rays.{MoveOf};
+    ghost use Rattle.wanted_marks.specs.Rays.{MoveOf, move_of};
     ghost use Rattle.wanted_marks.specs.Ready.{IsReadyMove};
 
     ghost Value = { MoveOf };
 
-    ghost view = { λ s. record { cutter = s.stacks.now.cutter; slabs = s.stacks.now.slabs; motion = s.sweep.now; depth = s.depth } };
+    ghost view = { λ s. move_of s.stacks.now s.sweep.now s.depth };
 
-    ghost invariant = { λ s. IsReadyMove s.scale s.turn.first s.turn.last s.turn.n.c s.limits
-        record { cutter = s.stacks.now.cutter; slabs = s.stacks.now.slabs; motion = s.sweep.now; depth = s.depth } };
+    ghost invariant = { λ s. IsReadyMove s.scale s.turn.first s.turn.last s.turn.n.c s.limits (move_of s.stacks.now s.sweep.now s.depth) };
 }
 
 impl<'a> MoveMarker<'a> {
     ghost use Rattle.std.specs.Prelude.{◌≡◌, ◌^◌, ◌<◌, ◌≤◌, ℕ, ℤ, List, pos, IsTrue};
     ghost use Rattle.std.specs.Option.{IfSome};
     ghost use Rattle.space.specs.Ranges.{IsPoint};
-    ghost use Rattle.cutter_marks.specs.MarkBy.{is_possible_by, is_sure_by};
     ghost use Rattle.ray_grid.specs.Families.{first_axis};
     ghost use Rattle.ray_grid.specs.Lattice.{IsRay, nodes_of};
-    ghost use Rattle.wanted_marks.specs.Lines.{FitsAt, HasForms, IsLineOf};
-    ghost use Rattle.wanted_marks.specs.Rays.{IsClearOf, IsRemovedBy};
+    ghost use Rattle.wanted_marks.specs.Lines.{FitsAt, HasFormsIn, IsLineOf};
+    ghost use Rattle.wanted_marks.specs.Rays.{IsClearOf, IsRemovedBy, is_possible_in, is_sure_in, move_of};
     ghost use Rattle.wanted_marks.specs.Strips.{IsSheetOf};
     ghost use Rattle.wanted_marks.specs.Told.{tells_possible, tells_sure};
 
     /// For marks by the stacks and the reach of a cutter, at the samples and on the cells of a depth.
     pub fn new(sweep: &'a Sweep, stacks: &'a Stacks, depth: u32) -> MoveMarker<'a>
         requires { depth ≤ 10 }
-        ensures { result ≡ record { cutter = stacks.now.cutter; slabs = stacks.now.slabs; motion = sweep.now; depth = depth } }
+        ensures { result ≡ move_of stacks.now sweep.now depth }
     {
         // A sweep is valid by its type, which is known where a field of it is seen; a stack tells that sure points are possible.
         let _valid = &sweep.from;
@@ -100,8 +98,8 @@ impl<'a> MoveMarker<'a> {
     /// The mark of one point.
     pub(crate) fn mark_point(&self, point: [i32; 3]) -> Mark
         requires { IsPoint point }
-        ensures sure { tells_sure result ≡ is_sure_by self.now.cutter self.now.slabs self.now.motion point (2 ^ self.now.depth) }
-        ensures possible { tells_possible result ≡ is_possible_by self.now.cutter self.now.slabs self.now.motion point (2 ^ self.now.depth) }
+        ensures sure { tells_sure result ≡ is_sure_in self.now point }
+        ensures possible { tells_possible result ≡ is_possible_in self.now point }
     {
         mark_point_uncounted(self.sweep, self.stacks, point, self.depth)
     }
@@ -161,7 +159,7 @@ impl<'a> MoveMarker<'a> {
     #[inline]
     pub(crate) fn is_beside(&self, line: &Line, l: u32) -> bool
         requires { FitsAt line.now (pos l) }
-        ensures { IsTrue result → (p : List ℤ) → HasForms line.now (pos l) self.now.motion p (2 ^ self.now.depth) → IsClearOf self.now p }
+        ensures { IsTrue result → (p : List ℤ) → HasFormsIn line.now (pos l) self.now p → IsClearOf self.now p }
     {
         line.exceed(l, &self.limits)
     }
@@ -170,7 +168,7 @@ impl<'a> MoveMarker<'a> {
     #[inline]
     pub(crate) fn is_held_last(&self, line: &Line, l: u32) -> bool
         requires { FitsAt line.now (pos l) }
-        ensures { IsTrue result → (p : List ℤ) → HasForms line.now (pos l) self.now.motion p (2 ^ self.now.depth) → IsRemovedBy self.now p }
+        ensures { IsTrue result → (p : List ℤ) → HasFormsIn line.now (pos l) self.now p → IsRemovedBy self.now p }
     {
         is_covered_by_some(
             self.stacks.inner(),

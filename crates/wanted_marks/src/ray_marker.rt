@@ -32,7 +32,8 @@ impl<'a> RayMarker<'a> {
     ghost use Rattle.ray_grid.specs.Lattice.{IsRay, point_of, points_of};
     ghost use Rattle.wanted_marks.specs.Bits.{has_bit};
     ghost use Rattle.wanted_marks.specs.Lines.{IsLineOf};
-    ghost use Rattle.wanted_marks.specs.Rays.{AreOnRay, IsClearOf, IsRemovedBy, is_possible_at, is_possible_bit, is_sure_at, is_sure_bit, is_told_bit};
+    ghost use Rattle.wanted_marks.specs.Rays.{AreOnRay, IsClearOf, IsRemovedBy};
+    ghost use Rattle.wanted_marks.specs.Rays.{is_possible_at, is_possible_bit, is_sure_at, is_sure_bit, is_told_bit};
     ghost use Rattle.wanted_marks.specs.Told.{tells_possible, tells_sure};
 
     pub(crate) fn new(mover: &'a MoveMarker<'a>, grid: &'a Grid, ray: Ray) -> RayMarker<'a>

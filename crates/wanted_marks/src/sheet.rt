@@ -3,8 +3,7 @@ ghost use Rattle.space.specs.Ranges.{IsPoint};
 ghost use Rattle.bern_form.specs.Forms.{IsSmall};
 ghost use Rattle.bern_form.specs.Sizes.{scale_limit};
 ghost use Rattle.wanted_marks.specs.Lines.{width_at};
-ghost use Rattle.wanted_marks.specs.Sheets.{FitsOn, IsLineOn, IsSheet};
-ghost use Rattle.wanted_marks.specs.Ways.{scaled_way};
+ghost use Rattle.wanted_marks.specs.Sheets.{FitsOn, IsLineOn, IsSheetThrough};
 ghost use Rattle.wanted_marks.specs.Widths.{IsTurn, moved3, moved5};
 
 use crate::line::{Line, quadratic, spread_form, wrapped};
@@ -96,7 +95,7 @@ impl Sheet {
         requires beside { IsPoint beside.now }
         requires turn { IsTurn turn.now.first turn.now.last turn.now.n.c sweep.now scale }
         requires scale { scale ≤ scale_limit }
-        ensures { IsSheet result sweep.now start.now (scaled_way (pos scale) start.now next.now) (scaled_way (pos scale) start.now beside.now) scale }
+        ensures { IsSheetThrough result sweep.now start.now next.now beside.now scale }
     {
         let step = scaled_way(scale, start, next);
         let side = scaled_way(scale, start, beside);

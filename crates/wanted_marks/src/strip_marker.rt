@@ -28,6 +28,7 @@ impl<'a> StripMarker<'a> {
     ghost use Rattle.std.specs.Prelude.{◌≡◌, ◌<◌};
     ghost use Rattle.ray_grid.specs.Families.{first_axis, second_axis};
     ghost use Rattle.ray_grid.specs.Lattice.{nodes_of};
+    ghost use Rattle.wanted_marks.specs.Strips.{ray_at};
 
     pub(crate) fn new(
         mover: &'a MoveMarker<'a>,
@@ -51,8 +52,7 @@ impl<'a> StripMarker<'a> {
     /// For the points of the ray with the node j.
     pub fn on_ray(&'a self, j: u32) -> RayMarker<'a>
         requires { j < nodes_of self.now.grid (second_axis self.now.family) }
-        ensures { result
-            ≡ record { sweep = self.now.sweep; grid = self.now.grid; ray = record { family = self.now.family; i = self.now.i; j = j } } }
+        ensures { result ≡ ray_at self.now j }
     {
         let ray = Ray {
             family: self.family,

@@ -1,5 +1,5 @@
-ghost use Rattle.std.specs.Prelude.{◌≡◌, ℕ, ◌<◌, ◌||◌, ◌&&◌, nat_eq};
-ghost use Rattle.wanted_marks.specs.Bits.{has_bit};
+ghost use Rattle.std.specs.Prelude.{◌≡◌, ℕ, ◌<◌};
+ghost use Rattle.wanted_marks.specs.Bits.{has_bit, with_told};
 ghost use Rattle.wanted_marks.specs.Told.{tells_possible, tells_sure};
 
 use crate::bits::with_bit;
@@ -17,8 +17,8 @@ impl WordMarks {
     #[inline]
     pub(crate) fn with_mark(self, b: u32, mark: Mark) -> WordMarks
         requires { b < 64 }
-        ensures sure { (k : ℕ) → k < 64 → has_bit result.sure k ≡ (has_bit self.sure k || (nat_eq k b && tells_sure mark)) }
-        ensures possible { (k : ℕ) → k < 64 → has_bit result.possible k ≡ (has_bit self.possible k || (nat_eq k b && tells_possible mark)) }
+        ensures sure { (k : ℕ) → k < 64 → has_bit result.sure k ≡ with_told self.sure b (tells_sure mark) k }
+        ensures possible { (k : ℕ) → k < 64 → has_bit result.possible k ≡ with_told self.possible b (tells_possible mark) k }
     {
         match mark {
             Mark::Removed => WordMarks {
