@@ -18,7 +18,8 @@ pub record IsSheet (sheet : Sheet) (m : Motion) (s v t : List ℤ) (S : ℕ) : T
 
 -- the sheet begins at the point `start`; a line goes on to `next`, and the next line begins at `beside`
 abbrev pub IsSheetThrough : Sheet → Motion → List ℤ → List ℤ → List ℤ → ℕ → Type 0
-IsSheetThrough sheet m start next beside S = IsSheet sheet m start (scaled_way (pos S) start next) (scaled_way (pos S) start beside) S
+IsSheetThrough sheet m start next beside S =
+    IsSheet sheet m start (scaled_way (pos S) start next) (scaled_way (pos S) start beside) S
 
 -- what differs from line to line of a sheet fits, at line j
 pub record FitsOn (sheet : Sheet) (j : ℤ) : Type 0 where

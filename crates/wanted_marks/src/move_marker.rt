@@ -44,7 +44,8 @@ impl<'a> Model for MoveMarker<'a> {
 
     ghost view = { λ s. move_of s.stacks.now s.sweep.now s.depth };
 
-    ghost invariant = { λ s. IsReadyMove s.scale s.turn.first s.turn.last s.turn.n.c s.limits (move_of s.stacks.now s.sweep.now s.depth) };
+    ghost invariant = { λ s. IsReadyMove s.scale s.turn.first s.turn.last s.turn.n.c s.limits
+        (move_of s.stacks.now s.sweep.now s.depth) };
 }
 
 impl<'a> MoveMarker<'a> {
