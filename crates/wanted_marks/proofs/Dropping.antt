@@ -1,0 +1,68 @@
+-- What is beside all outer slabs on the whole move is neither sure nor possible.
+use Rattle.std.proofs.Common.{◌≡◌, true, false, ℕ, zero, suc, ◌+◌, ◌^◌, ◌<◌, List, ℤ, pos, ◌-ℤ◌, ◌<ℤ◌, ◌≤ℤ◌, inr, arith, subst, Bool}
+use Rattle.std.proofs.lemmas.Bool.{and_right}
+use Rattle.std.proofs.lemmas.Int.{ints}
+use Rattle.std.proofs.lemmas.List.Elements.{All-contains}
+use Rattle.space.specs.Reach.{is_in_reach}
+use Rattle.space.specs.Vectors.{at}
+use Rattle.bern_form.specs.Between.{n_between}
+use Rattle.bern_form.specs.Forms.{all_positive, difference4}
+use Rattle.bern_form.specs.Marks.{is_left_on, is_left_on_cell}
+use Rattle.bern_form.proofs.Decided.{decides_positive, none_below}
+use Rattle.bern_form.proofs.Finer.{AllOut, left_on_none}
+use Rattle.bern_form.proofs.Relations.{AllPositive}
+use Rattle.cutter_slabs.specs.Stacks.{outer_stack, reach_of}
+use Rattle.cutter_marks.specs.MarkBy.{is_possible_by, is_sure_by}
+use Rattle.wanted_marks.specs.Limits.{AreLimits, IsWithinLimits, raised_square}
+use Rattle.wanted_marks.specs.Rays.{IsClearOf, MoveOf}
+use Rattle.wanted_marks.specs.Widths.{width_of}
+use Rattle.wanted_marks.proofs.Exceeding.{all_over}
+
+under : (a b : ℤ) → pos 0 <ℤ (a -ℤ b) → b <ℤ a
+under a b h = omega (arith, ints)
+
+under_limit : (c r : List ℤ) (k : ℕ) → k < 5 → AllPositive (difference4 c r) → at r k <ℤ at c k
+under_limit c r zero l p = under (at c 0) (at r 0) (p 0 (pos 0) (omega arith))
+under_limit c r (suc zero) l p = under (at c 1) (at r 1) (p 1 (pos 0) (omega arith))
+under_limit c r (suc (suc zero)) l p = under (at c 2) (at r 2) (p 2 (pos 0) (omega arith))
+under_limit c r (suc (suc (suc zero))) l p = under (at c 3) (at r 3) (p 3 (pos 0) (omega arith))
+under_limit c r (suc (suc (suc (suc zero)))) l p = under (at c 4) (at r 4) (p 4 (pos 0) (omega arith))
+under_limit c r (suc (suc (suc (suc (suc k))))) l p = absurd (omega arith)
+
+below_both : (a b c : ℤ) → a ≤ℤ b → b <ℤ c → a <ℤ c
+below_both a b c h k = omega (arith, ints)
+
+over_less : (c r s : List ℤ) → AllPositive (difference4 c r) → ((k : ℕ) → k < 5 → at s k ≤ℤ at r k) → AllPositive (difference4 c s)
+over_less c r s p h = all_over c s (λ k l. below_both (at s k) (at r k) (at c k) (h k l) (under_limit c r k l p))
+
+-- each outer slab is excluded on the whole move
+all_beside : (v : MoveOf) (limits p : List ℤ) → AreLimits limits v → all_positive (difference4 (width_of v.motion p (2 ^ v.depth)) limits) ≡ true
+    → AllOut (outer_stack v.cutter v.slabs) v.motion p 0 (2 ^ v.depth) (2 ^ v.depth)
+all_beside v limits p are beyond =
+    let S = 2 ^ v.depth in let n = n_between v.motion 0 S S in let W = width_of v.motion p S in
+    let over = (decides_positive (difference4 W limits)).0 beyond in record {
+      each = λ s among. inr (inr (inr (over_less W limits (raised_square S s.dia n) over (All-contains (IsWithinLimits limits n S) (outer_stack v.cutter v.slabs) s are among).at_most)));
+    }
+
+not_possible : (v : MoveOf) (limits p : List ℤ) → AreLimits limits v → all_positive (difference4 (width_of v.motion p (2 ^ v.depth)) limits) ≡ true
+    → is_possible_by v.cutter v.slabs v.motion p (2 ^ v.depth) ≡ false
+unfolding is_possible_by
+not_possible v limits p are beyond =
+    let S = 2 ^ v.depth in let outer = outer_stack v.cutter v.slabs in
+    let e : S ≡ 0 + S = omega arith in
+    let out = subst (λ k. AllOut outer v.motion p 0 k S) e (all_beside v limits p are beyond) in
+    and_right (is_in_reach (pos (reach_of v.cutter)) v.motion.from v.motion.to p) (is_left_on_cell outer v.motion p S)
+    (none_below (λ k. is_left_on outer v.motion p k S) S (λ k l. left_on_none outer v.motion p S v.depth 0 k out (omega arith) (omega (arith, l))))
+
+not_sure : (h q : Bool) → (h ≡ true → q ≡ true) → q ≡ false → h ≡ false
+not_sure true q both e = let f = both (λ i. true) in cc
+not_sure false q both e = λ i. false
+
+pub is_clear : (v : MoveOf) (limits p : List ℤ) → AreLimits limits v
+    → (is_sure_by v.cutter v.slabs v.motion p (2 ^ v.depth) ≡ true → is_possible_by v.cutter v.slabs v.motion p (2 ^ v.depth) ≡ true)
+    → all_positive (difference4 (width_of v.motion p (2 ^ v.depth)) limits) ≡ true → IsClearOf v p
+is_clear v limits p are both beyond =
+    let out = not_possible v limits p are beyond in record {
+      not_sure = not_sure (is_sure_by v.cutter v.slabs v.motion p (2 ^ v.depth)) (is_possible_by v.cutter v.slabs v.motion p (2 ^ v.depth)) both out;
+      not_possible = out;
+    }

@@ -1,0 +1,10 @@
+pub mod BitLemmas
+pub mod Telling
+pub mod Taking
+pub mod Stepping
+pub mod Fitting
+pub mod Exceeding
+pub mod Dropping
+pub mod Widest
+pub mod OnRays
+pub mod Holding

@@ -1,0 +1,118 @@
+-- The points of a ray lie on a line, and between its first and its last.
+use Rattle.std.proofs.Common.{◌≡◌, ℕ, suc, ◌+◌, ◌*◌, ◌^◌, ◌≤◌, ◌<◌, [], ◌∷◌, List, ℤ, pos, negsuc, ◌+ℤ◌, ◌*ℤ◌, ◌-ℤ◌, unsigned_abs, arith, refl, subst, sym}
+use Rattle.std.specs.List.{All}
+use Rattle.std.proofs.lemmas.Int.{ints}
+use Rattle.std.proofs.Math.Nat.{mul-le-mul}
+use borrow.Author.Differences.{abs_is}
+use Rattle.space.specs.Motion.{IsSweep, Motion, axis_at, offset_at}
+use Rattle.space.specs.Ranges.{IsPoint, IsWithin, metre}
+use Rattle.space.specs.Vectors.{at}
+use Rattle.space.proofs.Solver.{var, num, add, mul, ring}
+use Rattle.space.proofs.Terms.{sub}
+use Rattle.bern_form.specs.Between.{n_between, u_between}
+use Rattle.bern_form.specs.Forms.{IsSmall}
+use Rattle.bern_form.specs.Sizes.{IsBounded2, axis_limit, offset_limit, scale_limit}
+use Rattle.bern_form.proofs.Sizes.{axis_within, offset_within, small_as}
+use Rattle.axis_cells.proofs.Bounds.{between_fits, cross_bounded, list2}
+use Rattle.ray_grid.specs.declared.ray.Family.{Family}
+use Rattle.ray_grid.specs.declared.ray.Family.TheVariants.{X, Y, Z}
+use Rattle.ray_grid.specs.Lattice.{node_at, place_at, point_at, point_of, points_of}
+use Rattle.wanted_marks.specs.Ways.{IsAlong, scaled_way}
+use Rattle.wanted_marks.specs.Rays.{RayOf}
+use Rattle.wanted_marks.specs.declared.line.Line.{Line}
+use Rattle.wanted_marks.specs.declared.sheet.Sheet.{Sheet}
+use Rattle.wanted_marks.specs.Lines.{HasForms, IsLineOf, IsThrough, d_step, u_step}
+use Rattle.wanted_marks.specs.Sheets.{FitsOn}
+use Rattle.wanted_marks.proofs.Fitting.{spread_fits}
+use Rattle.wanted_marks.proofs.Stepping.{HasRay, forms_are}
+use Rattle.wanted_marks.specs.Widths.{width_of}
+
+moves : (o s : ℤ) (l : ℕ) → o +ℤ (pos l *ℤ s) ≡ (o +ℤ (pos 0 *ℤ s)) +ℤ pos l *ℤ ((o +ℤ (pos 1 *ℤ s)) -ℤ (o +ℤ (pos 0 *ℤ s)))
+moves o s l =
+    let O = var 0 in let S = var 1 in let L = var 2 in let first = add O (mul (num (pos 0)) S) in
+    ring (o ∷ s ∷ pos l ∷ []) (add O (mul L S)) (add first (mul L (sub (add O (mul (num (pos 1)) S)) first))) refl
+
+stays : (z x l : ℤ) → z ≡ z +ℤ l *ℤ (x -ℤ x)
+stays z x l = let Z = var 0 in let X = var 1 in let L = var 2 in ring (z ∷ x ∷ l ∷ []) Z (add Z (mul L (sub X X))) refl
+
+-- from the first point of ray j of a strip on, by the step of the first ray
+along_family : (r : RayOf) (f : Family) (i j k l : ℕ) → IsAlong (point_at r.grid f i j 0) (point_at r.grid f i k 0) (point_at r.grid f i k 1) (point_at r.grid f i j l) (pos l)
+along_family r X i j k l = record { x = moves (at r.grid.origin 0) r.grid.step l; y = stays (node_at r.grid 1 i) (node_at r.grid 1 i) (pos l); z = stays (node_at r.grid 2 j) (node_at r.grid 2 k) (pos l) }
+along_family r Y i j k l = record { x = stays (node_at r.grid 0 i) (node_at r.grid 0 i) (pos l); y = moves (at r.grid.origin 1) r.grid.step l; z = stays (node_at r.grid 2 j) (node_at r.grid 2 k) (pos l) }
+along_family r Z i j k l = record { x = stays (node_at r.grid 0 i) (node_at r.grid 0 i) (pos l); y = stays (node_at r.grid 1 j) (node_at r.grid 1 k) (pos l); z = moves (at r.grid.origin 2) r.grid.step l }
+
+pub along_ray : (r : RayOf) (k l : ℕ) → IsAlong (point_of r.grid r.ray 0) (point_at r.grid r.ray.family r.ray.i k 0) (point_at r.grid r.ray.family r.ray.i k 1) (point_of r.grid r.ray l) (pos l)
+along_ray r k l = along_family r r.ray.family r.ray.i r.ray.j k l
+
+-- the first points of the rays of a strip
+pub across_rays : (r : RayOf) (f : Family) (i j : ℕ) → IsAlong (point_at r.grid f i 0 0) (point_at r.grid f i 0 0) (point_at r.grid f i 1 0) (point_at r.grid f i j 0) (pos j)
+across_rays r X i j = record { x = stays (place_at r.grid 0 0) (place_at r.grid 0 0) (pos j); y = stays (node_at r.grid 1 i) (node_at r.grid 1 i) (pos j); z = moves (at r.grid.origin 2) r.grid.pitch j }
+across_rays r Y i j = record { x = stays (node_at r.grid 0 i) (node_at r.grid 0 i) (pos j); y = stays (place_at r.grid 1 0) (place_at r.grid 1 0) (pos j); z = moves (at r.grid.origin 2) r.grid.pitch j }
+across_rays r Z i j = record { x = stays (node_at r.grid 0 i) (node_at r.grid 0 i) (pos j); y = moves (at r.grid.origin 1) r.grid.pitch j; z = stays (place_at r.grid 2 0) (place_at r.grid 2 0) (pos j) }
+
+part_between : (x w : ℤ) (l n : ℕ) → l ≤ n → unsigned_abs x ≤ metre → unsigned_abs (x +ℤ pos n *ℤ w) ≤ metre → unsigned_abs (x +ℤ pos l *ℤ w) ≤ metre
+part_between x (pos a) l n h first last =
+    let less : l * a ≤ n * a = mul-le-mul h (omega arith) in
+    omega (arith, ints, less, first, last, abs_is x, abs_is (x +ℤ pos l *ℤ pos a), abs_is (x +ℤ pos n *ℤ pos a))
+part_between x (negsuc a) l n h first last =
+    let less : l * suc a ≤ n * suc a = mul-le-mul h (omega arith) in
+    omega (arith, ints, less, first, last, abs_is x, abs_is (x +ℤ pos l *ℤ negsuc a), abs_is (x +ℤ pos n *ℤ negsuc a))
+
+component_between : (x w p q : ℤ) (l n : ℕ) → l ≤ n → p ≡ x +ℤ pos l *ℤ w → q ≡ x +ℤ pos n *ℤ w → unsigned_abs x ≤ metre → unsigned_abs q ≤ metre → unsigned_abs p ≤ metre
+component_between x w p q l n h ep eq first last =
+    subst (λ z. unsigned_abs z ≤ metre) (sym ep) (part_between x w l n h first (subst (λ z. unsigned_abs z ≤ metre) eq last))
+
+pub point_between : (s first next p last : List ℤ) (l n : ℕ) → l ≤ n → IsAlong s first next p (pos l) → IsAlong s first next last (pos n) → IsPoint s → IsPoint last → IsPoint p
+point_between s first next p last l n h here there f t = (
+  component_between (at s 0) (at next 0 -ℤ at first 0) (at p 0) (at last 0) l n h here.x there.x f.0 t.0,
+  component_between (at s 1) (at next 1 -ℤ at first 1) (at p 1) (at last 1) l n h here.y there.y f.1 t.1,
+  component_between (at s 2) (at next 2 -ℤ at first 2) (at p 2) (at last 2) l n h here.z there.z f.2 t.2,
+)
+
+pub width_small : (m : Motion) (p : List ℤ) (S : ℕ) → IsSweep m → IsPoint p → S ≤ scale_limit → All IsSmall (width_of m p S)
+width_small m p S sweep point few =
+    (between_fits (offset_at m p (pos 0) (pos S)) (offset_at m p (pos S) (pos S)) (axis_at m (pos 0) (pos S)) (axis_at m (pos S) (pos S))
+    (offset_within m p 0 S sweep point (omega arith) few) (offset_within m p S S sweep point (omega arith) few)
+    (axis_within m 0 S sweep (omega arith) few) (axis_within m S S sweep (omega arith) few)).width
+
+pub height_small : (m : Motion) (p : List ℤ) (S : ℕ) → IsSweep m → IsPoint p → S ≤ scale_limit → unsigned_abs (at (u_between m p 0 S S) 2) ≤ 3 * (offset_limit * axis_limit)
+height_small m p S sweep point few =
+    (between_fits (offset_at m p (pos 0) (pos S)) (offset_at m p (pos S) (pos S)) (axis_at m (pos 0) (pos S)) (axis_at m (pos S) (pos S))
+    (offset_within m p 0 S sweep point (omega arith) few) (offset_within m p S S sweep point (omega arith) few)
+    (axis_within m 0 S sweep (omega arith) few) (axis_within m S S sweep (omega arith) few)).ahead.last
+
+pub heights_bounded : (m : Motion) (p : List ℤ) (S : ℕ) → IsSweep m → IsPoint p → S ≤ scale_limit → IsBounded2 (3 * (offset_limit * axis_limit)) (u_between m p 0 S S)
+heights_bounded m p S sweep point few =
+    cross_bounded (offset_at m p (pos 0) (pos S)) (offset_at m p (pos S) (pos S)) (axis_at m (pos 0) (pos S)) (axis_at m (pos S) (pos S)) offset_limit axis_limit
+    (offset_within m p 0 S sweep point (omega arith) few) (offset_within m p S S sweep point (omega arith) few) (axis_within m 0 S sweep (omega arith) few) (axis_within m S S sweep (omega arith) few)
+
+-- what is kept for the rays of a strip fits at each of them
+pub ray_fits : (sheet : Sheet) (m : Motion) (o v : List ℤ) (S : ℕ) (j : ℤ) → HasRay sheet m o v S j → IsSweep m → IsPoint o → S ≤ scale_limit → IsWithin offset_limit v → FitsOn sheet j
+ray_fits sheet m o v S j ray sweep point few within =
+    let P = offset_at m o (pos 0) (pos S) in let Q = offset_at m o (pos S) (pos S) in let A = axis_at m (pos 0) (pos S) in let C = axis_at m (pos S) (pos S) in
+    let hP = offset_within m o 0 S sweep point (omega arith) few in let hQ = offset_within m o S S sweep point (omega arith) few in
+    let hA = axis_within m 0 S sweep (omega arith) few in let hC = axis_within m S S sweep (omega arith) few in
+    let height = heights_bounded m o S sweep point few in record {
+      constant = small_as ray.constant (width_small m o S sweep point few);
+      first = small_as ray.first
+          (spread_fits (pos 8) (d_step m o v S) (n_between m 0 S S) (u_between m o 0 S S) (u_step m v S)
+          (cross_bounded P Q v v offset_limit offset_limit hP hQ within within) (cross_bounded A C A C axis_limit axis_limit hA hC hA hC) height
+          (cross_bounded v v A C offset_limit axis_limit within within hA hC) (omega arith)).whole;
+      height = small_as ray.height (list2 (u_between m o 0 S S) (3 * (offset_limit * axis_limit)) (omega arith) height);
+    }
+
+-- the forms of the points of a ray whose ends lie within a metre
+pub line_of_ray : (line : Line) (r : RayOf) (k n S : ℕ) → S ≡ 2 ^ r.sweep.depth → S ≤ scale_limit → IsSweep r.sweep.motion
+    → IsThrough line r.sweep.motion (point_of r.grid r.ray 0) (scaled_way (pos S) (point_at r.grid r.ray.family r.ray.i k 0) (point_at r.grid r.ray.family r.ray.i k 1)) S
+    → IsPoint (point_of r.grid r.ray 0) → IsPoint (point_of r.grid r.ray n) → points_of r.grid r.ray.family ≤ n + 1 → IsLineOf line r
+line_of_ray line r k n S e few sweep is first last all =
+    let m = r.sweep.motion in let o = point_of r.grid r.ray 0 in let x = point_at r.grid r.ray.family r.ray.i k 0 in let y = point_at r.grid r.ray.family r.ray.i k 1 in
+    let forms = λ (l : ℕ). forms_are line m o x y (point_of r.grid r.ray l) S (pos l) is (along_ray r k l) in
+    let point = λ (l : ℕ) (below : l < points_of r.grid r.ray.family).
+    point_between o x y (point_of r.grid r.ray l) (point_of r.grid r.ray n) l n (omega (arith, below, all)) (along_ray r k l) (along_ray r k n) first last in record {
+      fits = λ l below. record {
+        width = small_as (forms l).width (width_small m (point_of r.grid r.ray l) S sweep (point l below) few);
+        height = subst (λ z. unsigned_abs z ≤ 3 * (offset_limit * axis_limit)) (sym (forms l).height) (height_small m (point_of r.grid r.ray l) S sweep (point l below) few);
+      };
+      forms = λ l below. subst (λ z. HasForms line (pos l) m (point_of r.grid r.ray l) z) e (forms l);
+    }

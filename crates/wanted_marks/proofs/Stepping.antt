@@ -1,0 +1,231 @@
+-- Along a line the offset from the tip is linear in the number of steps, so the coefficients of u are linear in it and those of d
+-- and of 4 (d n - u^2) quadratic.
+use Rattle.std.proofs.Common.{◌≡◌, ℕ, zero, suc, [], ◌∷◌, List, ℤ, pos, ◌+ℤ◌, ◌*ℤ◌, ◌-ℤ◌, refl, ap, ap₂, sym, ◌∙◌}
+use Rattle.space.specs.Motion.{Motion, axis_at, between, offset, offset_at}
+use Rattle.space.specs.Vectors.{at}
+use Rattle.space.proofs.Solver.{Term, var, num, add, mul, ring}
+use Rattle.space.proofs.Terms.{from, sub}
+use Rattle.bern_form.specs.Between.{d_between, n_between, u_between}
+use Rattle.bern_form.specs.Cells.{dot_on_cell}
+use Rattle.wanted_marks.specs.declared.line.Line.{Line}
+use Rattle.wanted_marks.specs.declared.sheet.Sheet.{Sheet}
+use Rattle.wanted_marks.specs.Lines.{HasForms, IsThrough, d_step, u_step, width_at}
+use Rattle.wanted_marks.specs.Sheets.{IsLineOn, IsSheet}
+use Rattle.wanted_marks.specs.Ways.{IsAlong, scaled_vector, scaled_way}
+use Rattle.wanted_marks.specs.Widths.{IsTurn, moved3, moved5, quadratics, spread_form, width_of}
+
+pub same3 : (a b c d e f : ℤ) → a ≡ d → b ≡ e → c ≡ f → a ∷ b ∷ c ∷ [] ≡ d ∷ e ∷ f ∷ []
+same3 a b c d e f h k l = ap (λ z. z ∷ b ∷ c ∷ []) h ∙ ap (λ z. d ∷ z ∷ c ∷ []) k ∙ ap (λ z. d ∷ e ∷ z ∷ []) l
+
+pub same5 : (a b c d e f g h i j : ℤ) → a ≡ f → b ≡ g → c ≡ h → d ≡ i → e ≡ j → a ∷ b ∷ c ∷ d ∷ e ∷ [] ≡ f ∷ g ∷ h ∷ i ∷ j ∷ []
+same5 a b c d e f g h i j p q r s t =
+    ap (λ z. z ∷ b ∷ c ∷ d ∷ e ∷ []) p ∙ ap (λ z. f ∷ z ∷ c ∷ d ∷ e ∷ []) q ∙ ap (λ z. f ∷ g ∷ z ∷ d ∷ e ∷ []) r ∙ ap (λ z. f ∷ g ∷ h ∷ z ∷ e ∷ []) s ∙ ap (λ z. f ∷ g ∷ h ∷ i ∷ z ∷ []) t
+
+-- o + 2 l v + l^2 w
+abbrev pub moved_twice : List ℤ → List ℤ → List ℤ → ℤ → List ℤ
+moved_twice o v w l =
+    (at o 0 +ℤ l *ℤ (pos 2 *ℤ at v 0 +ℤ l *ℤ at w 0)) ∷ (at o 1 +ℤ l *ℤ (pos 2 *ℤ at v 1 +ℤ l *ℤ at w 1)) ∷ (at o 2 +ℤ l *ℤ (pos 2 *ℤ at v 2 +ℤ l *ℤ at w 2)) ∷ []
+
+-- one component of an offset
+component_moves : (t s f g z x y l : ℤ) → offset t s (z +ℤ l *ℤ (y -ℤ x)) f g ≡ offset t s z f g +ℤ l *ℤ (s *ℤ y -ℤ s *ℤ x)
+component_moves t s f g z x y l =
+    let T = var 0 in let S = var 1 in let F = var 2 in let G = var 3 in let Z = var 4 in let X = var 5 in let Y = var 6 in let L = var 7 in
+    let place = add (mul (sub S T) F) (mul T G) in
+    ring (t ∷ s ∷ f ∷ g ∷ z ∷ x ∷ y ∷ l ∷ []) (sub (mul S (add Z (mul L (sub Y X)))) place) (add (sub (mul S Z) place) (mul L (sub (mul S Y) (mul S X)))) refl
+
+pub offset_moves : (m : Motion) (o first next p : List ℤ) (t s l : ℤ) → IsAlong o first next p l → offset_at m p t s ≡ moved3 (offset_at m o t s) (scaled_way s first next) l
+offset_moves m o first next p t s l line =
+    same3 _ _ _ _ _ _
+    (ap (λ z. offset t s z (at m.from 0) (at m.to 0)) line.x ∙ component_moves t s (at m.from 0) (at m.to 0) (at o 0) (at first 0) (at next 0) l)
+    (ap (λ z. offset t s z (at m.from 1) (at m.to 1)) line.y ∙ component_moves t s (at m.from 1) (at m.to 1) (at o 1) (at first 1) (at next 1) l)
+    (ap (λ z. offset t s z (at m.from 2) (at m.to 2)) line.z ∙ component_moves t s (at m.from 2) (at m.to 2) (at o 2) (at first 2) (at next 2) l)
+
+-- scalar products
+abbrev dot3 : (ℕ → Term) → (ℕ → Term) → Term
+dot3 p a = add (add (mul (p 0) (a 0)) (mul (p 1) (a 1))) (mul (p 2) (a 2))
+
+abbrev cross3 : (ℕ → Term) → (ℕ → Term) → (ℕ → Term) → (ℕ → Term) → Term
+cross3 p q a c = add (add (add (mul (p 0) (c 0)) (mul (q 0) (a 0))) (add (mul (p 1) (c 1)) (mul (q 1) (a 1)))) (add (mul (p 2) (c 2)) (mul (q 2) (a 2)))
+
+u_first : (o p a c v : List ℤ) (l : ℤ) → at (dot_on_cell (moved3 o v l) (moved3 p v l) a c) 0 ≡ at (dot_on_cell o p a c) 0 +ℤ l *ℤ at (dot_on_cell v v a c) 0
+u_first o p a c v l =
+    let e = at o 0 ∷ at o 1 ∷ at o 2 ∷ at a 0 ∷ at a 1 ∷ at a 2 ∷ at v 0 ∷ at v 1 ∷ at v 2 ∷ l ∷ [] in
+    let O = from 0 in let A = from 3 in let V = from 6 in let L = var 9 in
+    ring e (dot3 (λ k. add (O k) (mul L (V k))) A) (add (dot3 O A) (mul L (dot3 V A))) refl
+
+u_middle : (o p a c v : List ℤ) (l : ℤ) → at (dot_on_cell (moved3 o v l) (moved3 p v l) a c) 1 ≡ at (dot_on_cell o p a c) 1 +ℤ l *ℤ at (dot_on_cell v v a c) 1
+u_middle o p a c v l =
+    let e = at o 0 ∷ at o 1 ∷ at o 2 ∷ at p 0 ∷ at p 1 ∷ at p 2 ∷ at a 0 ∷ at a 1 ∷ at a 2 ∷ at c 0 ∷ at c 1 ∷ at c 2 ∷ at v 0 ∷ at v 1 ∷ at v 2 ∷ l ∷ [] in
+    let O = from 0 in let P = from 3 in let A = from 6 in let C = from 9 in let V = from 12 in let L = var 15 in
+    ring e (cross3 (λ k. add (O k) (mul L (V k))) (λ k. add (P k) (mul L (V k))) A C) (add (cross3 O P A C) (mul L (cross3 V V A C))) refl
+
+u_last : (o p a c v : List ℤ) (l : ℤ) → at (dot_on_cell (moved3 o v l) (moved3 p v l) a c) 2 ≡ at (dot_on_cell o p a c) 2 +ℤ l *ℤ at (dot_on_cell v v a c) 2
+u_last o p a c v l =
+    let e = at p 0 ∷ at p 1 ∷ at p 2 ∷ at c 0 ∷ at c 1 ∷ at c 2 ∷ at v 0 ∷ at v 1 ∷ at v 2 ∷ l ∷ [] in
+    let O = from 0 in let A = from 3 in let V = from 6 in let L = var 9 in
+    ring e (dot3 (λ k. add (O k) (mul L (V k))) A) (add (dot3 O A) (mul L (dot3 V A))) refl
+
+pub u_moves : (o p a c v : List ℤ) (l : ℤ) → dot_on_cell (moved3 o v l) (moved3 p v l) a c ≡ moved3 (dot_on_cell o p a c) (dot_on_cell v v a c) l
+u_moves o p a c v l = same3 _ _ _ _ _ _ (u_first o p a c v l) (u_middle o p a c v l) (u_last o p a c v l)
+
+d_first : (o p v : List ℤ) (l : ℤ) → at (dot_on_cell (moved3 o v l) (moved3 p v l) (moved3 o v l) (moved3 p v l)) 0 ≡ at (moved_twice (dot_on_cell o p o p) (dot_on_cell o p v v) (dot_on_cell v v v v) l) 0
+d_first o p v l =
+    let e = at o 0 ∷ at o 1 ∷ at o 2 ∷ at v 0 ∷ at v 1 ∷ at v 2 ∷ l ∷ [] in
+    let O = from 0 in let V = from 3 in let L = var 6 in let M = λ (k : ℕ). add (O k) (mul L (V k)) in
+    ring e (dot3 M M) (add (dot3 O O) (mul L (add (mul (num (pos 2)) (dot3 O V)) (mul L (dot3 V V))))) refl
+
+d_middle : (o p v : List ℤ) (l : ℤ) → at (dot_on_cell (moved3 o v l) (moved3 p v l) (moved3 o v l) (moved3 p v l)) 1 ≡ at (moved_twice (dot_on_cell o p o p) (dot_on_cell o p v v) (dot_on_cell v v v v) l) 1
+d_middle o p v l =
+    let e = at o 0 ∷ at o 1 ∷ at o 2 ∷ at p 0 ∷ at p 1 ∷ at p 2 ∷ at v 0 ∷ at v 1 ∷ at v 2 ∷ l ∷ [] in
+    let O = from 0 in let P = from 3 in let V = from 6 in let L = var 9 in let M = λ (k : ℕ). add (O k) (mul L (V k)) in let N = λ (k : ℕ). add (P k) (mul L (V k)) in
+    ring e (cross3 M N M N) (add (cross3 O P O P) (mul L (add (mul (num (pos 2)) (cross3 O P V V)) (mul L (cross3 V V V V))))) refl
+
+d_last : (o p v : List ℤ) (l : ℤ) → at (dot_on_cell (moved3 o v l) (moved3 p v l) (moved3 o v l) (moved3 p v l)) 2 ≡ at (moved_twice (dot_on_cell o p o p) (dot_on_cell o p v v) (dot_on_cell v v v v) l) 2
+d_last o p v l =
+    let e = at p 0 ∷ at p 1 ∷ at p 2 ∷ at v 0 ∷ at v 1 ∷ at v 2 ∷ l ∷ [] in
+    let O = from 0 in let V = from 3 in let L = var 6 in let M = λ (k : ℕ). add (O k) (mul L (V k)) in
+    ring e (dot3 M M) (add (dot3 O O) (mul L (add (mul (num (pos 2)) (dot3 O V)) (mul L (dot3 V V))))) refl
+
+pub d_moves : (o p v : List ℤ) (l : ℤ) → dot_on_cell (moved3 o v l) (moved3 p v l) (moved3 o v l) (moved3 p v l) ≡ moved_twice (dot_on_cell o p o p) (dot_on_cell o p v v) (dot_on_cell v v v v) l
+d_moves o p v l = same3 _ _ _ _ _ _ (d_first o p v l) (d_middle o p v l) (d_last o p v l)
+
+-- the width form
+abbrev conv : (ℕ → Term) → (ℕ → Term) → ℕ → Term
+conv a b zero = mul (a 0) (b 0)
+conv a b (suc zero) = add (mul (a 0) (b 1)) (mul (a 1) (b 0))
+conv a b (suc (suc zero)) = add (add (mul (a 0) (b 2)) (mul (a 1) (b 1))) (mul (a 2) (b 0))
+conv a b (suc (suc (suc zero))) = add (mul (a 1) (b 2)) (mul (a 2) (b 1))
+conv a b (suc (suc (suc (suc k)))) = mul (a 2) (b 2)
+
+abbrev spread : ℕ → (ℕ → Term) → (ℕ → Term) → (ℕ → Term) → (ℕ → Term) → ℕ → Term
+spread by d n u v k = mul (num (pos by)) (sub (conv d n k) (conv u v k))
+
+pub width_moves : (n u w d f g : List ℤ) (l : ℤ)
+    → quadratics (spread_form (pos 4) d n u u) (spread_form (pos 8) f n u w) (spread_form (pos 4) g n w w) l ≡ spread_form (pos 4) (moved_twice d f g l) n (moved3 u w l) (moved3 u w l)
+width_moves n u w d f g l =
+    let e = at n 0 ∷ at n 1 ∷ at n 2 ∷ at u 0 ∷ at u 1 ∷ at u 2 ∷ at w 0 ∷ at w 1 ∷ at w 2 ∷ at d 0 ∷ at d 1 ∷ at d 2 ∷ at f 0 ∷ at f 1 ∷ at f 2 ∷ at g 0 ∷ at g 1 ∷ at g 2 ∷ l ∷ [] in
+    let N = from 0 in let U = from 3 in let W = from 6 in let D = from 9 in let F = from 12 in let G = from 15 in let L = var 18 in
+    let x = λ (k : ℕ). add (spread 4 D N U U k) (mul L (add (spread 8 F N U W k) (mul L (spread 4 G N W W k)))) in
+    let M = λ (k : ℕ). add (U k) (mul L (W k)) in
+    let y = spread 4 (λ k. add (D k) (mul L (add (mul (num (pos 2)) (F k)) (mul L (G k))))) N M M in
+    same5 _ _ _ _ _ _ _ _ _ _ (ring e (x 0) (y 0) refl) (ring e (x 1) (y 1) refl) (ring e (x 2) (y 2) refl) (ring e (x 3) (y 3) refl) (ring e (x 4) (y 4) refl)
+
+-- the ends of a move
+offset_first : (s p f t : ℤ) → s *ℤ p -ℤ s *ℤ f ≡ offset (pos 0) s p f t
+offset_first s p f t =
+    let S = var 0 in let X = var 1 in let F = var 2 in let T = var 3 in let O = num (pos 0) in
+    ring (s ∷ p ∷ f ∷ t ∷ []) (sub (mul S X) (mul S F)) (sub (mul S X) (add (mul (sub S O) F) (mul O T))) refl
+
+offset_last : (s p f t : ℤ) → s *ℤ p -ℤ s *ℤ t ≡ offset s s p f t
+offset_last s p f t =
+    let S = var 0 in let X = var 1 in let F = var 2 in let T = var 3 in
+    ring (s ∷ p ∷ f ∷ t ∷ []) (sub (mul S X) (mul S T)) (sub (mul S X) (add (mul (sub S S) F) (mul S T))) refl
+
+axis_first : (s f t : ℤ) → s *ℤ f ≡ between (pos 0) s f t
+axis_first s f t =
+    let S = var 0 in let F = var 1 in let T = var 2 in let O = num (pos 0) in
+    ring (s ∷ f ∷ t ∷ []) (mul S F) (add (mul (sub S O) F) (mul O T)) refl
+
+axis_last : (s f t : ℤ) → s *ℤ t ≡ between s s f t
+axis_last s f t =
+    let S = var 0 in let F = var 1 in let T = var 2 in
+    ring (s ∷ f ∷ t ∷ []) (mul S T) (add (mul (sub S S) F) (mul S T)) refl
+
+pub first_offset : (m : Motion) (p : List ℤ) (s : ℤ) → scaled_way s m.from p ≡ offset_at m p (pos 0) s
+first_offset m p s =
+    same3 _ _ _ _ _ _ (offset_first s (at p 0) (at m.from 0) (at m.to 0)) (offset_first s (at p 1) (at m.from 1) (at m.to 1)) (offset_first s (at p 2) (at m.from 2) (at m.to 2))
+
+pub last_offset : (m : Motion) (p : List ℤ) (s : ℤ) → scaled_way s m.to p ≡ offset_at m p s s
+last_offset m p s =
+    same3 _ _ _ _ _ _ (offset_last s (at p 0) (at m.from 0) (at m.to 0)) (offset_last s (at p 1) (at m.from 1) (at m.to 1)) (offset_last s (at p 2) (at m.from 2) (at m.to 2))
+
+pub first_axis : (m : Motion) (s : ℤ) → scaled_vector s m.axis_from ≡ axis_at m (pos 0) s
+first_axis m s =
+    same3 _ _ _ _ _ _ (axis_first s (at m.axis_from 0) (at m.axis_to 0)) (axis_first s (at m.axis_from 1) (at m.axis_to 1)) (axis_first s (at m.axis_from 2) (at m.axis_to 2))
+
+pub last_axis : (m : Motion) (s : ℤ) → scaled_vector s m.axis_to ≡ axis_at m s s
+last_axis m s =
+    same3 _ _ _ _ _ _ (axis_last s (at m.axis_from 0) (at m.axis_to 0)) (axis_last s (at m.axis_from 1) (at m.axis_to 1)) (axis_last s (at m.axis_from 2) (at m.axis_to 2))
+
+pub turn_is : (m : Motion) (S : ℕ) (first last n : List ℤ) → first ≡ scaled_vector (pos S) m.axis_from → last ≡ scaled_vector (pos S) m.axis_to → n ≡ dot_on_cell first last first last → IsTurn first last n m S
+turn_is m S first last n ef el en =
+    let f = ef ∙ first_axis m (pos S) in let l = el ∙ last_axis m (pos S) in record {
+      first_is = f;
+      last_is = l;
+      n_is = en ∙ ap₂ (λ x y. dot_on_cell x y x y) f l;
+    }
+
+-- a line by its parts
+pub through_is : (line : Line) (m : Motion) (first v : List ℤ) (S : ℕ) (A C n o q u w d f g : List ℤ)
+    → IsTurn A C n m S → o ≡ scaled_way (pos S) m.from first → q ≡ scaled_way (pos S) m.to first
+    → u ≡ dot_on_cell o q A C → w ≡ dot_on_cell v v A C → d ≡ dot_on_cell o q o q → f ≡ dot_on_cell o q v v → g ≡ dot_on_cell v v v v
+    → line.constant.c ≡ spread_form (pos 4) d n u u → line.first.c ≡ spread_form (pos 8) f n u w → line.second.c ≡ spread_form (pos 4) g n w w
+    → line.height.c ≡ u → line.height_step.c ≡ w → IsThrough line m first v S
+through_is line m first v S A C n o q u w d f g turn eo eq eu ew ed ef eg e0 e1 e2 e3 e4 =
+    let s = pos S in
+    let eo' = eo ∙ first_offset m first s in let eq' = eq ∙ last_offset m first s in
+    let U : u ≡ u_between m first 0 S S = eu ∙ ap₂ (λ x y. dot_on_cell x y A C) eo' eq' ∙ ap₂ (λ x y. dot_on_cell (offset_at m first (pos 0) s) (offset_at m first s s) x y) turn.first_is turn.last_is in
+    let W : w ≡ u_step m v S = ew ∙ ap₂ (λ x y. dot_on_cell v v x y) turn.first_is turn.last_is in
+    let D : d ≡ d_between m first 0 S S = ed ∙ ap₂ (λ x y. dot_on_cell x y x y) eo' eq' in
+    let F : f ≡ d_step m first v S = ef ∙ ap₂ (λ x y. dot_on_cell x y v v) eo' eq' in
+    let N = turn.n_is in record {
+      constant_is = e0 ∙ ap₂ (λ x y. spread_form (pos 4) x y u u) D N ∙ ap (λ x. spread_form (pos 4) (d_between m first 0 S S) (n_between m 0 S S) x x) U;
+      first_is = e1 ∙ ap₂ (λ x y. spread_form (pos 8) x y u w) F N ∙ ap₂ (λ x y. spread_form (pos 8) (d_step m first v S) (n_between m 0 S S) x y) U W;
+      second_is = e2 ∙ ap₂ (λ x y. spread_form (pos 4) x y w w) eg N ∙ ap (λ x. spread_form (pos 4) (dot_on_cell v v v v) (n_between m 0 S S) x x) W;
+      height_is = e3 ∙ U;
+      height_step_is = e4 ∙ W;
+    }
+
+-- the forms of the point l steps on
+pub forms_are : (line : Line) (m : Motion) (o first next p : List ℤ) (S : ℕ) (l : ℤ) → IsThrough line m o (scaled_way (pos S) first next) S → IsAlong o first next p l → HasForms line l m p S
+forms_are line m o first next p S l is on =
+    let s = pos S in let v = scaled_way s first next in
+    let P = offset_at m o (pos 0) s in let Q = offset_at m o s s in let A = axis_at m (pos 0) s in let C = axis_at m s s in
+    let n = n_between m 0 S S in let u = u_between m o 0 S S in let w = u_step m v S in let d = d_between m o 0 S S in let f = d_step m o v S in let g = dot_on_cell v v v v in
+    let start = offset_moves m o first next p (pos 0) s l on in
+    let end = offset_moves m o first next p s s l on in
+    let U : u_between m p 0 S S ≡ moved3 u w l = ap₂ (λ x y. dot_on_cell x y A C) start end ∙ u_moves P Q A C v l in
+    let D : d_between m p 0 S S ≡ moved_twice d f g l = ap₂ (λ x y. dot_on_cell x y x y) start end ∙ d_moves P Q v l in record {
+      width = ap (λ x. quadratics x line.first.c line.second.c l) is.constant_is ∙ ap₂ (λ x y. quadratics (width_of m o S) x y l) is.first_is is.second_is
+          ∙ width_moves n u w d f g l ∙ ap₂ (λ x y. spread_form (pos 4) x n y y) (sym D) (sym U);
+      height = ap₂ (λ x y. at x 2 +ℤ l *ℤ at y 2) is.height_is is.height_step_is ∙ ap (λ x. at x 2) (sym U);
+    }
+
+-- a multiple of d n - u v where d and u are moved3
+pub spread_moves : (n u w d f v : List ℤ) (l : ℤ) → moved5 (spread_form (pos 8) d n u v) (spread_form (pos 8) f n w v) l ≡ spread_form (pos 8) (moved3 d f l) n (moved3 u w l) v
+spread_moves n u w d f v l =
+    let e = at n 0 ∷ at n 1 ∷ at n 2 ∷ at u 0 ∷ at u 1 ∷ at u 2 ∷ at w 0 ∷ at w 1 ∷ at w 2 ∷ at d 0 ∷ at d 1 ∷ at d 2 ∷ at f 0 ∷ at f 1 ∷ at f 2 ∷ at v 0 ∷ at v 1 ∷ at v 2 ∷ l ∷ [] in
+    let N = from 0 in let U = from 3 in let W = from 6 in let D = from 9 in let F = from 12 in let V = from 15 in let L = var 18 in
+    let x = λ (k : ℕ). add (spread 8 D N U V k) (mul L (spread 8 F N W V k)) in
+    let y = spread 8 (λ k. add (D k) (mul L (F k))) N (λ k. add (U k) (mul L (W k))) V in
+    same5 _ _ _ _ _ _ _ _ _ _ (ring e (x 0) (y 0) refl) (ring e (x 1) (y 1) refl) (ring e (x 2) (y 2) refl) (ring e (x 3) (y 3) refl) (ring e (x 4) (y 4) refl)
+
+-- line j of a sheet, as what its parts are
+pub record HasRay (sheet : Sheet) (m : Motion) (o v : List ℤ) (S : ℕ) (j : ℤ) : Type 0 where
+  pub constant : width_at sheet.across j ≡ width_of m o S
+  pub first : moved5 sheet.along.first.c sheet.mixed.c j ≡ spread_form (pos 8) (d_step m o v S) (n_between m 0 S S) (u_between m o 0 S S) (u_step m v S)
+  pub height : moved3 sheet.across.height.c sheet.across.height_step.c j ≡ u_between m o 0 S S
+
+pub ray_is : (sheet : Sheet) (m : Motion) (start beside v o : List ℤ) (S : ℕ) (j : ℤ) → IsSheet sheet m start v (scaled_way (pos S) start beside) S → IsAlong start start beside o j → HasRay sheet m o v S j
+ray_is sheet m start beside v o S j is on =
+    let s = pos S in let t = scaled_way s start beside in
+    let P = offset_at m start (pos 0) s in let Q = offset_at m start s s in let A = axis_at m (pos 0) s in let C = axis_at m s s in
+    let n = n_between m 0 S S in let u = u_between m start 0 S S in
+    let from = offset_moves m start start beside o (pos 0) s j on in
+    let to = offset_moves m start start beside o s s j on in
+    let U : u_between m o 0 S S ≡ moved3 u (u_step m t S) j = ap₂ (λ x y. dot_on_cell x y A C) from to ∙ u_moves P Q A C t j in
+    let F : d_step m o v S ≡ moved3 (d_step m start v S) (dot_on_cell t t v v) j = ap₂ (λ x y. dot_on_cell x y v v) from to ∙ u_moves P Q v v t j in record {
+      constant = (forms_are sheet.across m start start beside o S j is.across on).width;
+      first = ap₂ (λ x y. moved5 x y j) is.along.first_is is.mixed ∙ spread_moves n u (u_step m t S) (d_step m start v S) (dot_on_cell t t v v) (u_step m v S) j
+          ∙ ap₂ (λ x y. spread_form (pos 8) x n y (u_step m v S)) (sym F) (sym U);
+      height = ap₂ (λ x y. moved3 x y j) is.across.height_is is.across.height_step_is ∙ sym U;
+    }
+
+pub line_is : (line : Line) (sheet : Sheet) (m : Motion) (start v t o : List ℤ) (S : ℕ) (j : ℤ) → IsSheet sheet m start v t S → HasRay sheet m o v S j → IsLineOn line sheet j → IsThrough line m o v S
+line_is line sheet m start v t o S j is ray on = record {
+  constant_is = on.constant_is ∙ ray.constant;
+  first_is = on.first_is ∙ ray.first;
+  second_is = on.second_is ∙ is.along.second_is;
+  height_is = on.height_is ∙ ray.height;
+  height_step_is = on.height_step_is ∙ is.along.height_step_is;
+}

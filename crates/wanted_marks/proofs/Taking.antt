@@ -1,0 +1,57 @@
+-- One bit more of a word of marks.
+use Rattle.std.proofs.Common.{◌≡◌, ℕ, ◌+◌, Bool, true, false, not, ◌&&◌, ◌||◌, eqb, if◌then◌else◌, refl, sym, ap, ◌∙◌}
+use Rattle.std.proofs.lemmas.Bool.{eqb-true, and_parts}
+use Rattle.wanted_marks.specs.Bits.{has_bit}
+
+-- w: wanted, r: left to do, e: the bit that is done, t: what is true of it
+taken : (w r e t : Bool) → (e ≡ true → w ≡ true) → (((w && not r) && t) || (e && t)) ≡ ((w && not (r && not e)) && t)
+taken true true true true h = refl
+taken true true true false h = refl
+taken true true false true h = refl
+taken true true false false h = refl
+taken true false true true h = refl
+taken true false true false h = refl
+taken true false false true h = refl
+taken true false false false h = refl
+taken false r true t h = let w = h refl in cc
+taken false r false t h = refl
+
+same_at : (e t u : Bool) → (e ≡ true → t ≡ u) → (e && t) ≡ (e && u)
+same_at true t u h = h refl
+same_at false t u h = refl
+
+pub taken_bit : (word wanted left rest : ℕ) (test : ℕ → Bool) (first b k : ℕ) (told : Bool) (marks : ℕ)
+    → has_bit word k ≡ ((has_bit wanted k && not (has_bit left k)) && test (first + k))
+    → has_bit marks k ≡ (has_bit word k || (eqb k b && told)) → told ≡ test (first + b)
+    → has_bit rest k ≡ (has_bit left k && not (eqb k b)) → has_bit wanted b ≡ true
+    → has_bit marks k ≡ ((has_bit wanted k && not (has_bit rest k)) && test (first + k))
+taken_bit word wanted left rest test first b k told marks before now is_told done is_wanted =
+    now ∙ ap (λ x. x || (eqb k b && told)) before
+    ∙ ap (λ x. ((has_bit wanted k && not (has_bit left k)) && test (first + k)) || x)
+    (same_at (eqb k b) told (test (first + k)) (λ e. is_told ∙ ap (λ i. test (first + i)) (sym (eqb-true k b e))))
+    ∙ taken (has_bit wanted k) (has_bit left k) (eqb k b) (test (first + k)) (λ e. ap (has_bit wanted) (eqb-true k b e) ∙ is_wanted)
+    ∙ ap (λ x. (has_bit wanted k && not x) && test (first + k)) (sym done)
+
+pub still_wanted : (wanted left rest b k : ℕ) → (has_bit left k ≡ true → has_bit wanted k ≡ true) → has_bit rest k ≡ (has_bit left k && not (eqb k b)) → has_bit rest k ≡ true → has_bit wanted k ≡ true
+still_wanted wanted left rest b k before done now = before (and_parts (has_bit left k) (not (eqb k b)) (sym done ∙ now)).0
+
+none_done : (w t : Bool) → false ≡ ((w && not w) && t)
+none_done true t = refl
+none_done false t = refl
+
+pub none_taken : (none w t : Bool) → none ≡ false → none ≡ ((w && not w) && t)
+none_taken none w t e = e ∙ none_done w t
+
+all_done : (w t : Bool) → ((w && not false) && t) ≡ (w && t)
+all_done true t = refl
+all_done false t = refl
+
+pub all_taken : (word w r t : Bool) → word ≡ ((w && not r) && t) → r ≡ false → word ≡ (w && t)
+all_taken word w r t e done = e ∙ ap (λ x. (w && not x) && t) done ∙ all_done w t
+
+told_is : (o w s p : Bool) → (if o then (w && s) else (w && p)) ≡ (w && (if o then s else p))
+told_is true w s p = refl
+told_is false w s p = refl
+
+pub told_of : (told o s p w sure possible : Bool) → told ≡ (if o then s else p) → s ≡ (w && sure) → p ≡ (w && possible) → told ≡ (w && (if o then sure else possible))
+told_of told o s p w sure possible e es ep = e ∙ ap (λ x. if o then x else p) es ∙ ap (λ x. if o then (w && sure) else x) ep ∙ told_is o w sure possible

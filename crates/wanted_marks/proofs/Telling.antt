@@ -1,0 +1,28 @@
+-- What a mark tells of a point is what the definitions say of it.
+use Rattle.std.proofs.Common.{◌≡◌, ℕ, Bool, true, false, List, ℤ, if◌then◌else◌, refl, ap, ◌∙◌}
+use Rattle.space.specs.Motion.{Motion}
+use Rattle.axis_cells.specs.declared.mark.Mark.{Mark}
+use Rattle.axis_cells.specs.declared.mark.Mark.TheVariants.{Clear, Possible, Removed}
+use Rattle.cutter_slabs.specs.Cutter.{CutterSize}
+use Rattle.cutter_marks.specs.MarkBy.{is_possible_by, is_sure_by, mark_by}
+use Rattle.wanted_marks.specs.Told.{tells_possible, tells_sure}
+
+told_sure : (h q : Bool) → tells_sure (if h then Removed else (if q then Possible else Clear)) ≡ h
+told_sure true q = refl
+told_sure false true = refl
+told_sure false false = refl
+
+told_possible : (h q : Bool) → (h ≡ true → q ≡ true) → tells_possible (if h then Removed else (if q then Possible else Clear)) ≡ q
+told_possible true true both = refl
+told_possible true false both = let q = both refl in cc
+told_possible false true both = refl
+told_possible false false both = refl
+
+pub tells_sure_by : (mark : Mark) (c : CutterSize) (n : ℕ) (m : Motion) (p : List ℤ) (S : ℕ) → mark ≡ mark_by c n m p S → tells_sure mark ≡ is_sure_by c n m p S
+unfolding mark_by is_sure_by is_possible_by
+tells_sure_by mark c n m p S e = ap tells_sure e ∙ told_sure (is_sure_by c n m p S) (is_possible_by c n m p S)
+
+pub tells_possible_by : (mark : Mark) (c : CutterSize) (n : ℕ) (m : Motion) (p : List ℤ) (S : ℕ) → (is_sure_by c n m p S ≡ true → is_possible_by c n m p S ≡ true)
+    → mark ≡ mark_by c n m p S → tells_possible mark ≡ is_possible_by c n m p S
+unfolding mark_by is_sure_by is_possible_by
+tells_possible_by mark c n m p S both e = ap tells_possible e ∙ told_possible (is_sure_by c n m p S) (is_possible_by c n m p S) both

@@ -1,0 +1,37 @@
+use Rattle.std.proofs.Common.{◌≡◌, ℕ, List, true, ◌<◌, ◌≤◌, ◌^◌, FitsSigned, arith, rules, subst, sym, ap, ap₂, ◌∙◌}
+use Rattle.std.specs.List.{All}
+use Rattle.std.proofs.Math.Pow.{pow_mono}
+use Rattle.std.proofs.lemmas.Int.{to_z-of_z}
+use mir.Syntax.{w32}
+use Rattle.space.specs.Motion.{IsSweep}
+use Rattle.bern_form.specs.Between.{n_between}
+use Rattle.bern_form.specs.Marks.{held_at_sample}
+use Rattle.bern_form.specs.Slab.{SlabSize}
+use Rattle.cutter_marks.specs.MarkBy.{is_possible_by, is_sure_by}
+use Rattle.wanted_marks.specs.Limits.{IsNoWider, all_not_below_zero, raised_square}
+use Rattle.wanted_marks.proofs.Widest.{all_within}
+use Rattle.wanted_marks.proofs.move_marker.MoveMarker.new.Goals as goal
+
+some_cells : (depth : ℕ) → 0 < 2 ^ depth
+some_cells depth = let some : 2 ^ 0 ≤ 2 ^ depth = pow_mono {i = 0} {j = depth} (omega arith) in some
+
+pub invariant_of-result : goal.invariant_of-result
+unfolding is_possible_by is_sure_by
+invariant_of-result c =
+    let valid = subst IsSweep c.sweep.view_is c.sweep.invariant in
+    let m = c.args.sweep.now in let S = 2 ^ c.args.depth in
+    let scale = c.cells_of-scale in let turn = c.of_sweep-turn in let widest = c.greatest_diameter.result in
+    let fits : FitsSigned w32 widest = search rules in
+    let n_is : turn.result.n.c ≡ n_between m 0 S S = turn.ensures.n_is ∙ ap (λ k. n_between m 0 k k) scale.ensures.cells in
+    let limits : c.limits_of-limits.result ≡ all_not_below_zero (raised_square S widest (n_between m 0 S S)) =
+    (simp to_z-of_z at c.limits_of-limits.ensures) ∙ ap₂ (λ k n. all_not_below_zero (raised_square k widest n)) scale.ensures.cells n_is in
+    record {
+      shallow = c.requires;
+      valid = valid;
+      both = λ p sure.
+          c.inner-stack.ensures.possible m p S (some_cells c.args.depth) valid (subst (λ l. held_at_sample l m p S ≡ true) (sym c.inner-stack.ensures.stack) sure);
+      scale_is = scale.ensures.cells;
+      few = scale.ensures.few;
+      turn = turn.ensures;
+      limits_are = all_within S widest (n_between m 0 S S) c.limits_of-limits.result _ limits (subst (λ (l : List SlabSize). All (IsNoWider widest) l) c.outer.ensures.stack c.greatest_diameter.ensures.greatest);
+    }

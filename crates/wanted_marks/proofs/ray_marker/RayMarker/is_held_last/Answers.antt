@@ -1,0 +1,24 @@
+use Rattle.std.proofs.Common.{◌≡◌, Option, ap, subst, sym, pos, ◌^◌}
+use Rattle.std.specs.Option.{IfSome}
+use Rattle.ray_grid.specs.Lattice.{point_of}
+use Rattle.wanted_marks.specs.declared.line.Line.{Line}
+use Rattle.wanted_marks.specs.Lines.{HasForms, IsLineOf}
+use Rattle.wanted_marks.specs.Rays.{IsRemovedBy, MoveOf}
+use Rattle.wanted_marks.specs.ReadyRay.{IsReadyRay}
+use Rattle.wanted_marks.proofs.ray_marker.RayMarker.is_held_last.Goals as goal
+
+pub is_held_last-requires : goal.is_held_last-requires
+is_held_last-requires c =
+    let ready = subst (IsReadyRay c.self.inside.line) c.self.view_is c.self.invariant in
+    let line = subst (λ (o : Option Line). IfSome o (λ x. IsLineOf x c.args.self.now)) c.in-Some.is ready.line_of in
+    line.fits c.args.l c.requires
+
+pub returns-in-Some : goal.returns-in-Some
+returns-in-Some c = λ yes.
+    let r = c.args.self.now in
+    let ready = subst (IsReadyRay c.self.inside.line) c.self.view_is c.self.invariant in
+    let line = subst (λ (o : Option Line). IfSome o (λ x. IsLineOf x r)) c.in-Some.is ready.line_of in
+    let p = point_of r.grid r.ray c.args.l in
+    let here : c.self.inside.mover.now ≡ r.sweep = ap (λ x. x.sweep) c.self.view_is in
+    subst (λ (v : MoveOf). IsRemovedBy v p) here
+    (c.is_held_last.ensures yes p (subst (λ (v : MoveOf). HasForms c.in-Some.line (pos c.args.l) v.motion p (2 ^ v.depth)) (sym here) (line.forms c.args.l c.requires)))

@@ -1,0 +1,14 @@
+use Rattle.std.proofs.Common.{sym}
+use Rattle.wanted_marks.proofs.ray_marker.RayMarker.mark_at.Goals as goal
+
+pub returns-then-is_beside-clause-sure : goal.returns-then-is_beside-clause-sure
+returns-then-is_beside-clause-sure c = sym (c.is_beside.ensures c.if-is_beside.true).not_sure
+
+pub returns-then-is_beside-clause-possible : goal.returns-then-is_beside-clause-possible
+returns-then-is_beside-clause-possible c = sym (c.is_beside.ensures c.if-is_beside.true).not_possible
+
+pub returns-then-is_held_last-clause-sure : goal.returns-then-is_held_last-clause-sure
+returns-then-is_held_last-clause-sure c = sym (c.is_held_last.ensures c.if-is_held_last.true).sure
+
+pub returns-then-is_held_last-clause-possible : goal.returns-then-is_held_last-clause-possible
+returns-then-is_held_last-clause-possible c = sym (c.is_held_last.ensures c.if-is_held_last.true).possible

@@ -1,0 +1,12 @@
+pub mod Bits
+pub mod Told
+pub mod Rays
+pub mod Ways
+pub mod Widths
+pub mod Lines
+pub mod Sheets
+pub mod Limits
+pub mod Samples
+pub mod Ready
+pub mod ReadyRay
+pub mod Strips

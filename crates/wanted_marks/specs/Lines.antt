@@ -1,0 +1,57 @@
+-- The forms of the points of a line on a whole move, as they are kept, and at the point l steps on.
+use Rattle.std.specs.Prelude.{◌≡◌, ℕ, ◌*◌, ◌^◌, ◌<◌, ◌≤◌, List, ℤ, pos, ◌+ℤ◌, ◌*ℤ◌, unsigned_abs, All}
+use Rattle.space.specs.Motion.{Motion, axis_at, offset_at}
+use Rattle.space.specs.Vectors.{at}
+use Rattle.bern_form.specs.Between.{n_between, u_between}
+use Rattle.bern_form.specs.Cells.{dot_on_cell}
+use Rattle.bern_form.specs.Forms.{IsSmall}
+use Rattle.bern_form.specs.Sizes.{axis_limit, offset_limit}
+use Rattle.ray_grid.specs.Lattice.{point_of, points_of}
+use Rattle.wanted_marks.specs.declared.line.Line.{Line}
+use Rattle.wanted_marks.specs.Rays.{MoveOf, RayOf}
+use Rattle.wanted_marks.specs.Widths.{quadratic, quadratics, spread_form, width_of}
+
+-- the width form, and u at the last sample
+abbrev pub width_at : Line → ℤ → List ℤ
+width_at line l = quadratics line.constant.c line.first.c line.second.c l
+
+abbrev pub last_height_at : Line → ℤ → ℤ
+last_height_at line l = at line.height.c 2 +ℤ l *ℤ at line.height_step.c 2
+
+-- a coefficient of the width form
+abbrev pub coefficient_at : Line → ℕ → ℤ → ℤ
+coefficient_at line k l = quadratic (at line.constant.c k) (at line.first.c k) (at line.second.c k) l
+
+-- they fit 128 bits
+pub record FitsAt (line : Line) (l : ℤ) : Type 0 where
+  pub width : All IsSmall (width_at line l)
+  pub height : unsigned_abs (last_height_at line l) ≤ 3 * (offset_limit * axis_limit)
+
+-- they are those of the point p
+pub record HasForms (line : Line) (l : ℤ) (m : Motion) (p : List ℤ) (S : ℕ) : Type 0 where
+  pub width : width_at line l ≡ width_of m p S
+  pub height : last_height_at line l ≡ at (u_between m p 0 S S) 2
+
+-- on a move of a cutter, at the cells of its depth
+abbrev pub HasFormsIn : Line → ℤ → MoveOf → List ℤ → Type 0
+HasFormsIn line l v p = HasForms line l v.motion p (2 ^ v.depth)
+
+-- the line runs through the points of the ray
+pub record IsLineOf (line : Line) (r : RayOf) : Type 0 where
+  pub fits : (l : ℕ) → l < points_of r.grid r.ray.family → FitsAt line (pos l)
+  pub forms : (l : ℕ) → l < points_of r.grid r.ray.family → HasFormsIn line (pos l) r.sweep (point_of r.grid r.ray l)
+
+-- what u grows by with a step v, which is taken times S; and half of what d grows by, from the point s on, but for |v|^2
+abbrev pub u_step : Motion → List ℤ → ℕ → List ℤ
+u_step m v S = dot_on_cell v v (axis_at m (pos 0) (pos S)) (axis_at m (pos S) (pos S))
+
+abbrev pub d_step : Motion → List ℤ → List ℤ → ℕ → List ℤ
+d_step m s v S = dot_on_cell (offset_at m s (pos 0) (pos S)) (offset_at m s (pos S) (pos S)) v v
+
+-- the line begins at the point s and goes on by the step v
+pub record IsThrough (line : Line) (m : Motion) (s v : List ℤ) (S : ℕ) : Type 0 where
+  pub constant_is : line.constant.c ≡ width_of m s S
+  pub first_is : line.first.c ≡ spread_form (pos 8) (d_step m s v S) (n_between m 0 S S) (u_between m s 0 S S) (u_step m v S)
+  pub second_is : line.second.c ≡ spread_form (pos 4) (dot_on_cell v v v v) (n_between m 0 S S) (u_step m v S) (u_step m v S)
+  pub height_is : line.height.c ≡ u_between m s 0 S S
+  pub height_step_is : line.height_step.c ≡ u_step m v S

@@ -1,0 +1,65 @@
+ghost use Rattle.std.specs.Prelude.{◌≡◌, ◌*◌, ◌≤◌, ◌≤ℤ◌, ◌⊎◌, pos, All};
+ghost use Rattle.bern_form.specs.Sizes.{IsBounded2, axis_limit, scale_limit};
+ghost use Rattle.wanted_marks.specs.Limits.{IsNoWider, all_not_below_zero, not_below_zero, raised_square};
+
+use crate::scaled::scaled_square;
+use bern_form::{Form2, Slab, lift24, scale2};
+
+/// The diameter of a slab.
+#[inline]
+fn diameter_of(slab: &Slab) -> i32
+    ensures value { result ≡ slab.now.dia }
+    ensures not_negative { pos 0 ≤ℤ result }
+    ensures few { result ≤ℤ pos 200000 }
+{
+    slab.dia
+}
+
+/// The greater of two numbers.
+#[inline]
+fn greater(a: i32, b: i32) -> i32
+    ensures first { a ≤ℤ result }
+    ensures second { b ≤ℤ result }
+    ensures either { (result ≡ a) ⊎ (result ≡ b) }
+{
+    if a < b { b } else { a }
+}
+
+/// The greatest diameter of the slabs: 0 where there are none.
+pub fn greatest_diameter(slabs: &[Slab]) -> i32
+    ensures not_negative { pos 0 ≤ℤ result }
+    ensures few { result ≤ℤ pos 200000 }
+    ensures greatest { All (IsNoWider result) slabs.now }
+{
+    let mut greatest = 0;
+    for slab in slabs {
+        greatest = greater(greatest, diameter_of(slab));
+    }
+    greatest
+}
+
+/// The number, or 0 where it is below.
+#[inline]
+fn not_below_zero(z: i128) -> i128
+    ensures { result ≡ not_below_zero z }
+{
+    if z < 0 { 0 } else { z }
+}
+
+/// The coefficients of dia^2 n raised to degree 4, and 0 where one is below.
+pub fn limits_of(n: &Form2, scale: u32, diameter: i32) -> [i128; 5]
+    requires n { IsBounded2 (3 * (axis_limit * axis_limit)) n.now.c }
+    requires scale { scale ≤ scale_limit }
+    requires not_negative { pos 0 ≤ℤ diameter }
+    requires few { diameter ≤ℤ pos 200000 }
+    ensures { result ≡ all_not_below_zero (raised_square scale diameter n.now.c) }
+{
+    let [a, b, c, d, e] = lift24(&scale2(n, scaled_square(scale, diameter))).c;
+    [
+        not_below_zero(a),
+        not_below_zero(b),
+        not_below_zero(c),
+        not_below_zero(d),
+        not_below_zero(e),
+    ]
+}

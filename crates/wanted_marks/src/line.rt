@@ -1,0 +1,132 @@
+ghost use Rattle.std.specs.Prelude.{◌≡◌, ◌*◌, ◌<◌, ◌≤◌, ℤ, List, pos, ◌+ℤ◌, ◌*ℤ◌, int_lt, unsigned_abs};
+ghost use Rattle.std.specs.Int.{int_wrap};
+ghost use mir.Syntax.{w128};
+ghost use Rattle.space.specs.Ranges.{IsPoint};
+ghost use Rattle.space.specs.Vectors.{at};
+ghost use Rattle.bern_form.specs.Forms.{IsSmall, all_positive, difference4};
+ghost use Rattle.bern_form.specs.Sizes.{IsBounded2, axis_limit, offset_limit, scale_limit};
+ghost use Rattle.wanted_marks.specs.Ways.{scaled_way};
+ghost use Rattle.wanted_marks.specs.Lines.{FitsAt, IsThrough, coefficient_at, last_height_at, width_at};
+ghost use Rattle.wanted_marks.specs.Widths.{IsTurn, quadratic, spread_form};
+
+use crate::scalar::scalar_form;
+use crate::scaled::scaled_way;
+use crate::turn::Turn;
+use axis_cells::Sweep;
+use bern_form::{Form2, Form4, minus4, scale4, times22};
+
+/// A multiple of d n - u v.
+pub fn spread_form(d: &Form2, n: &Form2, u: &Form2, v: &Form2, by: i128) -> Form4
+    requires d { IsBounded2 (3 * (offset_limit * offset_limit)) d.now.c }
+    requires n { IsBounded2 (3 * (axis_limit * axis_limit)) n.now.c }
+    requires u { IsBounded2 (3 * (offset_limit * axis_limit)) u.now.c }
+    requires v { IsBounded2 (3 * (offset_limit * axis_limit)) v.now.c }
+    requires by { unsigned_abs by ≤ 8 }
+    ensures { result.c ≡ spread_form by d.now.c n.now.c u.now.c v.now.c }
+{
+    scale4(&minus4(&times22(d, n), &times22(u, v)), by)
+}
+
+/// a + l x, or what is left of it in 128 bits.
+#[inline]
+pub fn wrapped(a: i128, l: i128, x: i128) -> i128
+    ensures { result ≡ int_wrap w128 (a +ℤ l *ℤ x) }
+{
+    l.wrapping_mul(x).wrapping_add(a)
+}
+
+/// a + b l + c l^2. The parts may be larger than what fits: where the whole fits, what wrapped comes back.
+#[inline]
+pub fn quadratic(a: i128, b: i128, c: i128, l: u32) -> i128
+    requires { IsSmall (quadratic a b c (pos l)) }
+    ensures { result ≡ quadratic a b c (pos l) }
+{
+    let l = i128::from(l);
+    wrapped(a, l, wrapped(b, l, c))
+}
+
+/// The forms of the points of a line on a whole move. The width form 4 (d n - u^2) is kept as that of the first point, and as
+/// what l and l^2 are taken times in that of the point l steps on; u as that of the first point and what l is taken times.
+#[derive(Drop)]
+pub struct Line {
+    pub constant: Form4,
+    pub first: Form4,
+    pub second: Form4,
+    pub height: Form2,
+    pub height_step: Form2,
+}
+
+impl Line {
+    /// The line through two points. Along it the offset from the tip grows by the same vector w with each step, so u by w.a
+    /// and d by 2 p.w, and |w|^2 with the square.
+    pub fn through(
+        start: &[i32; 3],
+        next: &[i32; 3],
+        sweep: &Sweep,
+        turn: &Turn,
+        scale: u32,
+    ) -> Line
+        requires start { IsPoint start.now }
+        requires next { IsPoint next.now }
+        requires turn { IsTurn turn.now.first turn.now.last turn.now.n.c sweep.now scale }
+        requires scale { scale ≤ scale_limit }
+        ensures { IsThrough result sweep.now start.now (scaled_way (pos scale) start.now next.now) scale }
+    {
+        let from = scaled_way(scale, &sweep.from, start);
+        let to = scaled_way(scale, &sweep.to, start);
+        let step = scaled_way(scale, start, next);
+        let u = scalar_form(&from, &to, &turn.first, &turn.last);
+        let u_step = scalar_form(&step, &step, &turn.first, &turn.last);
+        let d = scalar_form(&from, &to, &from, &to);
+        let d_step = scalar_form(&from, &to, &step, &step);
+        let step_square = scalar_form(&step, &step, &step, &step);
+        Line {
+            constant: spread_form(&d, &turn.n, &u, &u, 4),
+            first: spread_form(&d_step, &turn.n, &u, &u_step, 8),
+            second: spread_form(&step_square, &turn.n, &u_step, &u_step, 4),
+            height: u,
+            height_step: u_step,
+        }
+    }
+
+    /// Whether a coefficient at the point l steps on is above its limit.
+    #[inline]
+    fn is_above(&self, k: usize, l: u32, limit: i128) -> bool
+        requires place { k < 5 }
+        requires small { IsSmall (coefficient_at self.now k (pos l)) }
+        ensures { result ≡ int_lt limit (coefficient_at self.now k (pos l)) }
+    {
+        limit < quadratic(self.constant.c[k], self.first.c[k], self.second.c[k], l)
+    }
+
+    /// Whether each coefficient at the point l steps on is above its limit.
+    pub fn exceed(&self, l: u32, limits: &[i128; 5]) -> bool
+        requires { FitsAt self.now (pos l) }
+        ensures { result ≡ all_positive (difference4 (width_at self.now (pos l)) limits.now) }
+    {
+        for k in 0..5 {
+            if !self.is_above(k, l, limits[k]) {
+                return false;
+            }
+        }
+        true
+    }
+
+    /// u at the last sample, of the point l steps on.
+    #[inline]
+    pub fn last_height(&self, l: u32) -> i128
+        requires { FitsAt self.now (pos l) }
+        ensures { result ≡ last_height_at self.now (pos l) }
+    {
+        wrapped(self.height.c[2], i128::from(l), self.height_step.c[2])
+    }
+
+    /// 4 (d n - u^2) at the last sample, of the point l steps on.
+    #[inline]
+    pub fn last_width(&self, l: u32) -> i128
+        requires { FitsAt self.now (pos l) }
+        ensures { result ≡ at (width_at self.now (pos l)) 4 }
+    {
+        quadratic(self.constant.c[4], self.first.c[4], self.second.c[4], l)
+    }
+}

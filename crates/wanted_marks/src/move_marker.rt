@@ -1,0 +1,182 @@
+ghost use Rattle.std.specs.Prelude.{◌≡◌, ◌^◌, ◌≤◌};
+ghost use Rattle.bern_form.specs.Sizes.{scale_limit};
+
+use crate::limits::{greatest_diameter, limits_of};
+use crate::line::Line;
+use crate::ray_marker::RayMarker;
+use crate::sample::is_covered_by_some;
+use crate::sheet::Sheet;
+use crate::strip_marker::StripMarker;
+use crate::turn::Turn;
+use axis_cells::{Mark, Sweep};
+use box_bisect::mark_point_uncounted;
+use cutter_slabs::Stacks;
+use ray_grid::{Family, Grid, Ray};
+use std::marker::Model;
+
+/// A move of a cutter, ready to mark points of rays. It keeps what is the same for all of them: how the axis turns, and the
+/// limits beyond which a point is beside every outer slab throughout the move.
+#[derive(Drop)]
+pub struct MoveMarker<'a> {
+    sweep: &'a Sweep,
+    stacks: &'a Stacks,
+    depth: u32,
+    scale: u32,
+    turn: Turn,
+    limits: [i128; 5],
+}
+
+/// How many cells a depth has: 2^depth.
+#[inline]
+fn cells_of(depth: u32) -> u32
+    requires { depth ≤ 10 }
+    ensures cells { result ≡ 2 ^ depth }
+    ensures few { result ≤ scale_limit }
+{
+    1 << depth
+}
+
+impl<'a> Model for MoveMarker<'a> {
+    ghost use Rattle.wanted_marks.specs.Rays.{MoveOf, move_of};
+    ghost use Rattle.wanted_marks.specs.Ready.{IsReadyMove};
+
+    ghost Value = { MoveOf };
+
+    ghost view = { λ s. move_of s.stacks.now s.sweep.now s.depth };
+
+    ghost invariant = { λ s. IsReadyMove s.scale s.turn.first s.turn.last s.turn.n.c s.limits
+        (move_of s.stacks.now s.sweep.now s.depth) };
+}
+
+impl<'a> MoveMarker<'a> {
+    ghost use Rattle.std.specs.Prelude.{◌≡◌, ◌^◌, ◌<◌, ◌≤◌, ℕ, ℤ, List, pos, IsTrue};
+    ghost use Rattle.std.specs.Option.{IfSome};
+    ghost use Rattle.space.specs.Ranges.{IsPoint};
+    ghost use Rattle.ray_grid.specs.Families.{first_axis};
+    ghost use Rattle.ray_grid.specs.Lattice.{IsRay, nodes_of};
+    ghost use Rattle.wanted_marks.specs.Lines.{FitsAt, HasFormsIn, IsLineOf};
+    ghost use Rattle.wanted_marks.specs.Rays.{IsClearOf, IsRemovedBy, is_possible_in, is_sure_in, move_of};
+    ghost use Rattle.wanted_marks.specs.Strips.{IsSheetOf};
+    ghost use Rattle.wanted_marks.specs.Told.{tells_possible, tells_sure};
+
+    /// For marks by the stacks and the reach of a cutter, at the samples and on the cells of a depth.
+    pub fn new(sweep: &'a Sweep, stacks: &'a Stacks, depth: u32) -> MoveMarker<'a>
+        requires { depth ≤ 10 }
+        ensures { result ≡ move_of stacks.now sweep.now depth }
+    {
+        // A sweep is valid by its type, which is known where a field of it is seen; a stack tells that sure points are possible.
+        let _valid = &sweep.from;
+        let _stack = stacks.inner();
+        let scale = cells_of(depth);
+        let turn = Turn::of_sweep(sweep, scale);
+        let limits = limits_of(&turn.n, scale, greatest_diameter(stacks.outer()));
+        MoveMarker {
+            sweep,
+            stacks,
+            depth,
+            scale,
+            turn,
+            limits,
+        }
+    }
+
+    /// For the points of one ray of the grid.
+    pub fn on_ray(&'a self, grid: &'a Grid, ray: Ray) -> RayMarker<'a>
+        requires { IsRay grid.now ray }
+        ensures { result ≡ record { sweep = self.now; grid = grid.now; ray = ray } }
+    {
+        RayMarker::new(self, grid, ray)
+    }
+
+    /// For the points of the rays of one strip, those of a family with the node i.
+    pub fn on_strip(&'a self, grid: &'a Grid, family: Family, i: u32) -> StripMarker<'a>
+        requires { i < nodes_of grid.now (first_axis family) }
+        ensures { result ≡ record { sweep = self.now; grid = grid.now; family = family; i = i } }
+    {
+        StripMarker::new(self, grid, family, i)
+    }
+
+    /// The mark of one point.
+    pub(crate) fn mark_point(&self, point: [i32; 3]) -> Mark
+        requires { IsPoint point }
+        ensures sure { tells_sure result ≡ is_sure_in self.now point }
+        ensures possible { tells_possible result ≡ is_possible_in self.now point }
+    {
+        mark_point_uncounted(self.sweep, self.stacks, point, self.depth)
+    }
+
+    /// The line through the points of a ray, where it has two or more.
+    pub(crate) fn line_of(&self, grid: &Grid, ray: &Ray) -> Option<Line>
+        requires { IsRay grid.now ray.now }
+        ensures { IfSome result (λ line. IsLineOf line record { sweep = self.now; grid = grid.now; ray = ray.now }) }
+    {
+        let points = grid.points(ray.family);
+        if points < 2 {
+            return None;
+        }
+        let start = grid.point(ray, 0);
+        let next = grid.point(ray, 1);
+        // The points between the first and the last lie within a metre as these two do.
+        let _last = grid.point(ray, points - 1);
+        Some(Line::through(&start, &next, self.sweep, &self.turn, self.scale))
+    }
+
+    /// The sheet through the points of a strip, where it has two rays of two points or more.
+    pub(crate) fn sheet_of(&self, grid: &Grid, family: Family, i: u32) -> Option<Sheet>
+        ensures { IfSome result (λ sheet. IsSheetOf sheet record { sweep = self.now; grid = grid.now; family = family; i = i }) }
+    {
+        let first = Ray { family, i, j: 0 };
+        let second = Ray { family, i, j: 1 };
+        if !grid.has_point(&first, 1) {
+            return None;
+        }
+        if !grid.has_point(&second, 0) {
+            return None;
+        }
+        let start = grid.point(&first, 0);
+        let next = grid.point(&first, 1);
+        let beside = grid.point(&second, 0);
+        Some(Sheet::through(&start, &next, &beside, self.sweep, &self.turn, self.scale))
+    }
+
+    /// The line through the points of a ray, where it has two or more, from the sheet of its strip.
+    pub(crate) fn line_on(&self, sheet: &Sheet, grid: &Grid, ray: &Ray) -> Option<Line>
+        requires ray { IsRay grid.now ray.now }
+        requires sheet { IsSheetOf sheet.now record { sweep = self.now; grid = grid.now; family = ray.now.family; i = ray.now.i } }
+        ensures { IfSome result (λ line. IsLineOf line record { sweep = self.now; grid = grid.now; ray = ray.now }) }
+    {
+        let points = grid.points(ray.family);
+        if points < 2 {
+            return None;
+        }
+        // The points between the first and the last lie within a metre as these two do; a move is valid by its type.
+        let _start = grid.point(ray, 0);
+        let _last = grid.point(ray, points - 1);
+        let _valid = &self.depth;
+        Some(sheet.line(ray.j))
+    }
+
+    /// Whether the point l steps on is beside every outer slab throughout the move. It is then neither sure nor possible.
+    #[inline]
+    pub(crate) fn is_beside(&self, line: &Line, l: u32) -> bool
+        requires { FitsAt line.now (pos l) }
+        ensures { IsTrue result → (p : List ℤ) → HasFormsIn line.now (pos l) self.now p → IsClearOf self.now p }
+    {
+        line.exceed(l, &self.limits)
+    }
+
+    /// Whether some inner slab holds the point l steps on at the last sample. It is then sure.
+    #[inline]
+    pub(crate) fn is_held_last(&self, line: &Line, l: u32) -> bool
+        requires { FitsAt line.now (pos l) }
+        ensures { IsTrue result → (p : List ℤ) → HasFormsIn line.now (pos l) self.now p → IsRemovedBy self.now p }
+    {
+        is_covered_by_some(
+            self.stacks.inner(),
+            self.scale,
+            line.last_height(l),
+            self.turn.n.c[2],
+            line.last_width(l),
+        )
+    }
+}

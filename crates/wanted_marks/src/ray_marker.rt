@@ -1,0 +1,141 @@
+use crate::bits::{chosen_bits, lowest_bit, without_bit};
+use crate::line::Line;
+use crate::move_marker::MoveMarker;
+use crate::word::WordMarks;
+use axis_cells::Mark;
+use ray_grid::{Grid, Ray};
+use std::marker::Model;
+
+/// A move of a cutter, ready to mark points of one ray.
+#[derive(Drop)]
+pub struct RayMarker<'a> {
+    mover: &'a MoveMarker<'a>,
+    grid: &'a Grid,
+    ray: Ray,
+    line: Option<Line>,
+}
+
+impl<'a> Model for RayMarker<'a> {
+    ghost use Rattle.wanted_marks.specs.Rays.{RayOf};
+    ghost use Rattle.wanted_marks.specs.ReadyRay.{IsReadyRay};
+
+    ghost Value = { RayOf };
+
+    ghost view = { λ s. record { sweep = s.mover.now; grid = s.grid.now; ray = s.ray } };
+
+    ghost invariant = { λ s. IsReadyRay s.line record { sweep = s.mover.now; grid = s.grid.now; ray = s.ray } };
+}
+
+impl<'a> RayMarker<'a> {
+    ghost use Rattle.std.specs.Prelude.{◌≡◌, ℕ, ◌<◌, IsTrue};
+    ghost use Rattle.std.specs.Option.{IfSome};
+    ghost use Rattle.ray_grid.specs.Lattice.{IsRay, point_of, points_of};
+    ghost use Rattle.wanted_marks.specs.Bits.{has_bit};
+    ghost use Rattle.wanted_marks.specs.Lines.{IsLineOf};
+    ghost use Rattle.wanted_marks.specs.Rays.{AreOnRay, IsClearOf, IsRemovedBy};
+    ghost use Rattle.wanted_marks.specs.Rays.{is_possible_at, is_possible_bit, is_sure_at, is_sure_bit, is_told_bit};
+    ghost use Rattle.wanted_marks.specs.Told.{tells_possible, tells_sure};
+
+    pub(crate) fn new(mover: &'a MoveMarker<'a>, grid: &'a Grid, ray: Ray) -> RayMarker<'a>
+        requires { IsRay grid.now ray }
+        ensures { result ≡ record { sweep = mover.now; grid = grid.now; ray = ray } }
+    {
+        let line = mover.line_of(grid, &ray);
+        RayMarker::with_line(mover, grid, ray, line)
+    }
+
+    /// With the line through its points, where that is known.
+    pub(crate) fn with_line(
+        mover: &'a MoveMarker<'a>,
+        grid: &'a Grid,
+        ray: Ray,
+        line: Option<Line>,
+    ) -> RayMarker<'a>
+        requires ray { IsRay grid.now ray }
+        requires line { IfSome line (λ x. IsLineOf x record { sweep = mover.now; grid = grid.now; ray = ray }) }
+        ensures { result ≡ record { sweep = mover.now; grid = grid.now; ray = ray } }
+    {
+        let _few = grid.points(ray.family);
+        RayMarker {
+            mover,
+            grid,
+            ray,
+            line,
+        }
+    }
+
+    /// Whether the point at an index is beside every outer slab throughout the move. It is then neither sure nor
+    /// possible.
+    #[inline]
+    fn is_beside(&self, l: u32) -> bool
+        requires { l < points_of self.now.grid self.now.ray.family }
+        ensures { IsTrue result → IsClearOf self.now.sweep (point_of self.now.grid self.now.ray l) }
+    {
+        match &self.line {
+            None => false,
+            Some(line) => self.mover.is_beside(line, l),
+        }
+    }
+
+    /// Whether some inner slab holds the point at an index at the last sample. It is then sure.
+    #[inline]
+    fn is_held_last(&self, l: u32) -> bool
+        requires { l < points_of self.now.grid self.now.ray.family }
+        ensures { IsTrue result → IsRemovedBy self.now.sweep (point_of self.now.grid self.now.ray l) }
+    {
+        match &self.line {
+            None => false,
+            Some(line) => self.mover.is_held_last(line, l),
+        }
+    }
+
+    /// The mark of the point at an index.
+    fn mark_at(&self, l: u32) -> Mark
+        requires { l < points_of self.now.grid self.now.ray.family }
+        ensures sure { tells_sure result ≡ is_sure_at self.now l }
+        ensures possible { tells_possible result ≡ is_possible_at self.now l }
+    {
+        if self.is_beside(l) {
+            return Mark::Clear;
+        }
+        if self.is_held_last(l) {
+            return Mark::Removed;
+        }
+        self.mover.mark_point(self.grid.point(&self.ray, l))
+    }
+
+    /// Which of the wanted points are sure, and which are possible.
+    fn mark_each(&self, first: u32, wanted: u64) -> WordMarks
+        requires { AreOnRay self.now first wanted }
+        ensures sure { (b : ℕ) → b < 64 → has_bit result.sure b ≡ is_sure_bit self.now first wanted b }
+        ensures possible { (b : ℕ) → b < 64 → has_bit result.possible b ≡ is_possible_bit self.now first wanted b }
+    {
+        // The points are few by the type, which is known where a field is seen.
+        let _few = &self.ray;
+        let mut marks = WordMarks {
+            sure: 0,
+            possible: 0,
+        };
+        let mut rest = wanted;
+        while rest != 0 {
+            let b = lowest_bit(rest);
+            marks = marks.with_mark(b, self.mark_at(first + b));
+            rest = without_bit(rest, b);
+        }
+        marks
+    }
+
+    /// The marks of the wanted points of a word: bit b is the point at the index `first + b`. Each wanted bit is a point of the
+    /// ray. Of those in `sure_only` it is told only whether they are sure: both words have the same bit there.
+    pub fn mark(&self, first: u32, wanted: u64, sure_only: u64) -> WordMarks
+        requires { AreOnRay self.now first wanted }
+        ensures sure { (b : ℕ) → b < 64 → has_bit result.sure b ≡ is_sure_bit self.now first wanted b }
+        ensures possible { (b : ℕ) → b < 64 → has_bit result.possible b ≡ is_told_bit self.now first wanted sure_only b }
+    {
+        let marks = self.mark_each(first, wanted);
+        WordMarks {
+            sure: marks.sure,
+            possible: chosen_bits(marks.possible, marks.sure, sure_only),
+        }
+    }
+}

@@ -1,0 +1,32 @@
+ghost use Rattle.std.specs.Prelude.{◌≡◌, ◌*◌, ◌≤◌};
+ghost use Rattle.space.specs.Ranges.{IsWithin};
+ghost use Rattle.bern_form.specs.Sizes.{IsBounded2, axis_limit, scale_limit};
+ghost use Rattle.wanted_marks.specs.Widths.{IsTurn};
+
+use crate::scalar::scalar_form;
+use crate::scaled::scaled_axis;
+use axis_cells::Sweep;
+use bern_form::Form2;
+
+/// How the axis turns on a move: the axis at both ends, times the scale, and n, the square of its length between them.
+#[derive(Drop)]
+pub struct Turn {
+    pub first: [i64; 3],
+    pub last: [i64; 3],
+    pub n: Form2,
+    ghost first_within: { IsWithin axis_limit first },
+    ghost last_within: { IsWithin axis_limit last },
+    ghost n_small: { IsBounded2 (3 * (axis_limit * axis_limit)) n.c },
+}
+
+impl Turn {
+    pub fn of_sweep(sweep: &Sweep, scale: u32) -> Turn
+        requires { scale ≤ scale_limit }
+        ensures { IsTurn result.first result.last result.n.c sweep.now scale }
+    {
+        let first = scaled_axis(scale, &sweep.axis_from);
+        let last = scaled_axis(scale, &sweep.axis_to);
+        let n = scalar_form(&first, &last, &first, &last);
+        Turn { first, last, n }
+    }
+}
