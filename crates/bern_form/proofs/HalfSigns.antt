@@ -16,7 +16,7 @@ three h = at h 0 ∷ at h 1 ∷ at h 2 ∷ []
 abbrev pub five : List ℤ → List ℤ
 five h = at h 0 ∷ at h 1 ∷ at h 2 ∷ at h 3 ∷ at h 4 ∷ []
 
-all_three : (P : ℤ → Type 0) (a b c : ℤ) → P a → P b → P c → All P (a ∷ b ∷ c ∷ [])
+pub all_three : (P : ℤ → Type 0) (a b c : ℤ) → P a → P b → P c → All P (a ∷ b ∷ c ∷ [])
 all_three P a b c h0 h1 h2 zero d l = h0
 all_three P a b c h0 h1 h2 (suc zero) d l = h1
 all_three P a b c h0 h1 h2 (suc (suc zero)) d l = h2
