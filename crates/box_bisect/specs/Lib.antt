@@ -4,3 +4,6 @@ pub mod Stretches
 pub mod Boxes
 pub mod Between
 pub mod SlabTests
+pub mod RayBoxes
+pub mod RayMarks
+pub mod RaySizes

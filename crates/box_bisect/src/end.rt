@@ -15,7 +15,7 @@ pub struct End {
 
 /// A coordinate times the scale.
 #[inline]
-fn weighted(weight: u32, place: i32) -> i64
+pub fn weighted(weight: u32, place: i32) -> i64
     requires weight { weight ≤ scale_limit }
     requires place { unsigned_abs place ≤ 1000000 }
     ensures value { result ≡ pos weight *ℤ place }

@@ -53,7 +53,7 @@ fn mark_of_whole<L: Ledger>(
 
 /// How many cells a depth has: 2^depth.
 #[inline]
-fn cells_of(depth: u32) -> u32
+pub fn cells_of(depth: u32) -> u32
     requires { depth ≤ 10 }
     ensures cells { result ≡ 2 ^ depth }
     ensures few { result ≤ scale_limit }

@@ -1,0 +1,9 @@
+mod box_forms;
+mod box_limits;
+mod flags;
+mod pose;
+mod ray_box;
+mod ray_marks;
+mod search;
+
+pub use ray_marks::{RayMarks, mark_ray};

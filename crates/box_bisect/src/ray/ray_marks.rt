@@ -1,0 +1,91 @@
+ghost use Rattle.std.specs.Prelude.{◌≡◌, ℕ, ◌+◌, ◌*◌, ◌^◌, ◌≤◌, ◌<◌, IfOk, IsTrue, length, pos};
+ghost use Rattle.space.specs.Reach.{is_in_reach};
+ghost use Rattle.ray_grid.specs.Lattice.{IsRay, point_of, points_of};
+ghost use Rattle.ray_grid.specs.Selects.{Selects};
+ghost use Rattle.cutter_slabs.specs.Stacks.{outer_stack, reach_of};
+ghost use Rattle.cutter_marks.specs.MarkBy.{is_possible_by, is_sure_by};
+ghost use Rattle.box_bisect.specs.RayBoxes.{undecided_along};
+ghost use Rattle.box_bisect.specs.RayMarks.{flags_along};
+
+use crate::point::cells_of;
+use crate::ray::flags::{possible_of, sure_of};
+use crate::ray::ray_box::RayBox;
+use crate::ray::search::{is_undecided, mark_children};
+use axis_cells::{Mark, Sweep};
+use cutter_slabs::Stacks;
+use ray_grid::{Grid, Ray};
+use std::alloc::Global;
+use std::sync::ledger::Ledger;
+use vf_io::NoMemory;
+use vf_spans::Spans;
+use vf_steps::Steps;
+
+/// The points of a ray that a move is sure to cut, and those that it may meet, by their indices.
+#[derive(Debug, Drop)]
+pub struct RayMarks {
+    pub sure: Spans,
+    pub possible: Spans,
+}
+
+impl RayMarks {
+    /// No point is sure or possible. It takes no memory.
+    fn none(alloc: Global, bound: u32) -> RayMarks {
+        RayMarks {
+            sure: Spans::new(alloc, bound),
+            possible: Spans::new(alloc, bound),
+        }
+    }
+}
+
+/// The marks of the points of a ray by the stacks and the reach of a cutter, at the samples and on the cells of a depth, found by
+/// halving boxes in time and along the ray. Memory is taken only where the whole of what is in reach is undecided.
+///
+/// One step is the test of one slab on one box or at one sample. They are bounded by the boxes that are undecided, of those in time
+/// and along the ray from `a` on and below `b`, the indices of what is in reach of the move.
+pub fn mark_ray<L: Ledger>(
+    alloc: Global,
+    grid: &Grid,
+    ray: &Ray,
+    sweep: &Sweep,
+    stacks: &Stacks,
+    depth: u32,
+    steps: &mut Steps<L>,
+) -> Result<RayMarks, NoMemory>
+    requires ray { IsRay grid.now ray.now }
+    requires depth { depth ≤ 10 }
+    ensures sure { IfOk result (λ marks. marks.sure
+        ≡ flags_along (λ p. is_sure_by stacks.now.cutter stacks.now.slabs sweep.now p (2 ^ depth)) (point_of grid.now ray.now) (points_of grid.now ray.now.family)) }
+    ensures possible { IfOk result (λ marks. marks.possible
+        ≡ flags_along (λ p. is_possible_by stacks.now.cutter stacks.now.slabs sweep.now p (2 ^ depth)) (point_of grid.now ray.now) (points_of grid.now ray.now.family)) }
+    ensures cost { let outer = outer_stack stacks.now.cutter stacks.now.slabs in
+        let point = point_of grid.now ray.now in
+        let reach = pos (reach_of stacks.now.cutter) in
+        (a b : ℕ) → Selects a b (λ l. (l < points_of grid.now ray.now.family) × IsTrue (is_in_reach reach sweep.now.from sweep.now.to (point l)))
+        → steps.new ≤ steps.old + length outer * (1 + 4 * undecided_along outer sweep.now point depth a b) }
+{
+    let bound = grid.points(ray.family);
+    let (from, to) = grid.window(ray, sweep.from, sweep.to, stacks.reach());
+    if from == to {
+        return Ok(RayMarks::none(alloc, bound));
+    }
+    let scale = cells_of(depth);
+    let part = RayBox {
+        levels: depth,
+        first: 0,
+        from,
+        to,
+    };
+    let outer = stacks.outer();
+    if !is_undecided(grid, ray, sweep, outer, scale, part, steps) {
+        return Ok(RayMarks::none(alloc, bound));
+    }
+    let inner = stacks.inner();
+    let mut marks = vec![in alloc; Mark::Clear; bound as usize]?;
+    mark_children(
+        grid, ray, sweep, inner, outer, scale, part, &mut marks, steps,
+    );
+    Ok(RayMarks {
+        sure: sure_of(alloc, &marks)?,
+        possible: possible_of(alloc, &marks)?,
+    })
+}
