@@ -5,3 +5,6 @@ pub mod Searching
 pub mod Counting
 pub mod Fitting
 pub mod Marking
+pub mod RayFitting
+pub mod RayFlags
+pub mod RayMixed

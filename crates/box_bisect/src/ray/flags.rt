@@ -28,10 +28,11 @@ pub fn sure_of(alloc: Global, marks: &[Mark]) -> Result<Spans, NoMemory>
     ensures flags { IfOk result (λ set. (l : ℕ) → has set l ≡ is_removed_mark (mark_at marks.now l)) }
 {
     let mut set = Spans::new(alloc, marks.len() as u32);
-    for (l, mark) in marks.iter().enumerate() {
-        if is_removed(*mark) {
-            set.push(l as u32)?;
+    for l in 0..marks.len() {
+        if !is_removed(marks[l]) {
+            continue;
         }
+        set.push(l as u32)?;
     }
     Ok(set)
 }
@@ -43,10 +44,11 @@ pub fn possible_of(alloc: Global, marks: &[Mark]) -> Result<Spans, NoMemory>
     ensures flags { IfOk result (λ set. (l : ℕ) → has set l ≡ is_possible_mark (mark_at marks.now l)) }
 {
     let mut set = Spans::new(alloc, marks.len() as u32);
-    for (l, mark) in marks.iter().enumerate() {
-        if is_possible(*mark) {
-            set.push(l as u32)?;
+    for l in 0..marks.len() {
+        if !is_possible(marks[l]) {
+            continue;
         }
+        set.push(l as u32)?;
     }
     Ok(set)
 }
