@@ -8,3 +8,4 @@ pub mod Marking
 pub mod RayFitting
 pub mod RayFlags
 pub mod RayMixed
+pub mod RayExcluded
