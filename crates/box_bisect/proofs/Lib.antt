@@ -9,3 +9,4 @@ pub mod RayFitting
 pub mod RayFlags
 pub mod RayMixed
 pub mod RayExcluded
+pub mod RayLines

@@ -1,5 +1,5 @@
 -- What is excluded on a box is excluded for each of its points in the box's time; on a box of one point it is the same.
-use Rattle.std.proofs.Common.{◌≡◌, true, false, not, Bool, ℕ, zero, suc, ◌+◌, ◌-◌, ◌*◌, ◌^◌, ◌≤◌, ◌<◌, [], ◌∷◌, List, ℤ, pos, negsuc, ◌+ℤ◌, ◌*ℤ◌, ◌-ℤ◌, ◌<ℤ◌, ◌⊎◌, inl, inr, arith, refl, subst, sym, ap, ⊎_elim, ◌∙◌}
+use Rattle.std.proofs.Common.{◌≡◌, true, false, not, Bool, ℕ, zero, suc, ◌+◌, ◌-◌, ◌*◌, ◌^◌, ◌≤◌, ◌<◌, [], ◌∷◌, List, length, ℤ, pos, negsuc, ◌+ℤ◌, ◌*ℤ◌, ◌-ℤ◌, ◌<ℤ◌, ◌⊎◌, inl, inr, arith, refl, subst, sym, ap, ⊎_elim, ◌∙◌}
 use Rattle.std.proofs.lemmas.Int.{ints}
 use Rattle.std.specs.Bool.{Decides}
 use Rattle.std.specs.List.{All, Contains, list_any}
@@ -13,7 +13,7 @@ use Rattle.bern_form.specs.Forms.{IsPlace, difference4, lifted, product22, scale
 use Rattle.bern_form.specs.Grids.{columns21, rows_negative, rows_positive}
 use Rattle.bern_form.specs.Slab.{SlabSize}
 use Rattle.bern_form.proofs.Decided.{decides_among, says_no}
-use Rattle.bern_form.proofs.Finer.{ExcludedBetween, decides_with}
+use Rattle.bern_form.proofs.Finer.{ExcludedBetween, ExcludedWith, decides_with}
 use Rattle.bern_form.proofs.HalfSigns.{all_five, all_three}
 use Rattle.bern_form.proofs.Relations.{AllNegative, AllPositive}
 use Rattle.bern_form.proofs.Signs.{negative1, negative2, positive2}
@@ -163,7 +163,116 @@ across_between s m p q r w v j k S along test =
     c)
     ((decides_across s S u u' n d e g).0 test)
 
+-- tests of lists
+neither_first : (p q : Bool) → (p || q) ≡ false → p ≡ false
+neither_first true q h = cc
+neither_first false q h = refl
+
+neither_last : (p q : Bool) → (p || q) ≡ false → q ≡ false
+neither_last true q h = cc
+neither_last false q h = h
+
+neither : (p q : Bool) → p ≡ false → q ≡ false → (p || q) ≡ false
+neither true q h k = cc
+neither false q h k = k
+
+double : (b : Bool) → not b ≡ false → b ≡ true
+double true h = refl
+double false h = cc
+
+denied : (b : Bool) → b ≡ true → not b ≡ false
+denied true h = refl
+denied false h = cc
+
 -- where no slab is left on a box none is left for its points
 pub none_left : (slabs : List SlabSize) (m : Motion) (p q r : List ℤ) (w v j k S : ℕ) → IsAlong p q r w v → list_any (λ s. not (is_excluded_in_box m p q j k S s)) slabs ≡ false → is_left_between slabs m r j k S ≡ false
 none_left [] m p q r w v j k S along h = refl
-none_left (s ∷ slabs) m p q r w v j k S along h = ?
+none_left (s ∷ slabs) m p q r w v j k S along h =
+    let later : Bool = list_any (λ s. not (is_excluded_in_box m p q j k S s)) slabs in
+    let here = double (is_excluded_in_box m p q j k S s) (neither_first (not (is_excluded_in_box m p q j k S s)) later h) in
+    neither (not (is_excluded_between s m r j k S)) (is_left_between slabs m r j k S)
+    (denied (is_excluded_between s m r j k S) ((decides_with s S (u_between m r j k S) (n_between m j k S) (d_between m r j k S)).1 (across_between s m p q r w v j k S along here)))
+    (none_left slabs m p q r w v j k S along (neither_last (not (is_excluded_in_box m p q j k S s)) later h))
+
+-- a box of one point: each row has the point's coefficient, twice itself in the middle
+pair_of : (P : ℤ → Type 0) (a b : ℤ) → P a → P b → All P (a ∷ b ∷ [])
+pair_of P a b h0 h1 zero d l = h0
+pair_of P a b h0 h1 (suc zero) d l = h1
+pair_of P a b h0 h1 (suc (suc k)) d l = absurd (omega arith)
+
+rows_of_three : (P : List ℤ → Type 0) (a b c : List ℤ) → P a → P b → P c → All P (a ∷ b ∷ c ∷ [])
+rows_of_three P a b c h0 h1 h2 zero d l = h0
+rows_of_three P a b c h0 h1 h2 (suc zero) d l = h1
+rows_of_three P a b c h0 h1 h2 (suc (suc zero)) d l = h2
+rows_of_three P a b c h0 h1 h2 (suc (suc (suc k))) d l = absurd (omega arith)
+
+rows_of_five : (P : List ℤ → Type 0) (a b c e f : List ℤ) → P a → P b → P c → P e → P f → All P (a ∷ b ∷ c ∷ e ∷ f ∷ [])
+rows_of_five P a b c e f h0 h1 h2 h3 h4 zero d l = h0
+rows_of_five P a b c e f h0 h1 h2 h3 h4 (suc zero) d l = h1
+rows_of_five P a b c e f h0 h1 h2 h3 h4 (suc (suc zero)) d l = h2
+rows_of_five P a b c e f h0 h1 h2 h3 h4 (suc (suc (suc zero))) d l = h3
+rows_of_five P a b c e f h0 h1 h2 h3 h4 (suc (suc (suc (suc zero)))) d l = h4
+rows_of_five P a b c e f h0 h1 h2 h3 h4 (suc (suc (suc (suc (suc k))))) d l = absurd (omega arith)
+
+alone_below : (x y f : ℤ) → y ≡ pos 2 *ℤ x → (x -ℤ f) <ℤ pos 0 → AllNegative ((x -ℤ f) ∷ (y -ℤ pos 2 *ℤ f) ∷ (x -ℤ f) ∷ [])
+alone_below x y f e h = all_three (λ z. z <ℤ pos 0) (x -ℤ f) (y -ℤ pos 2 *ℤ f) (x -ℤ f) h (omega (arith, ints, e, h)) h
+
+alone_above : (x y f : ℤ) → y ≡ pos 2 *ℤ x → pos 0 <ℤ (x -ℤ f) → AllPositive ((x -ℤ f) ∷ (y -ℤ pos 2 *ℤ f) ∷ (x -ℤ f) ∷ [])
+alone_above x y f e h = all_three (λ z. pos 0 <ℤ z) (x -ℤ f) (y -ℤ pos 2 *ℤ f) (x -ℤ f) h (omega (arith, ints, e, h)) h
+
+grid_below : (r : List ℤ) (f : ℤ) (x y : List ℤ) → ((k : ℕ) → k < 5 → at y k ≡ pos 2 *ℤ at x k) → AllNegative (difference4 x (scaled4 f r)) → All AllNegative (grid_less r f x y x)
+grid_below r f x y e p =
+    rows_of_five AllNegative _ _ _ _ _
+    (alone_below (at x 0) (at y 0) (f *ℤ at r 0) (e 0 (omega arith)) (p 0 (pos 0) (omega arith))) (alone_below (at x 1) (at y 1) (f *ℤ at r 1) (e 1 (omega arith)) (p 1 (pos 0) (omega arith)))
+    (alone_below (at x 2) (at y 2) (f *ℤ at r 2) (e 2 (omega arith)) (p 2 (pos 0) (omega arith))) (alone_below (at x 3) (at y 3) (f *ℤ at r 3) (e 3 (omega arith)) (p 3 (pos 0) (omega arith)))
+    (alone_below (at x 4) (at y 4) (f *ℤ at r 4) (e 4 (omega arith)) (p 4 (pos 0) (omega arith)))
+
+grid_above : (r : List ℤ) (f : ℤ) (x y : List ℤ) → ((k : ℕ) → k < 5 → at y k ≡ pos 2 *ℤ at x k) → AllPositive (difference4 x (scaled4 f r)) → All AllPositive (grid_less r f x y x)
+grid_above r f x y e p =
+    rows_of_five AllPositive _ _ _ _ _
+    (alone_above (at x 0) (at y 0) (f *ℤ at r 0) (e 0 (omega arith)) (p 0 (pos 0) (omega arith))) (alone_above (at x 1) (at y 1) (f *ℤ at r 1) (e 1 (omega arith)) (p 1 (pos 0) (omega arith)))
+    (alone_above (at x 2) (at y 2) (f *ℤ at r 2) (e 2 (omega arith)) (p 2 (pos 0) (omega arith))) (alone_above (at x 3) (at y 3) (f *ℤ at r 3) (e 3 (omega arith)) (p 3 (pos 0) (omega arith)))
+    (alone_above (at x 4) (at y 4) (f *ℤ at r 4) (e 4 (omega arith)) (p 4 (pos 0) (omega arith)))
+
+twice_at : (x : List ℤ) (k : ℕ) → k < 5 → at (scaled4 (pos 2) x) k ≡ pos 2 *ℤ at x k
+twice_at x zero l = refl
+twice_at x (suc zero) l = refl
+twice_at x (suc (suc zero)) l = refl
+twice_at x (suc (suc (suc zero))) l = refl
+twice_at x (suc (suc (suc (suc zero)))) l = refl
+twice_at x (suc (suc (suc (suc (suc k))))) l = absurd (omega arith)
+
+eightfold : (z : ℤ) → pos 8 *ℤ z ≡ pos 2 *ℤ (pos 4 *ℤ z)
+eightfold z = omega (arith, ints)
+
+eight_at : (x : List ℤ) (k : ℕ) → k < 5 → at (scaled4 (pos 8) x) k ≡ pos 2 *ℤ at (scaled4 (pos 4) x) k
+eight_at x zero l = eightfold (at x 0)
+eight_at x (suc zero) l = eightfold (at x 1)
+eight_at x (suc (suc zero)) l = eightfold (at x 2)
+eight_at x (suc (suc (suc zero))) l = eightfold (at x 3)
+eight_at x (suc (suc (suc (suc zero)))) l = eightfold (at x 4)
+eight_at x (suc (suc (suc (suc (suc k))))) l = absurd (omega arith)
+
+below_at : (u : List ℤ) (k : ℕ) → AllNegative u → k < length u → at u k <ℤ pos 0
+below_at u k c l = c k (pos 0) l
+
+across_alone : (s : SlabSize) (S : ℕ) (u n d : List ℤ) → 3 ≤ length u → ExcludedWith s S u n d → ExcludedAcross s S u u n d d d
+across_alone s S u n d long x =
+    let lo = scaled_square S s.lo in let hi = scaled_square S s.hi in let dia = scaled_square S s.dia in
+    let U = product22 u u in let W = difference4 (product22 d n) U in
+    ⊎_elim
+    (λ c. inl (rows_of_three AllNegative _ _ _
+    (pair_of (λ z. z <ℤ pos 0) (at u 0) (at u 0) (below_at u 0 c (omega arith)) (below_at u 0 c (omega arith))) (pair_of (λ z. z <ℤ pos 0) (at u 1) (at u 1) (below_at u 1 c (omega arith)) (below_at u 1 c (omega arith))) (pair_of (λ z. z <ℤ pos 0) (at u 2) (at u 2) (below_at u 2 c (omega arith)) (below_at u 2 c (omega arith)))))
+    (λ y. ⊎_elim (λ c. inr (inl (grid_below (lifted n) lo U (scaled4 (pos 2) U) (twice_at U) (subst (λ l. AllNegative (difference4 U l)) (sym (raised_is lo n)) c))))
+    (λ z. ⊎_elim (λ c. inr (inr (inl (grid_above (lifted n) hi U (scaled4 (pos 2) U) (twice_at U) (subst (λ l. AllPositive (difference4 U l)) (sym (raised_is hi n)) c)))))
+    (λ c. inr (inr (inr (grid_above (lifted n) dia (scaled4 (pos 4) W) (scaled4 (pos 8) W) (eight_at W) (subst (λ l. AllPositive (difference4 (scaled4 (pos 4) W) l)) (sym (raised_is dia n)) c))))) z) y) x
+
+-- where no slab is left for a point none is left on the box that has it alone
+pub none_left_alone : (slabs : List SlabSize) (m : Motion) (p : List ℤ) (j k S : ℕ) → is_left_between slabs m p j k S ≡ false → list_any (λ s. not (is_excluded_in_box m p p j k S s)) slabs ≡ false
+none_left_alone [] m p j k S h = refl
+none_left_alone (s ∷ slabs) m p j k S h =
+    let u = u_between m p j k S in let n = n_between m j k S in let d = d_between m p j k S in
+    let here = double (is_excluded_between s m p j k S) (neither_first (not (is_excluded_between s m p j k S)) (is_left_between slabs m p j k S) h) in
+    neither (not (is_excluded_in_box m p p j k S s)) (list_any (λ s. not (is_excluded_in_box m p p j k S s)) slabs)
+    (denied (is_excluded_in_box m p p j k S s) ((decides_across s S u u n d d d).1 (across_alone s S u n d (omega arith) ((decides_with s S u n d).0 here))))
+    (none_left_alone slabs m p j k S (neither_last (not (is_excluded_between s m p j k S)) (is_left_between slabs m p j k S) h))
