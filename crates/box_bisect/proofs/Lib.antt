@@ -10,3 +10,5 @@ pub mod RayFlags
 pub mod RayMixed
 pub mod RayExcluded
 pub mod RayLines
+pub mod RayRaising
+pub mod RayCounting
