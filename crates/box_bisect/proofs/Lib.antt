@@ -12,3 +12,4 @@ pub mod RayExcluded
 pub mod RayLines
 pub mod RayRaising
 pub mod RayCounting
+pub mod RayTests
