@@ -13,3 +13,4 @@ pub mod RayLines
 pub mod RayRaising
 pub mod RayCounting
 pub mod RayTests
+pub mod RayHalves

@@ -1,9 +1,10 @@
-use Rattle.std.proofs.Common.{◌≡◌, ℕ, ◌+◌, ◌-◌, ◌*◌, ◌^◌, ◌≤◌, ◌<◌, List, length, set, true, false, arith, refl, subst, sym, ◌∙◌}
-use Rattle.ray_grid.specs.Lattice.{point_of}
+use Rattle.std.proofs.Common.{◌≡◌, ℕ, ◌+◌, ◌-◌, ◌*◌, ◌^◌, ◌≤◌, ◌<◌, List, length, set, true, false, arith, rules, subst, sym, ◌∙◌}
+use Rattle.ray_grid.specs.Lattice.{point_of, points_of}
 use Rattle.axis_cells.specs.declared.mark.Mark.{Mark}
-use Rattle.box_bisect.specs.RayBoxes.{along, is_undecided, middle, weight}
+use Rattle.box_bisect.specs.RayBoxes.{IsBox, along, is_undecided, middle, weight}
 use Rattle.box_bisect.specs.RayMarks.{AreRaised}
 use Rattle.box_bisect.proofs.RayCounting.{cost_halves, cost_in_time, cost_on_cell, cost_undecided}
+use Rattle.box_bisect.proofs.RayHalves.{early_box, late_box}
 use Rattle.box_bisect.proofs.RayLines.{ray_line}
 use Rattle.box_bisect.proofs.RayRaising.{raised_after, raised_beside, raised_cell, raised_none}
 use Rattle.box_bisect.proofs.Searching.{halved, some_cells}
@@ -61,13 +62,36 @@ mark_children-returns-then-part-eq0-clause-cost g t c = λ halvings few.
     (c.mark_box.ensures.cost halvings (omega (arith, few, many))) (c.mark_box-then-part-eq0.ensures.cost halvings (omega (arith, few, many)))
 
 pub mark_children-mark_along-requires : goal.mark_children-mark_along-requires
-mark_children-mark_along-requires g t c = ?
+mark_children-mark_along-requires g t c =
+    let part = c.args.part in let more = c.if-part-eq0.false in
+    let box : IsBox (part.levels - 1) part.first part.from part.to c.args.scale (points_of c.args.grid.now c.args.ray.now.family) =
+    early_box part.levels (part.levels - 1) part.first part.from part.to c.args.scale _ (omega (arith, more)) c.requires.part in
+    search rules
 
 pub mark_children-mark_along-requires-2 : goal.mark_children-mark_along-requires-2
-mark_children-mark_along-requires-2 g t c = ?
+mark_children-mark_along-requires-2 g t c =
+    let part = c.args.part in let more = c.if-part-eq0.false in
+    let box : IsBox (part.levels - 1) (part.first + c.cells_of.result) part.from part.to c.args.scale (points_of c.args.grid.now c.args.ray.now.family) =
+    late_box part.levels (part.levels - 1) part.first c.cells_of.result part.from part.to c.args.scale _ (omega (arith, more)) c.cells_of.ensures.cells c.requires.part in
+    search rules
 
 pub mark_children-returns-clause-raised : goal.mark_children-returns-clause-raised
-mark_children-returns-clause-raised g t c = ?
+mark_children-returns-clause-raised g t c =
+    let inner = c.args.inner.now in let outer = c.args.outer.now in let m = c.args.sweep.now in let point = point_of c.args.grid.now c.args.ray.now in let S = c.args.scale in let part = c.args.part in
+    let k = part.levels - 1 in let j = part.first in
+    let e : part.levels ≡ k + 1 = omega (arith, c.if-part-eq0.false) in
+    let end = (halved part.levels k j e).end in
+    let late = subst (λ (i : ℕ). AreRaised inner outer m point S (j + i) ((j + i) + 2 ^ k) part.from part.to c.mark_along.new.marks c.mark_along-2.new.marks) c.cells_of.ensures.cells c.mark_along-2.ensures.raised in
+    raised_after inner outer m point S j (j + 2 ^ k) (j + 2 ^ part.levels) part.from part.to c.args.marks.now c.mark_along.new.marks c.mark_along-2.new.marks (omega arith) (omega (arith, end))
+    c.mark_along.ensures.raised
+    (subst (λ (i : ℕ). AreRaised inner outer m point S (j + 2 ^ k) i part.from part.to c.mark_along.new.marks c.mark_along-2.new.marks) end late)
 
 pub mark_children-returns-clause-cost : goal.mark_children-returns-clause-cost
-mark_children-returns-clause-cost g t c = ?
+mark_children-returns-clause-cost g t c = λ halvings few.
+    let outer = c.args.outer.now in let m = c.args.sweep.now in let point = point_of c.args.grid.now c.args.ray.now in let S = c.args.scale in let part = c.args.part in
+    let k = part.levels - 1 in let w = weight (is_undecided outer m point S) halvings in
+    let e : part.levels ≡ k + 1 = omega (arith, c.if-part-eq0.false) in
+    let late = subst (λ (i : ℕ). c.mark_along-2.new.steps ≤ c.mark_along.new.steps + length outer * (2 + 4 * along (w k (part.first + i)) part.from part.to)) c.cells_of.ensures.cells
+    (c.mark_along-2.ensures.cost halvings (omega (arith, few, e))) in
+    cost_in_time w part.levels k part.first part.from part.to c.args.steps.now c.mark_along.new.steps c.mark_along-2.new.steps (length outer) e
+    (c.mark_along.ensures.cost halvings (omega (arith, few, e))) late
