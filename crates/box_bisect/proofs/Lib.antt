@@ -14,3 +14,4 @@ pub mod RayRaising
 pub mod RayCounting
 pub mod RayTests
 pub mod RayHalves
+pub mod RayWhole

@@ -1,5 +1,6 @@
-ghost use Rattle.std.specs.Prelude.{◌≡◌, ℕ, ◌+◌, ◌*◌, ◌^◌, ◌≤◌, ◌<◌, IfOk, IsTrue, length, pos};
+ghost use Rattle.std.specs.Prelude.{◌≡◌, ℕ, ◌+◌, ◌*◌, ◌^◌, ◌≤◌, ◌<◌, false, IfOk, IsTrue, length, pos};
 ghost use Rattle.space.specs.Reach.{is_in_reach};
+ghost use Rattle.vf_spans.specs.Members.{has};
 ghost use Rattle.ray_grid.specs.Lattice.{IsRay, point_of, points_of};
 ghost use Rattle.ray_grid.specs.Selects.{Selects};
 ghost use Rattle.cutter_slabs.specs.Stacks.{outer_stack, reach_of};
@@ -29,7 +30,12 @@ pub struct RayMarks {
 
 impl RayMarks {
     /// No point is sure or possible. It takes no memory.
-    fn none(alloc: Global, bound: u32) -> RayMarks {
+    fn none(alloc: Global, bound: u32) -> RayMarks
+        ensures sure_bound { length result.sure ≡ bound }
+        ensures possible_bound { length result.possible ≡ bound }
+        ensures sure { (l : ℕ) → has result.sure l ≡ false }
+        ensures possible { (l : ℕ) → has result.possible l ≡ false }
+    {
         RayMarks {
             sure: Spans::new(alloc, bound),
             possible: Spans::new(alloc, bound),
@@ -63,6 +69,8 @@ pub fn mark_ray<L: Ledger>(
         (a b : ℕ) → Selects a b (λ l. (l < points_of grid.now ray.now.family) × IsTrue (is_in_reach reach sweep.now.from sweep.now.to (point l)))
         → steps.new ≤ steps.old + length outer * (1 + 4 * undecided_along outer sweep.now point depth a b) }
 {
+    let inner = stacks.inner();
+    let outer = stacks.outer();
     let bound = grid.points(ray.family);
     let (from, to) = grid.window(ray, sweep.from, sweep.to, stacks.reach());
     if from == to {
@@ -75,11 +83,9 @@ pub fn mark_ray<L: Ledger>(
         from,
         to,
     };
-    let outer = stacks.outer();
     if !is_undecided(grid, ray, sweep, outer, scale, part, steps) {
         return Ok(RayMarks::none(alloc, bound));
     }
-    let inner = stacks.inner();
     let mut marks = vec![in alloc; Mark::Clear; bound as usize]?;
     mark_children(
         grid, ray, sweep, inner, outer, scale, part, &mut marks, steps,
