@@ -1,9 +1,9 @@
 -- The marks and the steps of a whole ray, from those of its indices in reach.
-use Rattle.std.proofs.Common.{◌≡◌, Bool, true, false, ℕ, ◌+◌, ◌-◌, ◌*◌, ◌^◌, ◌≤◌, ◌<◌, ◌⊎◌, inl, inr, List, [], length, map, ℤ, pos, IsTrue, nat_lt, if◌then◌else◌, arith, refl, subst, sym, ap, ⊎_elim, ◌∙◌}
+use Rattle.std.proofs.Common.{◌≡◌, Bool, true, false, ℕ, ◌+◌, ◌-◌, ◌*◌, ◌^◌, ◌≤◌, ◌<◌, ◌⊎◌, inl, inr, List, [], length, map, replicate, ℤ, pos, IsTrue, nat_lt, if◌then◌else◌, arith, refl, subst, sym, ap, ⊎_elim, ◌∙◌}
 use Rattle.std.specs.List.{range_with_len}
 use Rattle.std.proofs.lemmas.Bool.{cases_Bool, cases_lt}
 use Rattle.std.proofs.lemmas.Bool.Decides.{nat_tests}
-use Rattle.std.proofs.lemmas.List.{ext_get_or}
+use Rattle.std.proofs.lemmas.List.{ext_get_or, get_or-replicate, get_or_past, length-replicate}
 use Rattle.std.proofs.lemmas.List.FromFn.{get_or-map-range_with_len, length-map-range_with_len}
 use Rattle.space.specs.Motion.{Motion}
 use Rattle.space.specs.Reach.{is_in_reach}
@@ -111,3 +111,30 @@ cost_of_ray slabs m point depth a b x y z l some undecided h g =
     let t = is_undecided slabs m point (2 ^ depth) in
     subst (λ k. z ≤ x + l * (1 + 4 * k)) (sym (chosen (nat_lt a b) (weight t (depth + (b - a)) depth 0 a b) 0 (below a b some)))
     (cost_undecided t (depth + (b - a)) depth 0 a b x y z l (omega (arith, some)) undecided h g)
+
+-- the marks raised at equal stacks and an equal scale
+pub raised_as : (inner outer inner' outer' : List SlabSize) (m : Motion) (point : ℕ → List ℤ) (S S' k a b : ℕ) (old new : List Mark) → inner ≡ inner' → outer ≡ outer' → S ≡ S' → k ≡ S'
+    → AreRaised inner outer m point S 0 k a b old new → AreRaised inner' outer' m point S' 0 S' a b old new
+raised_as inner outer inner' outer' m point S S' k a b old new ei eo eS ek raised =
+    subst (λ i. AreRaised inner' outer' m point S' 0 i a b old new) ek
+    (subst (λ i. AreRaised inner' outer' m point i 0 k a b old new) eS (subst (λ l. AreRaised inner' l m point S 0 k a b old new) eo (subst (λ l. AreRaised l outer m point S 0 k a b old new) ei raised)))
+
+-- marks that are all Clear
+pub clear_all : (n : ℕ) (marks : List Mark) → marks ≡ replicate n Clear → (l : ℕ) → mark_at marks l ≡ Clear
+clear_all n marks e l =
+    ⊎_elim (λ early. ap (λ x. mark_at x l) e ∙ get_or-replicate n l Clear Clear early)
+    (λ late. get_or_past marks l Clear (let size = ap length e in let all = length-replicate n Clear in omega (arith, size, all, late)))
+    (cases_lt l n)
+
+-- the steps of a ray whose root is undecided
+pub ray_cost : (outer outer' : List SlabSize) (reach : ℤ) (m : Motion) (point : ℕ → List ℤ) (n scale depth a b low high x y z : ℕ) → AreInReach reach m point n a b → AreInReach reach m point n low high → a ≤ b → ¬ (a ≡ b)
+    → outer ≡ outer' → scale ≡ 2 ^ depth → is_undecided outer m point scale depth 0 a b ≡ true → y ≤ x + length outer
+    → ((halvings : ℕ) → depth + (b - a) ≤ halvings + 1 → z ≤ y + length outer * (4 * (1 + over_children (weight (is_undecided outer m point scale) halvings) depth 0 a b)))
+    → z ≤ x + length outer' * (1 + 4 * undecided_along outer' m point depth low high)
+ray_cost outer outer' reach m point n scale depth a b low high x y z near reached order apart eo es undecided h g =
+    let some : a < b = omega (arith, order, apart) in
+    let same = same_ends (λ l. (l < n) × IsTrue (is_in_reach reach m.from m.to (point l))) low high a b reached near some in
+    let cost = cost_of_ray outer m point depth a b x y z (length outer) some (subst (λ i. is_undecided outer m point i depth 0 a b ≡ true) es undecided) h
+    (subst (λ i. z ≤ y + length outer * (4 * (1 + over_children (weight (is_undecided outer m point i) ((depth + (b - a)) - 1)) depth 0 a b))) es (g ((depth + (b - a)) - 1) (omega (arith, some)))) in
+    subst (λ l. z ≤ x + length l * (1 + 4 * undecided_along l m point depth low high)) eo
+    (subst (λ i. z ≤ x + length outer * (1 + 4 * undecided_along outer m point depth i high)) (sym same.0) (subst (λ i. z ≤ x + length outer * (1 + 4 * undecided_along outer m point depth a i)) (sym same.1) cost))

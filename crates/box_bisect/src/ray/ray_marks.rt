@@ -87,11 +87,10 @@ pub fn mark_ray<L: Ledger>(
         return Ok(RayMarks::none(alloc, bound));
     }
     let mut marks = vec![in alloc; Mark::Clear; bound as usize]?;
-    mark_children(
-        grid, ray, sweep, inner, outer, scale, part, &mut marks, steps,
-    );
+    let row = marks.as_mut_slice();
+    mark_children(grid, ray, sweep, inner, outer, scale, part, row, steps);
     Ok(RayMarks {
-        sure: sure_of(alloc, &marks)?,
-        possible: possible_of(alloc, &marks)?,
+        sure: sure_of(alloc, row)?,
+        possible: possible_of(alloc, row)?,
     })
 }

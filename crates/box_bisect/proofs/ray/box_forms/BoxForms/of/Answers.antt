@@ -6,7 +6,8 @@ use Rattle.box_bisect.proofs.ray.box_forms.BoxForms.of.Goals as goal
 pub invariant_of-result : goal.invariant_of-result
 invariant_of-result c =
     let p = c.end_at-p_start.result in let p' = c.end_at-p_end.result in let q = c.end_at-q_start.result in let q' = c.end_at-q_end.result in
-    record { product_small =
-    subst (IsBounded2 (3 * (offset_limit * offset_limit))) (sym c.scalar_form.ensures)
-    (cross_bounded p.offset p'.offset q.offset q'.offset offset_limit offset_limit p.offset_within p'.offset_within q.offset_within q'.offset_within);
+    record {
+      product_small =
+          subst (IsBounded2 (3 * (offset_limit * offset_limit))) (sym c.scalar_form.ensures)
+          (cross_bounded p.offset p'.offset q.offset q'.offset offset_limit offset_limit p.offset_within p'.offset_within q.offset_within q'.offset_within);
     }
