@@ -19,13 +19,9 @@ use Rattle.cutter_slabs.specs.Stacks.{inner_stack, outer_stack, reach_of}
 use Rattle.cutter_marks.specs.MarkBy.{is_possible_by, is_sure_by}
 use Rattle.box_bisect.specs.Between.{is_removed_mark}
 use Rattle.box_bisect.specs.RayBoxes.{is_undecided, over_children, undecided_along, weight}
-use Rattle.box_bisect.specs.RayMarks.{AreRaised, flags_along, greater_mark, is_possible_mark, mark_at}
+use Rattle.box_bisect.specs.RayMarks.{AreInReach, AreRaised, flags_along, greater_mark, is_possible_mark, mark_at}
 use Rattle.box_bisect.proofs.Marking.{far_mark, mark_is}
 use Rattle.box_bisect.proofs.RayCounting.{cost_decided, cost_undecided}
-
--- the indices of points in reach of a move
-abbrev pub AreInReach : ℤ → Motion → (ℕ → List ℤ) → ℕ → ℕ → ℕ → Type 0
-AreInReach reach m point n a b = Selects a b (λ l. (l < n) × IsTrue (is_in_reach reach m.from m.to (point l)))
 
 -- two pairs of ends that select the same, and something
 pub same_ends : (P : ℕ → Type 0) (a b c d : ℕ) → Selects a b P → Selects c d P → c < d → (a ≡ c) × (b ≡ d)

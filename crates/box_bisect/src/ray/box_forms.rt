@@ -47,8 +47,8 @@ impl BoxForms {
             sweep.now (point_of grid.now ray.now part.from) part.first (part.first + 2 ^ part.levels) scale }
         ensures last { AreFormsBetween result.last.u.c result.last.n.c result.last.d.c
             sweep.now (point_of grid.now ray.now (part.to - 1)) part.first (part.first + 2 ^ part.levels) scale }
-        ensures product { result.product.c ≡ product_between sweep.now
-            (point_of grid.now ray.now part.from) (point_of grid.now ray.now (part.to - 1)) part.first (part.first + 2 ^ part.levels) scale }
+        ensures product { let point = point_of grid.now ray.now in result.product.c
+            ≡ product_between sweep.now (point part.from) (point (part.to - 1)) part.first (part.first + 2 ^ part.levels) scale }
     {
         let k = part.first + cells_of(part.levels);
         let p = grid.point(ray, part.from);

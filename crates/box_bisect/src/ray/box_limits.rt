@@ -161,7 +161,8 @@ impl BoxLimits {
     /// beside it.
     pub fn excludes(&self, slab: &Slab) -> bool
         ensures { let h = self.now.height in let w = self.now.width in result
-            ≡ is_excluded_by_grids self.now.scale self.now.is_behind self.now.raised.c h.first.c h.middle.c h.last.c w.first.c w.middle.c w.last.c slab.now }
+            ≡ is_excluded_by_grids self.now.scale self.now.is_behind self.now.raised.c
+            h.first.c h.middle.c h.last.c w.first.c w.middle.c w.last.c slab.now }
     {
         if self.is_behind {
             return true;
@@ -179,7 +180,8 @@ impl BoxLimits {
     fn is_below(&self, height: i32) -> bool
         requires { unsigned_abs height ≤ 300000 }
         ensures { let h = self.now.height in
-            result ≡ rows_negative (grid_less self.now.raised.c (scaled_square self.now.scale height) h.first.c h.middle.c h.last.c) }
+            let square = scaled_square self.now.scale height in
+            result ≡ rows_negative (grid_less self.now.raised.c square h.first.c h.middle.c h.last.c) }
     {
         self.height
             .less(&self.raised, scaled_square(self.scale, height))
@@ -190,7 +192,8 @@ impl BoxLimits {
     fn is_above(&self, height: i32) -> bool
         requires { unsigned_abs height ≤ 300000 }
         ensures { let h = self.now.height in
-            result ≡ rows_positive (grid_less self.now.raised.c (scaled_square self.now.scale height) h.first.c h.middle.c h.last.c) }
+            let square = scaled_square self.now.scale height in
+            result ≡ rows_positive (grid_less self.now.raised.c square h.first.c h.middle.c h.last.c) }
     {
         self.height
             .less(&self.raised, scaled_square(self.scale, height))
@@ -201,7 +204,8 @@ impl BoxLimits {
     fn is_beside(&self, diameter: i32) -> bool
         requires { unsigned_abs diameter ≤ 300000 }
         ensures { let w = self.now.width in
-            result ≡ rows_positive (grid_less self.now.raised.c (scaled_square self.now.scale diameter) w.first.c w.middle.c w.last.c) }
+            let square = scaled_square self.now.scale diameter in
+            result ≡ rows_positive (grid_less self.now.raised.c square w.first.c w.middle.c w.last.c) }
     {
         self.width
             .less(&self.raised, scaled_square(self.scale, diameter))
@@ -211,7 +215,8 @@ impl BoxLimits {
     /// Whether some of the slabs is not excluded; each slab that is tried is a step.
     pub fn leaves_some<L: Ledger>(&self, slabs: &[Slab], steps: &mut Steps<L>) -> bool
         ensures left { let h = self.now.height in let w = self.now.width in result
-            ≡ is_left_by_grids self.now.scale self.now.is_behind self.now.raised.c h.first.c h.middle.c h.last.c w.first.c w.middle.c w.last.c slabs.now }
+            ≡ is_left_by_grids self.now.scale self.now.is_behind self.now.raised.c
+            h.first.c h.middle.c h.last.c w.first.c w.middle.c w.last.c slabs.now }
         ensures cost { steps.new ≤ steps.old + length slabs.now }
     {
         for slab in slabs {

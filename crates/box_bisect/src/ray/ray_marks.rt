@@ -1,12 +1,10 @@
-ghost use Rattle.std.specs.Prelude.{◌≡◌, ℕ, ◌+◌, ◌*◌, ◌^◌, ◌≤◌, ◌<◌, false, IfOk, IsTrue, length, pos};
-ghost use Rattle.space.specs.Reach.{is_in_reach};
+ghost use Rattle.std.specs.Prelude.{◌≡◌, ℕ, ◌+◌, ◌*◌, ◌^◌, ◌≤◌, false, IfOk, length, pos};
 ghost use Rattle.vf_spans.specs.Members.{has};
 ghost use Rattle.ray_grid.specs.Lattice.{IsRay, point_of, points_of};
-ghost use Rattle.ray_grid.specs.Selects.{Selects};
 ghost use Rattle.cutter_slabs.specs.Stacks.{outer_stack, reach_of};
 ghost use Rattle.cutter_marks.specs.MarkBy.{is_possible_by, is_sure_by};
 ghost use Rattle.box_bisect.specs.RayBoxes.{undecided_along};
-ghost use Rattle.box_bisect.specs.RayMarks.{flags_along};
+ghost use Rattle.box_bisect.specs.RayMarks.{AreInReach, flags_along};
 
 use crate::point::cells_of;
 use crate::ray::flags::{possible_of, sure_of};
@@ -59,14 +57,14 @@ pub fn mark_ray<L: Ledger>(
 ) -> Result<RayMarks, NoMemory>
     requires ray { IsRay grid.now ray.now }
     requires depth { depth ≤ 10 }
-    ensures sure { IfOk result (λ marks. marks.sure
-        ≡ flags_along (λ p. is_sure_by stacks.now.cutter stacks.now.slabs sweep.now p (2 ^ depth)) (point_of grid.now ray.now) (points_of grid.now ray.now.family)) }
-    ensures possible { IfOk result (λ marks. marks.possible
-        ≡ flags_along (λ p. is_possible_by stacks.now.cutter stacks.now.slabs sweep.now p (2 ^ depth)) (point_of grid.now ray.now) (points_of grid.now ray.now.family)) }
-    ensures cost { let outer = outer_stack stacks.now.cutter stacks.now.slabs in
-        let point = point_of grid.now ray.now in
-        let reach = pos (reach_of stacks.now.cutter) in
-        (a b : ℕ) → Selects a b (λ l. (l < points_of grid.now ray.now.family) × IsTrue (is_in_reach reach sweep.now.from sweep.now.to (point l)))
+    ensures sure { let is_sure = is_sure_by stacks.now.cutter stacks.now.slabs sweep.now in
+        let count = points_of grid.now ray.now.family in
+        IfOk result (λ marks. marks.sure ≡ flags_along (λ p. is_sure p (2 ^ depth)) (point_of grid.now ray.now) count) }
+    ensures possible { let is_possible = is_possible_by stacks.now.cutter stacks.now.slabs sweep.now in
+        let count = points_of grid.now ray.now.family in
+        IfOk result (λ marks. marks.possible ≡ flags_along (λ p. is_possible p (2 ^ depth)) (point_of grid.now ray.now) count) }
+    ensures cost { let outer = outer_stack stacks.now.cutter stacks.now.slabs in let point = point_of grid.now ray.now in
+        (a b : ℕ) → AreInReach (pos (reach_of stacks.now.cutter)) sweep.now point (points_of grid.now ray.now.family) a b
         → steps.new ≤ steps.old + length outer * (1 + 4 * undecided_along outer sweep.now point depth a b) }
 {
     let inner = stacks.inner();

@@ -1,9 +1,8 @@
-ghost use Rattle.std.specs.Prelude.{◌≡◌, ℕ, ℤ, List, ◌+◌, ◌-◌, ◌*◌, ◌^◌, ◌≤◌, ◌<◌, length, true};
-ghost use Rattle.bern_form.specs.Marks.{some_holds};
+ghost use Rattle.std.specs.Prelude.{◌≡◌, ℕ, ◌+◌, ◌-◌, ◌*◌, ◌^◌, ◌≤◌, ◌<◌, length, true};
 ghost use Rattle.bern_form.specs.Sizes.{scale_limit};
 ghost use Rattle.ray_grid.specs.Lattice.{IsRay, point_of, points_of};
-ghost use Rattle.box_bisect.specs.RayBoxes.{IsBox, along, is_undecided, middle, over_children, weight};
-ghost use Rattle.box_bisect.specs.RayMarks.{AreRaised, greater_mark, mark_by_samples};
+ghost use Rattle.box_bisect.specs.RayBoxes.{IsBox, along, is_undecided, over_children, weight};
+ghost use Rattle.box_bisect.specs.RayMarks.{AreRaised, IsEnclosed, greater_mark, mark_by_samples};
 
 use crate::point::cells_of;
 use crate::ray::box_forms::BoxForms;
@@ -29,7 +28,8 @@ pub fn is_undecided<L: Ledger>(
     requires ray { IsRay grid.now ray.now }
     requires scale { scale ≤ scale_limit }
     requires part { IsBox part.levels part.first part.from part.to scale (points_of grid.now ray.now.family) }
-    ensures left { result ≡ is_undecided slabs.now sweep.now (point_of grid.now ray.now) scale part.levels part.first part.from part.to }
+    ensures left { result ≡ is_undecided slabs.now sweep.now (point_of grid.now ray.now) scale
+        part.levels part.first part.from part.to }
     ensures cost { steps.new ≤ steps.old + length slabs.now }
 {
     let forms = BoxForms::of(grid, ray, sweep, scale, part);
@@ -66,7 +66,8 @@ fn mark_on_cell<L: Ledger>(
     requires ray { IsRay grid.now ray.now }
     requires scale { scale ≤ scale_limit }
     requires part { IsBox part.levels part.first part.from part.to scale (points_of grid.now ray.now.family) }
-    ensures mark { result ≡ mark_by_samples inner.now sweep.now (point_of grid.now ray.now part.from) part.first (part.first + 2 ^ part.levels) scale }
+    ensures mark { result ≡ mark_by_samples inner.now sweep.now (point_of grid.now ray.now part.from)
+        part.first (part.first + 2 ^ part.levels) scale }
     ensures cost { steps.new ≤ steps.old + 2 * length inner.now }
 {
     let forms = BoxForms::of(grid, ray, sweep, scale, part);
@@ -79,7 +80,8 @@ fn mark_on_cell<L: Ledger>(
     Mark::Possible
 }
 
-/// Raises the marks of a box's points to their marks within its time. Where all outer slabs are excluded on it nothing is left to do.
+/// Raises the marks of a box's points to their marks within its time. Where all outer slabs are excluded on it nothing is left to
+/// do.
 #[cycle(boxes)]
 pub fn mark_box<L: Ledger>(
     grid: &Grid,
@@ -97,10 +99,12 @@ pub fn mark_box<L: Ledger>(
     requires part { IsBox part.levels part.first part.from part.to scale (points_of grid.now ray.now.family) }
     requires marks { length marks.old ≡ points_of grid.now ray.now.family }
     requires as_many { length inner.now ≤ length outer.now }
-    requires enclosed { (p : List ℤ) (i : ℕ) → some_holds inner.now sweep.now p i scale ≡ true → some_holds outer.now sweep.now p i scale ≡ true }
-    ensures raised { AreRaised inner.now outer.now sweep.now (point_of grid.now ray.now) scale part.first (part.first + 2 ^ part.levels) part.from part.to marks.old marks.new }
-    ensures cost { let undecided = is_undecided outer.now sweep.now (point_of grid.now ray.now) scale in (halvings : ℕ) → part.levels + (part.to - part.from) ≤ halvings
-        → steps.new ≤ steps.old + length outer.now * (1 + 4 * weight undecided halvings part.levels part.first part.from part.to) }
+    requires enclosed { IsEnclosed inner.now outer.now sweep.now scale }
+    ensures raised { AreRaised inner.now outer.now sweep.now (point_of grid.now ray.now) scale
+        part.first (part.first + 2 ^ part.levels) part.from part.to marks.old marks.new }
+    ensures cost { let weigh = weight (is_undecided outer.now sweep.now (point_of grid.now ray.now) scale) in
+        (halvings : ℕ) → part.levels + (part.to - part.from) ≤ halvings
+        → steps.new ≤ steps.old + length outer.now * (1 + 4 * weigh halvings part.levels part.first part.from part.to) }
 {
     if !is_undecided(grid, ray, sweep, outer, scale, part, steps) {
         return;
@@ -124,13 +128,17 @@ pub fn mark_children<L: Ledger>(
     requires ray { IsRay grid.now ray.now }
     requires scale { scale ≤ scale_limit }
     requires part { IsBox part.levels part.first part.from part.to scale (points_of grid.now ray.now.family) }
-    requires left { is_undecided outer.now sweep.now (point_of grid.now ray.now) scale part.levels part.first part.from part.to ≡ true }
+    requires left { is_undecided outer.now sweep.now (point_of grid.now ray.now) scale
+        part.levels part.first part.from part.to ≡ true }
     requires marks { length marks.old ≡ points_of grid.now ray.now.family }
     requires as_many { length inner.now ≤ length outer.now }
-    requires enclosed { (p : List ℤ) (i : ℕ) → some_holds inner.now sweep.now p i scale ≡ true → some_holds outer.now sweep.now p i scale ≡ true }
-    ensures raised { AreRaised inner.now outer.now sweep.now (point_of grid.now ray.now) scale part.first (part.first + 2 ^ part.levels) part.from part.to marks.old marks.new }
-    ensures cost { let undecided = is_undecided outer.now sweep.now (point_of grid.now ray.now) scale in (halvings : ℕ) → part.levels + (part.to - part.from) ≤ halvings + 1
-        → steps.new ≤ steps.old + length outer.now * (4 * (1 + over_children (weight undecided halvings) part.levels part.first part.from part.to)) }
+    requires enclosed { IsEnclosed inner.now outer.now sweep.now scale }
+    ensures raised { AreRaised inner.now outer.now sweep.now (point_of grid.now ray.now) scale
+        part.first (part.first + 2 ^ part.levels) part.from part.to marks.old marks.new }
+    ensures cost { let weigh = weight (is_undecided outer.now sweep.now (point_of grid.now ray.now) scale) in
+        (halvings : ℕ) → part.levels + (part.to - part.from) ≤ halvings + 1
+        → steps.new ≤ steps.old
+        + length outer.now * (4 * (1 + over_children (weigh halvings) part.levels part.first part.from part.to)) }
 {
     if part.levels == 0 {
         if part.to - part.from < 2 {
@@ -191,10 +199,12 @@ pub fn mark_along<L: Ledger>(
     requires part { IsBox part.levels part.first part.from part.to scale (points_of grid.now ray.now.family) }
     requires marks { length marks.old ≡ points_of grid.now ray.now.family }
     requires as_many { length inner.now ≤ length outer.now }
-    requires enclosed { (p : List ℤ) (i : ℕ) → some_holds inner.now sweep.now p i scale ≡ true → some_holds outer.now sweep.now p i scale ≡ true }
-    ensures raised { AreRaised inner.now outer.now sweep.now (point_of grid.now ray.now) scale part.first (part.first + 2 ^ part.levels) part.from part.to marks.old marks.new }
-    ensures cost { let undecided = is_undecided outer.now sweep.now (point_of grid.now ray.now) scale in (halvings : ℕ) → part.levels + (part.to - part.from) ≤ halvings
-        → steps.new ≤ steps.old + length outer.now * (2 + 4 * along (weight undecided halvings part.levels part.first) part.from part.to) }
+    requires enclosed { IsEnclosed inner.now outer.now sweep.now scale }
+    ensures raised { AreRaised inner.now outer.now sweep.now (point_of grid.now ray.now) scale
+        part.first (part.first + 2 ^ part.levels) part.from part.to marks.old marks.new }
+    ensures cost { let weigh = weight (is_undecided outer.now sweep.now (point_of grid.now ray.now) scale) in
+        (halvings : ℕ) → part.levels + (part.to - part.from) ≤ halvings
+        → steps.new ≤ steps.old + length outer.now * (2 + 4 * along (weigh halvings part.levels part.first) part.from part.to) }
 {
     if part.to - part.from < 2 {
         mark_box(grid, ray, sweep, inner, outer, scale, part, marks, steps);

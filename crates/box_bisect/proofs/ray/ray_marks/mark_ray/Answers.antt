@@ -9,11 +9,10 @@ use Rattle.cutter_slabs.specs.Stacks.{inner_stack, outer_stack, reach_of}
 use Rattle.axis_cells.specs.declared.mark.Mark.{Mark}
 use Rattle.axis_cells.specs.declared.mark.Mark.TheVariants.{Clear}
 use Rattle.std.proofs.lemmas.List.{length-replicate}
-use Rattle.box_bisect.specs.Between.{is_removed_mark}
-use Rattle.box_bisect.specs.RayMarks.{is_possible_mark, mark_at}
+use Rattle.box_bisect.specs.RayMarks.{AreInReach}
 use Rattle.box_bisect.proofs.RayRaising.{raised_none}
 use Rattle.box_bisect.proofs.RayLines.{ray_line}
-use Rattle.box_bisect.proofs.RayWhole.{AreInReach, clear_all, marks_of, possible_flags, raised_as, raised_nowhere, ray_cost, sure_flags}
+use Rattle.box_bisect.proofs.RayWhole.{clear_all, marks_of, possible_flags, raised_as, raised_nowhere, ray_cost, sure_flags}
 use Rattle.box_bisect.proofs.Searching.{some_cells}
 use Rattle.box_bisect.proofs.ray.ray_marks.mark_ray.Goals as goal
 
