@@ -1,10 +1,10 @@
 -- A grid whose coefficients share a strict sign has that sign on the whole square, ends included: each of its rows has it along the
 -- line, so the form in time has it too.
-use Rattle.std.proofs.Common.{◌≡◌, true, ℕ, zero, suc, ◌+◌, ◌*◌, ◌≤◌, ◌<◌, [], ◌∷◌, List, length, ℤ, pos, ◌<ℤ◌, arith, refl}
+use Rattle.std.proofs.Common.{◌≡◌, true, ℕ, ◌≤◌, ◌<◌, [], ◌∷◌, List, length, ℤ, pos, ◌<ℤ◌, arith, refl}
 use Rattle.std.specs.Bool.{Decides}
 use Rattle.std.specs.List.{All, list_all}
 use Rattle.std.proofs.lemmas.Bool.Decides.{Decides-by_and}
-use Rattle.bern_form.specs.Forms.{IsPlace, all_negative, all_positive, value1, value2, value4}
+use Rattle.bern_form.specs.Forms.{IsPlace, all_negative, all_positive, value1, value2}
 use Rattle.bern_form.specs.Grids.{row, rows_negative, rows_positive, value21, value42}
 use Rattle.bern_form.proofs.Decided.{decides_negative, decides_positive}
 use Rattle.bern_form.proofs.HalfSigns.{all_five, all_three}

@@ -1,24 +1,22 @@
 -- What is excluded on a box is excluded for each of its points in the box's time; on a box of one point it is the same.
-use Rattle.std.proofs.Common.{◌≡◌, true, false, not, ◌||◌, Bool, ℕ, zero, suc, ◌+◌, ◌-◌, ◌*◌, ◌^◌, ◌≤◌, ◌<◌, [], ◌∷◌, List, length, ℤ, pos, negsuc, ◌+ℤ◌, ◌*ℤ◌, ◌-ℤ◌, ◌<ℤ◌, ◌⊎◌, inl, inr, arith, refl, subst, sym, ap, ⊎_elim, ◌∙◌}
+use Rattle.std.proofs.Common.{◌≡◌, true, false, not, ◌||◌, Bool, ℕ, zero, suc, ◌+◌, ◌*◌, ◌≤◌, ◌<◌, [], ◌∷◌, List, length, ℤ, pos, negsuc, ◌+ℤ◌, ◌*ℤ◌, ◌-ℤ◌, ◌<ℤ◌, ◌⊎◌, inl, inr, arith, refl, subst, sym, ap, ⊎_elim}
 use Rattle.std.proofs.lemmas.Int.{ints}
 use Rattle.std.specs.Bool.{Decides}
-use Rattle.std.specs.List.{All, Contains, list_any}
-use Rattle.std.proofs.lemmas.Bool.{cases_Bool}
-use Rattle.std.proofs.lemmas.Bool.Decides.{Decides-not, Decides-or, not_from_Decides}
+use Rattle.std.specs.List.{All, list_any}
+use Rattle.std.proofs.lemmas.Bool.Decides.{Decides-or}
 use Rattle.space.specs.Motion.{Motion}
 use Rattle.space.specs.Vectors.{at}
-use Rattle.bern_form.specs.Between.{d_between, height_less, is_excluded_between, is_left_between, n_between, u_between, width_less}
+use Rattle.bern_form.specs.Between.{d_between, is_excluded_between, is_left_between, n_between, u_between}
 use Rattle.bern_form.specs.Cells.{scaled_square}
 use Rattle.bern_form.specs.Forms.{IsPlace, difference4, lifted, product22, scaled2, scaled4, value1, value2}
-use Rattle.bern_form.specs.Grids.{columns21, rows_negative, rows_positive}
+use Rattle.bern_form.specs.Grids.{columns21}
 use Rattle.bern_form.specs.Slab.{SlabSize}
-use Rattle.bern_form.proofs.Decided.{decides_among, says_no}
 use Rattle.bern_form.proofs.Finer.{ExcludedBetween, ExcludedWith, decides_with}
 use Rattle.bern_form.proofs.HalfSigns.{all_five, all_three}
 use Rattle.bern_form.proofs.Relations.{AllNegative, AllPositive}
 use Rattle.bern_form.proofs.Signs.{negative1, negative2, positive2}
 use Rattle.bern_form.proofs.Squares.{decides_rows_negative, decides_rows_positive}
-use Rattle.box_bisect.specs.RayBoxes.{grid_less, height_column, is_excluded_across, is_excluded_in_box, is_undecided, product_between, width_column}
+use Rattle.box_bisect.specs.RayBoxes.{grid_less, height_column, is_excluded_across, is_excluded_in_box, product_between, width_column}
 use Rattle.box_bisect.proofs.Raised.{raised_is}
 use Rattle.box_bisect.proofs.RayMixed.{IsAlong, blended, both_along, d_mixed, mixed, row_height, row_width, squares_along, u_mixed}
 

@@ -1,5 +1,5 @@
 -- Numbers of a box's tests that fit 128 bits.
-use Rattle.std.proofs.Common.{◌≡◌, ℕ, ◌+◌, ◌*◌, ◌^◌, ◌≤◌, ◌<◌, List, ℤ, pos, unsigned_abs, arith, subst, ap, ◌∙◌, Bool, true, false, ◌||◌, refl}
+use Rattle.std.proofs.Common.{◌≡◌, ℕ, ◌+◌, ◌*◌, ◌≤◌, List, ℤ, pos, unsigned_abs, arith, subst, ap, ◌∙◌, Bool, true, false, ◌||◌, refl}
 use Rattle.std.specs.List.{All}
 use Rattle.bern_form.specs.Forms.{IsSmall, difference4, product22, scaled4}
 use Rattle.bern_form.specs.Grids.{columns42}

@@ -1,5 +1,5 @@
 -- The halves of a box in time are boxes.
-use Rattle.std.proofs.Common.{◌≡◌, ℕ, ◌+◌, ◌*◌, ◌^◌, ◌≤◌, ◌<◌, arith}
+use Rattle.std.proofs.Common.{◌≡◌, ℕ, ◌+◌, ◌^◌, arith}
 use Rattle.box_bisect.specs.RayBoxes.{IsBox}
 use Rattle.box_bisect.proofs.Searching.{halved}
 

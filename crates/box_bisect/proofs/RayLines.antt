@@ -1,6 +1,5 @@
 -- The points of a ray follow each other at equal distances, so each is between any two that it stands between.
-use Rattle.std.proofs.Common.{◌≡◌, false, not, ℕ, zero, suc, ◌+◌, ◌-◌, ◌*◌, ◌^◌, ◌≤◌, ◌<◌, [], ◌∷◌, List, ℤ, pos, ◌+ℤ◌, ◌*ℤ◌, arith, refl, subst, sym, ap, ⊎_elim, ◌∙◌}
-use Rattle.std.proofs.lemmas.Int.{ints}
+use Rattle.std.proofs.Common.{◌≡◌, false, ℕ, ◌+◌, ◌-◌, ◌*◌, ◌^◌, ◌≤◌, ◌<◌, [], ◌∷◌, List, ℤ, pos, ◌+ℤ◌, ◌*ℤ◌, arith, refl, subst, sym, ap, ⊎_elim, ◌∙◌}
 use Rattle.std.proofs.lemmas.Bool.{cases_lt}
 use Rattle.space.specs.Motion.{Motion}
 use Rattle.space.specs.Vectors.{at}
@@ -11,7 +10,7 @@ use Rattle.ray_grid.specs.declared.grid.Grid.{Grid}
 use Rattle.ray_grid.specs.declared.ray.Ray.{Ray}
 use Rattle.ray_grid.specs.declared.ray.Family.{Family}
 use Rattle.ray_grid.specs.declared.ray.Family.TheVariants.{X, Y, Z}
-use Rattle.ray_grid.specs.Lattice.{node_at, place_at, point_at, point_of}
+use Rattle.ray_grid.specs.Lattice.{node_at, point_at, point_of}
 use Rattle.box_bisect.specs.RayBoxes.{is_undecided}
 use Rattle.box_bisect.proofs.RayMixed.{IsAlong}
 use Rattle.box_bisect.proofs.RayExcluded.{none_left}

@@ -1,12 +1,11 @@
 -- Along a ray the forms of a point between two others are made of theirs: u is a sum of both u, with weights that stand for the place
 -- between them, and so are the quantities of degree 4, with the squares and the double product of the weights.
-use Rattle.std.proofs.Common.{◌≡◌, ℕ, zero, suc, ◌+◌, ◌*◌, ◌<◌, [], ◌∷◌, List, ℤ, pos, negsuc, ◌+ℤ◌, ◌*ℤ◌, ◌-ℤ◌, ◌<ℤ◌, arith, refl, ap, ap₂, sym, ◌∙◌}
-use Rattle.std.proofs.lemmas.Int.{ints}
-use Rattle.space.specs.Motion.{Motion, axis_at, between, offset, offset_at}
-use Rattle.space.specs.Vectors.{at, dot}
+use Rattle.std.proofs.Common.{◌≡◌, ℕ, zero, suc, ◌+◌, ◌<◌, [], ◌∷◌, List, ℤ, pos, ◌+ℤ◌, ◌*ℤ◌, ◌-ℤ◌, arith, refl, ap, ap₂, sym, ◌∙◌}
+use Rattle.space.specs.Motion.{Motion, axis_at, between, offset_at}
+use Rattle.space.specs.Vectors.{at}
 use Rattle.space.proofs.Solver.{Term, var, num, add, mul, ring}
 use Rattle.space.proofs.Terms.{dots, from, sub}
-use Rattle.bern_form.specs.Forms.{difference4, lifted, product22, scaled2, scaled4, value2}
+use Rattle.bern_form.specs.Forms.{product22, scaled2, value2}
 use Rattle.bern_form.specs.Cells.{dot_on_cell}
 
 same3 : (a b c d e f : ℤ) → a ≡ d → b ≡ e → c ≡ f → a ∷ b ∷ c ∷ [] ≡ d ∷ e ∷ f ∷ []

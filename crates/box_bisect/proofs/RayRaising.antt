@@ -1,5 +1,5 @@
 -- The marks of a box's points: where it is decided, where it is one point on one cell, and from those of its parts.
-use Rattle.std.proofs.Common.{◌≡◌, Bool, true, false, not, ℕ, zero, suc, ◌+◌, ◌-◌, ◌^◌, ◌≤◌, ◌<◌, ◌⊎◌, inl, inr, List, length, ℤ, set, if◌then◌else◌, arith, refl, subst, sym, ap, ⊎_elim, ◌∙◌}
+use Rattle.std.proofs.Common.{◌≡◌, Bool, true, false, not, ℕ, ◌+◌, ◌-◌, ◌^◌, ◌≤◌, ◌<◌, inl, inr, List, length, ℤ, set, if◌then◌else◌, arith, refl, subst, sym, ap, ⊎_elim, ◌∙◌}
 use Rattle.std.specs.List.{list_any}
 use Rattle.std.proofs.lemmas.Bool.{cases_Bool, cases_lt}
 use Rattle.std.proofs.lemmas.List.{get_or-set_other, get_or-set_same}
@@ -9,7 +9,7 @@ use Rattle.bern_form.specs.Marks.{is_left_on, some_holds}
 use Rattle.bern_form.specs.Slab.{SlabSize}
 use Rattle.axis_cells.specs.declared.mark.Mark.{Mark}
 use Rattle.axis_cells.specs.declared.mark.Mark.TheVariants.{Clear, Possible, Removed}
-use Rattle.box_bisect.specs.Between.{IsFreeBetween, IsHeldBetween, IsLeftWithin, IsMarkBetween, IsOutWithin}
+use Rattle.box_bisect.specs.Between.{IsFreeBetween, IsHeldBetween, IsLeftWithin, IsMarkBetween}
 use Rattle.box_bisect.specs.RayBoxes.{is_excluded_in_box, is_undecided}
 use Rattle.box_bisect.specs.RayMarks.{AreRaised, IsRaised, greater_mark, mark_at, mark_by_samples}
 use Rattle.box_bisect.specs.Stretches.{AreFormsBetween}

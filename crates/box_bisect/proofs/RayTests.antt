@@ -1,12 +1,11 @@
 -- The tests of a box by what is kept of it are those of its points and its time.
-use Rattle.std.proofs.Common.{◌≡◌, Bool, true, false, not, ℕ, ◌+◌, List, ℤ, pos, if◌then◌else◌, refl}
+use Rattle.std.proofs.Common.{◌≡◌, Bool, true, false, not, ℕ, List, ℤ, pos, if◌then◌else◌}
 use Rattle.std.specs.List.{list_any}
 use Rattle.space.specs.Motion.{Motion}
 use Rattle.bern_form.specs.Between.{d_between, n_between, u_between}
 use Rattle.bern_form.specs.Forms.{lifted, product22}
 use Rattle.bern_form.specs.Grids.{columns21, rows_negative}
 use Rattle.bern_form.specs.Slab.{SlabSize}
-use Rattle.axis_cells.specs.declared.mark.Mark.{Mark}
 use Rattle.axis_cells.specs.declared.mark.Mark.TheVariants.{Possible, Removed}
 use Rattle.box_bisect.specs.RayBoxes.{height_column, is_excluded_across, is_excluded_in_box, is_left_by_grids, product_between, width_column}
 

@@ -1,6 +1,5 @@
 -- The marks and the steps of a whole ray, from those of its indices in reach.
-use Rattle.std.proofs.Common.{◌≡◌, Bool, true, false, ℕ, ◌+◌, ◌-◌, ◌*◌, ◌^◌, ◌≤◌, ◌<◌, ◌⊎◌, inl, inr, List, [], length, map, replicate, ℤ, pos, IsTrue, nat_lt, if◌then◌else◌, arith, refl, subst, sym, ap, ⊎_elim, ◌∙◌}
-use Rattle.std.specs.List.{range_with_len}
+use Rattle.std.proofs.Common.{◌≡◌, Bool, true, false, ℕ, ◌+◌, ◌-◌, ◌*◌, ◌^◌, ◌≤◌, ◌<◌, ◌⊎◌, inl, inr, List, length, replicate, ℤ, pos, IsTrue, nat_lt, if◌then◌else◌, arith, refl, subst, sym, ap, ⊎_elim, ◌∙◌}
 use Rattle.std.proofs.lemmas.Bool.{cases_Bool, cases_lt}
 use Rattle.std.proofs.lemmas.Bool.Decides.{nat_tests}
 use Rattle.std.proofs.lemmas.List.{ext_get_or, get_or-replicate, get_or_past, length-replicate}
@@ -21,7 +20,7 @@ use Rattle.box_bisect.specs.Between.{is_removed_mark}
 use Rattle.box_bisect.specs.RayBoxes.{is_undecided, over_children, undecided_along, weight}
 use Rattle.box_bisect.specs.RayMarks.{AreInReach, AreRaised, flags_along, greater_mark, is_possible_mark, mark_at}
 use Rattle.box_bisect.proofs.Marking.{far_mark, mark_is}
-use Rattle.box_bisect.proofs.RayCounting.{cost_decided, cost_undecided}
+use Rattle.box_bisect.proofs.RayCounting.{cost_undecided}
 
 -- two pairs of ends that select the same, and something
 pub same_ends : (P : ℕ → Type 0) (a b c d : ℕ) → Selects a b P → Selects c d P → c < d → (a ≡ c) × (b ≡ d)

@@ -1,4 +1,4 @@
-use Rattle.std.proofs.Common.{◌≡◌, ℕ, ◌<◌, ◌≤◌, length, rules, arith, sym, ◌∙◌}
+use Rattle.std.proofs.Common.{◌≡◌, length, rules, arith, sym, ◌∙◌}
 use Rattle.bern_form.proofs.Squares.{HasRows, tested_positive21}
 use Rattle.bern_form.proofs.grid.Grid21.all_positive.Goals as goal
 

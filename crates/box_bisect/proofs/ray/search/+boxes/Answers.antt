@@ -1,4 +1,4 @@
-use Rattle.std.proofs.Common.{◌≡◌, ℕ, ◌+◌, ◌-◌, ◌*◌, ◌^◌, ◌≤◌, ◌<◌, List, length, set, true, false, arith, rules, subst, sym, ◌∙◌}
+use Rattle.std.proofs.Common.{◌≡◌, ℕ, ◌+◌, ◌-◌, ◌*◌, ◌^◌, ◌≤◌, length, set, arith, rules, subst, sym, ◌∙◌}
 use Rattle.ray_grid.specs.Lattice.{point_of, points_of}
 use Rattle.axis_cells.specs.declared.mark.Mark.{Mark}
 use Rattle.box_bisect.specs.RayBoxes.{IsBox, along, is_undecided, middle, weight}

@@ -1,7 +1,5 @@
 use Rattle.std.proofs.Common.{◌+◌, ◌-◌, ◌^◌, ◌∙◌}
 use Rattle.ray_grid.specs.Lattice.{point_of}
-use Rattle.bern_form.specs.Between.{d_between, n_between, u_between}
-use Rattle.box_bisect.specs.RayBoxes.{product_between}
 use Rattle.box_bisect.proofs.RayTests.{undecided_by_forms, undecided_by_grids}
 use Rattle.box_bisect.proofs.ray.search.is_undecided.Goals as goal
 
