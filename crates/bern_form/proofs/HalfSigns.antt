@@ -1,5 +1,5 @@
 -- A strict common sign of a form's coefficients on a part of a move is their sign on each half of it.
-use Rattle.std.proofs.Common.{◌≡◌, ℕ, zero, suc, ◌+◌, ◌≤◌, ◌<◌, [], ◌∷◌, List, length, ℤ, pos, ◌+ℤ◌, ◌*ℤ◌, ◌-ℤ◌, ◌<ℤ◌, arith, refl, ap, ◌∙◌}
+use Rattle.std.proofs.Common.{◌≡◌, ℕ, zero, suc, ◌≤◌, [], ◌∷◌, List, length, ℤ, pos, ◌+ℤ◌, ◌*ℤ◌, ◌-ℤ◌, ◌<ℤ◌, arith, refl}
 use Rattle.std.proofs.lemmas.Int.{ints}
 use Rattle.std.specs.List.{All}
 use Rattle.space.specs.Vectors.{at}
@@ -16,7 +16,7 @@ three h = at h 0 ∷ at h 1 ∷ at h 2 ∷ []
 abbrev pub five : List ℤ → List ℤ
 five h = at h 0 ∷ at h 1 ∷ at h 2 ∷ at h 3 ∷ at h 4 ∷ []
 
-all_three : (P : ℤ → Type 0) (a b c : ℤ) → P a → P b → P c → All P (a ∷ b ∷ c ∷ [])
+pub all_three : (P : ℤ → Type 0) (a b c : ℤ) → P a → P b → P c → All P (a ∷ b ∷ c ∷ [])
 all_three P a b c h0 h1 h2 zero d l = h0
 all_three P a b c h0 h1 h2 (suc zero) d l = h1
 all_three P a b c h0 h1 h2 (suc (suc zero)) d l = h2

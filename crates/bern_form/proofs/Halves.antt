@@ -1,16 +1,13 @@
 -- The forms of the two halves of a part of a move, from a sample to one in the middle and from there to a last one. The forms of
 -- the whole are sums of each half's, so the whole's strict signs are the halves' signs too.
-use Rattle.std.proofs.Common.{◌≡◌, ℕ, zero, suc, ◌+◌, ◌*◌, ◌≤◌, ◌<◌, [], ◌∷◌, List, length, ℤ, pos, ◌+ℤ◌, ◌*ℤ◌, ◌-ℤ◌, ◌<ℤ◌, arith, refl, ap, ap₂, ◌∙◌}
+use Rattle.std.proofs.Common.{◌≡◌, ℕ, ◌+◌, ◌*◌, [], ◌∷◌, List, ℤ, pos, ◌+ℤ◌, ◌*ℤ◌, ◌-ℤ◌, arith, refl, ap, ap₂, ◌∙◌}
 use Rattle.std.proofs.lemmas.Int.{ints}
-use Rattle.std.specs.List.{All}
-use Rattle.space.specs.Vectors.{at, dot}
+use Rattle.space.specs.Vectors.{at}
 use Rattle.space.specs.Motion.{Motion, axis_at, between, offset, offset_at}
-use Rattle.space.proofs.Solver.{Term, var, num, add, mul, neg, ring}
+use Rattle.space.proofs.Solver.{Term, var, num, add, mul, ring}
 use Rattle.space.proofs.Terms.{dots, from, sub}
-use Rattle.bern_form.specs.Forms.{product22, scaled4}
 use Rattle.bern_form.specs.Cells.{dot_on_cell}
-use Rattle.bern_form.specs.Between.{d_between, height_less, n_between, u_between, width_less}
-use Rattle.bern_form.proofs.Relations.{AllNegative, AllPositive}
+use Rattle.bern_form.specs.Between.{d_between, n_between, u_between}
 
 -- the other end, as far from the middle as the one end
 abbrev pub far : List ℤ → List ℤ → List ℤ

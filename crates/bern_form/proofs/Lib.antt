@@ -11,3 +11,4 @@ pub mod Sizes
 pub mod Halves
 pub mod HalfSigns
 pub mod Finer
+pub mod Squares

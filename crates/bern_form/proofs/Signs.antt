@@ -1,12 +1,13 @@
 -- The sign of a form whose coefficients share a strict sign.
 use Rattle.std.proofs.Common.{◌≡◌, ℕ, zero, suc, ◌+◌, ◌*◌, ◌<◌, ◌≤◌, [], ◌∷◌, List, length, true, ℤ, pos, negsuc, ◌+ℤ◌, ◌*ℤ◌, neg_ℤ, ◌<ℤ◌, ◌≤ℤ◌, arith, refl}
 use Rattle.std.proofs.lemmas.Int.{ints}
-use Rattle.bern_form.specs.Forms.{IsPlace, all_negative, all_positive, value2, value4}
+use Rattle.std.specs.List.{All}
+use Rattle.bern_form.specs.Forms.{IsPlace, all_negative, all_positive, value1, value2, value4}
 use Rattle.bern_form.proofs.Decided.{decides_negative, decides_positive}
 use Rattle.bern_form.proofs.Relations.{AllNegative, AllPositive}
 use Rattle.space.specs.Vectors.{at}
 use Rattle.space.proofs.Solver.{var, neg, ring}
-use Rattle.bern_form.proofs.FormTerms.{form2, form4}
+use Rattle.bern_form.proofs.FormTerms.{form1, form2, form4}
 use Rattle.space.proofs.Terms.{from}
 
 -- a number above 0 times one that is not below 0, and times one that is above 0
@@ -43,6 +44,11 @@ ends4 zero zero h = omega arith
 ends4 zero (suc y) h = omega arith
 ends4 (suc x) y h = omega arith
 
+pub positive1 : (c : List ℤ) (x y : ℕ) → 2 ≤ length c → AllPositive c → IsPlace x y → pos 0 <ℤ value1 c (pos x) (pos y)
+positive1 c x zero n p h = let a = not_below (at c 0) 0 (p 0 (pos 0) (omega arith)) in let b = above (at c 1) x (p 1 (pos 0) (omega arith)) (omega arith) in omega (arith, ints, a, b)
+positive1 c x (suc y) n p h =
+    let a = above (at c 0) (suc y) (p 0 (pos 0) (omega arith)) (omega arith) in let b = not_below (at c 1) x (p 1 (pos 0) (omega arith)) in omega (arith, ints, a, b)
+
 pub positive2 : (c : List ℤ) (x y : ℕ) → 3 ≤ length c → AllPositive c → IsPlace x y → pos 0 <ℤ value2 c (pos x) (pos y)
 positive2 c x y n p h =
     above_sum3 (at c 0) (at c 1) (at c 2) (y * y) (x * y) (x * x)
@@ -74,6 +80,20 @@ turned z h = omega (arith, ints)
 
 back : (z w : ℤ) → w ≡ neg_ℤ z → pos 0 <ℤ w → z <ℤ pos 0
 back z w e h = omega (arith, ints)
+
+opposite1 : (a b : ℤ) (x y : ℤ) → neg_ℤ a *ℤ y +ℤ neg_ℤ b *ℤ x ≡ neg_ℤ (a *ℤ y +ℤ b *ℤ x)
+opposite1 a b x y = ring (a ∷ b ∷ x ∷ y ∷ []) (form1 (λ k. neg (var k)) (var 2) (var 3)) (neg (form1 (from 0) (var 2) (var 3))) refl
+
+both : (P : ℤ → Type 0) (a b : ℤ) → P a → P b → All P (a ∷ b ∷ [])
+both P a b h0 h1 zero d l = h0
+both P a b h0 h1 (suc zero) d l = h1
+both P a b h0 h1 (suc (suc k)) d l = absurd (omega arith)
+
+pub negative1 : (c : List ℤ) (x y : ℕ) → 2 ≤ length c → AllNegative c → IsPlace x y → value1 c (pos x) (pos y) <ℤ pos 0
+negative1 c x y n p h =
+    let a = at c 0 in let b = at c 1 in
+    back (value1 c (pos x) (pos y)) (value1 (neg_ℤ a ∷ neg_ℤ b ∷ []) (pos x) (pos y)) (opposite1 a b (pos x) (pos y))
+    (positive1 (neg_ℤ a ∷ neg_ℤ b ∷ []) x y (omega arith) (both (λ z. pos 0 <ℤ z) (neg_ℤ a) (neg_ℤ b) (turned a (p 0 (pos 0) (omega arith))) (turned b (p 1 (pos 0) (omega arith)))) h)
 
 pub negative2 : (c : List ℤ) (x y : ℕ) → 3 ≤ length c → AllNegative c → IsPlace x y → value2 c (pos x) (pos y) <ℤ pos 0
 unfolding opposite2

@@ -19,7 +19,9 @@ n_between m j k S =
 
 abbrev pub d_between : Motion → List ℤ → ℕ → ℕ → ℕ → List ℤ
 d_between m p j k S =
-    dot_on_cell (offset_at m p (pos j) (pos S)) (offset_at m p (pos k) (pos S)) (offset_at m p (pos j) (pos S)) (offset_at m p (pos k) (pos S))
+    let first = offset_at m p (pos j) (pos S) in
+    let last = offset_at m p (pos k) (pos S) in
+    dot_on_cell first last first last
 
 -- the coefficients of u^2 - f n and of 4 (d n - u^2) - f n
 abbrev pub height_less : ℤ → List ℤ → List ℤ → List ℤ

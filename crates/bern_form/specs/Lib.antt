@@ -1,4 +1,5 @@
 pub mod Forms
+pub mod Grids
 pub mod Roots
 pub mod Slab
 pub mod Cells

@@ -8,7 +8,7 @@ use crate::form::{Form2, Form4};
 
 /// Whether every number is above 0.
 #[inline]
-fn each_above(numbers: &[i128]) -> bool
+pub(crate) fn each_above(numbers: &[i128]) -> bool
     ensures { result ≡ all_positive numbers.now }
 {
     numbers.iter().all(|c| *c > 0)
@@ -16,7 +16,7 @@ fn each_above(numbers: &[i128]) -> bool
 
 /// Whether every number is below 0.
 #[inline]
-fn each_below(numbers: &[i128]) -> bool
+pub(crate) fn each_below(numbers: &[i128]) -> bool
     ensures { result ≡ all_negative numbers.now }
 {
     numbers.iter().all(|c| *c < 0)

@@ -8,3 +8,13 @@ pub mod Searching
 pub mod Counting
 pub mod Fitting
 pub mod Marking
+pub mod RayFitting
+pub mod RayFlags
+pub mod RayMixed
+pub mod RayExcluded
+pub mod RayLines
+pub mod RayRaising
+pub mod RayCounting
+pub mod RayTests
+pub mod RayHalves
+pub mod RayWhole

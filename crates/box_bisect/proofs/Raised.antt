@@ -36,7 +36,7 @@ conv a b (suc (suc zero)) = add (add (mul (a 0) (b 2)) (mul (a 1) (b 1))) (mul (
 conv a b (suc (suc (suc zero))) = add (mul (a 1) (b 2)) (mul (a 2) (b 1))
 conv a b (suc (suc (suc (suc k)))) = mul (a 2) (b 2)
 
-raised_is : (f : ℤ) (n : List ℤ) → scaled4 f (lifted n) ≡ lifted (scaled2 f n)
+pub raised_is : (f : ℤ) (n : List ℤ) → scaled4 f (lifted n) ≡ lifted (scaled2 f n)
 raised_is f n =
     let e = at n 0 ∷ at n 1 ∷ at n 2 ∷ f ∷ [] in let F = var 3 in
     let x = λ (k : ℕ). mul F (conv (from 0) ones k) in let y = conv (λ k. mul F (var k)) ones in

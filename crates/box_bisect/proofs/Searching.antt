@@ -50,7 +50,7 @@ dropped inner outer u n d m p S levels j some forms enclosed none =
     (free, none_left)
 
 -- where it is a cell
-two_samples : (P : ℕ → Type 0) (j i : ℕ) → P j → P (j + 1) → j ≤ i → i ≤ j + 1 → P i
+pub two_samples : (P : ℕ → Type 0) (j i : ℕ) → P j → P (j + 1) → j ≤ i → i ≤ j + 1 → P i
 two_samples P j i a b after before =
     ⊎_elim (λ early. let e : j ≡ i = omega arith in subst P e a) (λ late. let e : j + 1 ≡ i = omega arith in subst P e b) (cases_lt i (j + 1))
 
@@ -120,24 +120,24 @@ middle_held inner outer u n d m p S levels k j e s held =
     }
 
 -- the marks of both halves are the stretch's
-free_both : (inner : List SlabSize) (m : Motion) (p : List ℤ) (j i k S : ℕ) → IsFreeBetween inner m p j i S → IsFreeBetween inner m p i k S → IsFreeBetween inner m p j k S
+pub free_both : (inner : List SlabSize) (m : Motion) (p : List ℤ) (j i k S : ℕ) → IsFreeBetween inner m p j i S → IsFreeBetween inner m p i k S → IsFreeBetween inner m p j k S
 free_both inner m p j i k S a b =
     record { none = λ x after before. ⊎_elim (λ early. a.none x after (omega arith)) (λ late. b.none x late before) (cases_lt x i) }
 
-out_both : (outer : List SlabSize) (m : Motion) (p : List ℤ) (j i k S : ℕ) → IsOutWithin outer m p j i S → IsOutWithin outer m p i k S → IsOutWithin outer m p j k S
+pub out_both : (outer : List SlabSize) (m : Motion) (p : List ℤ) (j i k S : ℕ) → IsOutWithin outer m p j i S → IsOutWithin outer m p i k S → IsOutWithin outer m p j k S
 out_both outer m p j i k S a b =
     record { none = λ x after before. ⊎_elim (λ early. a.none x after early) (λ late. b.none x late before) (cases_lt x i) }
 
-left_early : (outer : List SlabSize) (m : Motion) (p : List ℤ) (j i k S : ℕ) → i ≤ k → IsLeftWithin outer m p j i S → IsLeftWithin outer m p j k S
+pub left_early : (outer : List SlabSize) (m : Motion) (p : List ℤ) (j i k S : ℕ) → i ≤ k → IsLeftWithin outer m p j i S → IsLeftWithin outer m p j k S
 left_early outer m p j i k S h a = record { cell = a.cell; after = a.after; before = omega (arith, a.before); left = a.left }
 
-left_late : (outer : List SlabSize) (m : Motion) (p : List ℤ) (j i k S : ℕ) → j ≤ i → IsLeftWithin outer m p i k S → IsLeftWithin outer m p j k S
+pub left_late : (outer : List SlabSize) (m : Motion) (p : List ℤ) (j i k S : ℕ) → j ≤ i → IsLeftWithin outer m p i k S → IsLeftWithin outer m p j k S
 left_late outer m p j i k S h a = record { cell = a.cell; after = omega (arith, a.after); before = a.before; left = a.left }
 
-held_early : (inner : List SlabSize) (m : Motion) (p : List ℤ) (j i k S : ℕ) → i ≤ k → IsHeldBetween inner m p j i S → IsHeldBetween inner m p j k S
+pub held_early : (inner : List SlabSize) (m : Motion) (p : List ℤ) (j i k S : ℕ) → i ≤ k → IsHeldBetween inner m p j i S → IsHeldBetween inner m p j k S
 held_early inner m p j i k S h a = record { sample = a.sample; after = a.after; before = omega (arith, a.before); held = a.held }
 
-held_late : (inner : List SlabSize) (m : Motion) (p : List ℤ) (j i k S : ℕ) → j ≤ i → IsHeldBetween inner m p i k S → IsHeldBetween inner m p j k S
+pub held_late : (inner : List SlabSize) (m : Motion) (p : List ℤ) (j i k S : ℕ) → j ≤ i → IsHeldBetween inner m p i k S → IsHeldBetween inner m p j k S
 held_late inner m p j i k S h a = record { sample = a.sample; after = omega (arith, a.after); before = a.before; held = a.held }
 
 join_at : (early late : Mark) (inner outer : List SlabSize) (m : Motion) (p : List ℤ) (j i k S : ℕ) → j ≤ i → i ≤ k → ¬ (late ≡ Removed)

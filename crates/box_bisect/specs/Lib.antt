@@ -4,3 +4,6 @@ pub mod Boxes
 pub mod Between
 pub mod SlabTests
 pub mod Sides
+pub mod RayBoxes
+pub mod RayMarks
+pub mod RaySizes

@@ -7,8 +7,10 @@ mod held;
 mod joined;
 mod limits;
 mod point;
+mod ray;
 mod search;
 mod stretch;
 mod turn;
 
 pub use point::{mark_point, mark_point_uncounted};
+pub use ray::{RayMarks, mark_ray};
