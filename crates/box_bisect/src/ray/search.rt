@@ -84,7 +84,7 @@ fn mark_on_cell<L: Ledger>(
 /// Raises the marks of a box's points to their marks within its time. Where all outer slabs are excluded on it nothing is left to
 /// do.
 #[cycle(boxes)]
-pub fn mark_box<L: Ledger>(
+fn mark_box<L: Ledger>(
     grid: &Grid,
     ray: &Ray,
     sweep: &Sweep,
@@ -186,7 +186,7 @@ pub fn mark_children<L: Ledger>(
 
 /// The same for a box as one child or, where it has two or more indices, as two halves along the ray.
 #[cycle(boxes)]
-pub fn mark_along<L: Ledger>(
+fn mark_along<L: Ledger>(
     grid: &Grid,
     ray: &Ray,
     sweep: &Sweep,
