@@ -1,4 +1,4 @@
-//! The mark of one point by halving the time of a move, with its tests counted.
+//! The marks of a point and of a ray by halving the time of a move, with their tests counted.
 #![tactic(auto)]
 
 mod compare;

@@ -181,7 +181,8 @@ impl Dexel {
 fn rapid_count(rapid: bool, stock: &Spans, marked: &Spans, before: &Spans) -> u64
     requires marked { length marked.now ≡ length stock.now }
     requires before { length before.now ≡ length stock.now }
-    ensures { result ≡ count_below (length stock.now) (λ i. rapid && (has stock.now i && (has marked.now i && not (has before.now i)))) }
+    ensures { result ≡ count_below (length stock.now)
+        (λ i. rapid && (has stock.now i && (has marked.now i && not (has before.now i)))) }
 {
     if rapid {
         u64::from(stock.count_meet_minus(marked, before))

@@ -1,4 +1,4 @@
-//! Sets of indices below a bound, kept as ranges, with union, difference and intersection.
+//! Sets of indices below a bound, kept as ranges or as words of 64 flags, with union, difference and intersection.
 #![tactic(auto)]
 
 pub mod bits;
