@@ -4,7 +4,7 @@ use Rattle.space.specs.Motion.{Motion}
 use Rattle.cutter_slabs.specs.Cutter.{CutterSize}
 use Rattle.cutter_slabs.specs.Stacks.{StacksOf}
 use Rattle.cutter_marks.specs.MarkBy.{is_possible_by, is_sure_by}
-use Rattle.ray_grid.specs.declared.grid.Grid.{Grid}
+use Rattle.ray_grid.specs.Grids.{GridSize}
 use Rattle.ray_grid.specs.declared.ray.Ray.{Ray}
 use Rattle.ray_grid.specs.Lattice.{IsRay, point_of, points_of}
 use Rattle.wanted_marks.specs.Bits.{has_bit}
@@ -30,7 +30,7 @@ is_possible_in v p = is_possible_by v.cutter v.slabs v.motion p (2 ^ v.depth)
 -- a ray of a grid, and a move of a cutter
 pub record RayOf : Type 0 where
   pub sweep : MoveOf
-  pub grid : Grid
+  pub grid : GridSize
   pub ray : Ray
 
 -- it is a ray of the grid, and its points are so few that each index fits 32 bits

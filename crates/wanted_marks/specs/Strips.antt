@@ -3,7 +3,7 @@ use Rattle.std.specs.Prelude.{ℕ, ◌^◌, ◌<◌, Option, List, ℤ, pos}
 use Rattle.std.specs.Option.{IfSome}
 use Rattle.space.specs.Ranges.{IsWithin}
 use Rattle.bern_form.specs.Sizes.{offset_limit}
-use Rattle.ray_grid.specs.declared.grid.Grid.{Grid}
+use Rattle.ray_grid.specs.Grids.{GridSize}
 use Rattle.ray_grid.specs.declared.ray.Family.{Family}
 use Rattle.ray_grid.specs.Families.{first_axis}
 use Rattle.ray_grid.specs.Lattice.{nodes_of, point_at}
@@ -15,7 +15,7 @@ use Rattle.wanted_marks.specs.Ways.{scaled_way}
 -- the rays of a family with the node i, and a move of a cutter
 pub record StripOf : Type 0 where
   pub sweep : MoveOf
-  pub grid : Grid
+  pub grid : GridSize
   pub family : Family
   pub i : ℕ
 
