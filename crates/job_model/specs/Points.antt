@@ -1,0 +1,57 @@
+-- What is so of a point of the lattice, by a list of moves.
+use Rattle.std.specs.Prelude.{ℕ, ◌^◌, Bool, ◌&&◌, not, if◌then◌else◌, List, take, drop, count_by}
+use Rattle.std.specs.List.{flat_map, list_any}
+use Rattle.cutter_marks.specs.MarkBy.{is_possible_by, is_sure_by}
+use Rattle.ray_grid.specs.Points.{LatticePoint, lattice_of}
+use Rattle.ray_shapes.specs.Sets.{in_solid}
+use Rattle.edit_plan.specs.Edits.{left_at}
+use Rattle.job_facts.specs.declared.totals.PointState.{PointState}
+use Rattle.job_facts.specs.declared.totals.PointState.TheVariants.{Absent, Kept, Possible, Removed}
+use Rattle.job_facts.specs.declared.totals.Totals.{Totals}
+use Rattle.job_model.specs.Tasks.{JobMove, Task}
+
+-- the moves with these numbers, from 0
+abbrev pub moves_of : Task → List ℕ → List JobMove
+moves_of task numbers = flat_map (λ number. take 1 (drop number task.moves)) numbers
+
+-- the moves that are left at a version
+abbrev pub left_moves : Task → ℕ → List JobMove
+left_moves task version = moves_of task (left_at task.edits version)
+
+-- the move is sure of the point, or possible at it
+abbrev pub is_sure : Task → JobMove → LatticePoint → Bool
+is_sure task move point = is_sure_by move.cutter task.slabs move.motion point.position (2 ^ task.depth)
+
+abbrev pub is_possible : Task → JobMove → LatticePoint → Bool
+is_possible task move point = is_possible_by move.cutter task.slabs move.motion point.position (2 ^ task.depth)
+
+-- some of the moves is
+abbrev pub some_sure : Task → List JobMove → LatticePoint → Bool
+some_sure task moves point = list_any (λ move. is_sure task move point) moves
+
+abbrev pub some_possible : Task → List JobMove → LatticePoint → Bool
+some_possible task moves point = list_any (λ move. is_possible task move point) moves
+
+-- the point is stock, part or fixture
+abbrev pub is_stock : Task → LatticePoint → Bool
+is_stock task point = in_solid task.stock point.position
+
+abbrev pub is_part : Task → LatticePoint → Bool
+is_part task point = in_solid task.part point.position
+
+abbrev pub is_fixture : Task → LatticePoint → Bool
+is_fixture task point = in_solid task.fixture point.position
+
+-- the state of the point after these moves
+abbrev pub state_after : Task → List JobMove → LatticePoint → PointState
+state_after task moves point =
+    if not (is_stock task point) then Absent
+    else (if some_sure task moves point then Removed else (if some_possible task moves point then Possible else Kept))
+
+-- how many stock points these moves remove, how many they may meet, and how many there are
+abbrev pub totals_after : Task → List JobMove → Totals
+totals_after task moves = record {
+  removed = count_by (λ point. is_stock task point && some_sure task moves point) (lattice_of task.grid);
+  possible = count_by (λ point. is_stock task point && some_possible task moves point) (lattice_of task.grid);
+  of = count_by (is_stock task) (lattice_of task.grid);
+}
