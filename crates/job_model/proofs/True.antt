@@ -15,7 +15,7 @@ use Rattle.dexel_rays.specs.Findings.{is_fixture_possible, is_part_possible, is_
 use Rattle.job_facts.specs.declared.totals.PointState.TheVariants.{Absent, Kept, Possible, Removed}
 use Rattle.job_model.specs.Findings.{found_by, seen}
 use Rattle.job_model.specs.Points.{is_fixture, is_part, is_possible, is_stock, is_sure, left_moves, moves_of, some_possible, some_sure}
-use Rattle.job_model.specs.Tasks.{IsJobMove, IsTask, JobMove, Task}
+use Rattle.job_model.specs.Tasks.{IsJobMove, IsPlan, JobMove, PlanOf, Task}
 use Rattle.job_model.specs.Truth.{IsTrueOfPoints, IsTrueOfSafety, LowerMeets, UpperMeets}
 
 -- a test of some item of a list
@@ -55,11 +55,11 @@ none_counted p (x ∷ xs) (suc i) d h l = none_counted p xs i d (rest (p x) (cou
   rest false n h = omega (arith, h)
 
 -- every move that is left is a move of the program
-moves_valid : (task : Task) (numbers : List ℕ) → All IsJobMove task.moves → All IsJobMove (moves_of task numbers)
-moves_valid task [] valid = λ i d l. absurd (omega (arith, l))
-moves_valid task (number ∷ numbers) valid =
-    All-append IsJobMove (take 1 (drop number task.moves)) (moves_of task numbers)
-    (All-take IsJobMove 1 (drop number task.moves) (All-drop IsJobMove number task.moves valid)) (moves_valid task numbers valid)
+moves_valid : (plan : PlanOf) (numbers : List ℕ) → All IsJobMove plan.moves → All IsJobMove (moves_of plan numbers)
+moves_valid plan [] valid = λ i d l. absurd (omega (arith, l))
+moves_valid plan (number ∷ numbers) valid =
+    All-append IsJobMove (take 1 (drop number plan.moves)) (moves_of plan numbers)
+    (All-take IsJobMove 1 (drop number plan.moves) (All-drop IsJobMove number plan.moves valid)) (moves_valid plan numbers valid)
 
 of_all : {X : Type 0} (P : X → Type 0) (xs : List X) (x : X) → All P xs → Contains xs x → P x
 of_all P xs x all among = subst P among.2 (all among.0 x among.1)
@@ -68,15 +68,15 @@ some_cells : (depth : ℕ) → 0 < 2 ^ depth
 some_cells depth = let least : 2 ^ 0 ≤ 2 ^ depth = pow_mono {i = 0} {j = depth} (omega arith) in least
 
 -- what a move is sure of its lower cutter meets; where it is not possible its upper cutter meets nothing
-sure_met : (task : Task) (move : JobMove) (point : LatticePoint) → 0 < task.slabs → IsJobMove move → is_sure task move point ≡ true → LowerMeets move point
-sure_met task move point some valid sure =
-    removed_is_met move.cutter task.slabs move.motion point.position (2 ^ task.depth) valid.cutter some (some_cells task.depth)
-    ((decides_sure move.cutter task.slabs move.motion point.position (2 ^ task.depth)).0 sure)
+sure_met : (plan : PlanOf) (move : JobMove) (point : LatticePoint) → 0 < plan.slabs → IsJobMove move → is_sure plan move point ≡ true → LowerMeets move point
+sure_met plan move point some valid sure =
+    removed_is_met move.cutter plan.slabs move.motion point.position (2 ^ plan.depth) valid.cutter some (some_cells plan.depth)
+    ((decides_sure move.cutter plan.slabs move.motion point.position (2 ^ plan.depth)).0 sure)
 
-out_not_met : (task : Task) (move : JobMove) (point : LatticePoint) → 0 < task.slabs → IsJobMove move → is_possible task move point ≡ false → ¬ UpperMeets move point
-out_not_met task move point some valid out =
-    clear_is_not_met move.cutter task.slabs move.motion point.position (2 ^ task.depth) valid.cutter some (some_cells task.depth) valid.sweep
-    ((clear_is move.cutter task.slabs move.motion point.position (2 ^ task.depth) valid.cutter some (some_cells task.depth) valid.sweep).0 out)
+out_not_met : (plan : PlanOf) (move : JobMove) (point : LatticePoint) → 0 < plan.slabs → IsJobMove move → is_possible plan move point ≡ false → ¬ UpperMeets move point
+out_not_met plan move point some valid out =
+    clear_is_not_met move.cutter plan.slabs move.motion point.position (2 ^ plan.depth) valid.cutter some (some_cells plan.depth) valid.sweep
+    ((clear_is move.cutter plan.slabs move.motion point.position (2 ^ plan.depth) valid.cutter some (some_cells plan.depth) valid.sweep).0 out)
 
 is_removed_by : (stock sure possible : Bool) → (if not stock then Absent else (if sure then Removed else (if possible then Possible else Kept))) ≡ Removed → sure ≡ true
 is_removed_by true true possible h = refl
@@ -84,16 +84,16 @@ is_removed_by true false true h = cc
 is_removed_by true false false h = cc
 is_removed_by false sure possible h = cc
 
-pub true_of_points : (task : Task) → IsTask task → IsTrueOfPoints task
+pub true_of_points : (task : Task) → IsPlan task.plan → IsTrueOfPoints task
 true_of_points task valid = record {
   removed = λ version point state.
-      let left = left_moves task version in
-      let found = some_of (λ move. is_sure task move point) left (is_removed_by (is_stock task point) (some_sure task left point) (some_possible task left point) state) in
-      record { move = found.0; among = found.1; met = sure_met task found.0 point valid.some (of_all IsJobMove left found.0 (moves_valid task (left_at task.edits version) valid.moves) found.1) found.2 };
+      let left = left_moves task.plan version in
+      let found = some_of (λ move. is_sure task.plan move point) left (is_removed_by (is_stock task point) (some_sure task.plan left point) (some_possible task.plan left point) state) in
+      record { move = found.0; among = found.1; met = sure_met task.plan found.0 point valid.some (of_all IsJobMove left found.0 (moves_valid task.plan (left_at task.plan.edits version) valid.moves) found.1) found.2 };
   not_possible = λ version point move none among.
-      let left = left_moves task version in
-      out_not_met task move point valid.some (of_all IsJobMove left move (moves_valid task (left_at task.edits version) valid.moves) among)
-      (subst (λ (m : JobMove). is_possible task m point ≡ false) among.2 (none_of (λ m. is_possible task m point) left among.0 move none among.1));
+      let left = left_moves task.plan version in
+      out_not_met task.plan move point valid.some (of_all IsJobMove left move (moves_valid task.plan (left_at task.plan.edits version) valid.moves) among)
+      (subst (λ (m : JobMove). is_possible task.plan m point ≡ false) among.2 (none_of (λ m. is_possible task.plan m point) left among.0 move none among.1));
 }
 
 -- where a rule counts no point, it names none
@@ -125,20 +125,20 @@ listed : (grid : GridSize) (point : LatticePoint) → IsPointOf grid point → C
 listed grid point of =
     subst (λ (p : List ℤ). Contains (lattice_of grid) record { ray = point.ray; l = point.l; position = p }) (sym of.position) (listed_point grid point.ray point.l of.ray of.index)
 
-pub true_of_safety : (task : Task) → IsTask task → IsTrueOfSafety task
+pub true_of_safety : (task : Task) → IsPlan task.plan → IsTrueOfSafety task
 true_of_safety task valid = record {
   solids = λ ahead number move point among safe of inside.
       let counts = (found_by task ahead number move).counts in
       let none = all_zero counts.part_possible counts.fix_possible counts.rapid_possible safe in
-      let see = seen task ahead move in let points = lattice_of task.grid in let here = listed task.grid point of in
-      out_not_met task move point valid.some (of_all IsJobMove task.moves move valid.moves among)
-      (in_either (is_part task point) (is_fixture task point) (is_possible task move point) inside
+      let see = seen task ahead move in let points = lattice_of task.plan.grid in let here = listed task.plan.grid point of in
+      out_not_met task.plan move point valid.some (of_all IsJobMove task.plan.moves move valid.moves among)
+      (in_either (is_part task point) (is_fixture task point) (is_possible task.plan move point) inside
       (unnamed (λ p. is_part_possible (see p)) points point none.0 here) (unnamed (λ p. is_fixture_possible (see p)) points point none.1 here));
   stock = λ ahead number move point among safe rapid of stock before.
       let counts = (found_by task ahead number move).counts in
       let none = all_zero counts.part_possible counts.fix_possible counts.rapid_possible safe in
-      let see = seen task ahead move in let points = lattice_of task.grid in let here = listed task.grid point of in
-      out_not_met task move point valid.some (of_all IsJobMove task.moves move valid.moves among)
-      (rapid_out move.rapid (is_stock task point) (is_possible task move point) (some_sure task ahead point) rapid stock before
+      let see = seen task ahead move in let points = lattice_of task.plan.grid in let here = listed task.plan.grid point of in
+      out_not_met task.plan move point valid.some (of_all IsJobMove task.plan.moves move valid.moves among)
+      (rapid_out move.rapid (is_stock task point) (is_possible task.plan move point) (some_sure task.plan ahead point) rapid stock before
       (unnamed (λ p. is_rapid_possible (see p)) points point none.2 here));
 }

@@ -12,10 +12,10 @@ seen task ahead move point = record {
   stock = is_stock task point;
   part = is_part task point;
   fixture = is_fixture task point;
-  sure_before = some_sure task ahead point;
-  possible_before = some_possible task ahead point;
-  sure = is_sure task move point;
-  possible = is_possible task move point;
+  sure_before = some_sure task.plan ahead point;
+  possible_before = some_possible task.plan ahead point;
+  sure = is_sure task.plan move point;
+  possible = is_possible task.plan move point;
   rapid = move.rapid;
 }
 
@@ -25,11 +25,11 @@ found_by task ahead number move = record {
   number = number + 1;
   line = move.line;
   rapid = move.rapid;
-  counts = findings (seen task ahead move) (lattice_of task.grid);
+  counts = findings (seen task ahead move) (lattice_of task.plan.grid);
 }
 
 -- what each of the moves with these numbers finds, in turn, the first behind those ahead
 abbrev pub found_from : Task → List ℕ → List ℕ → List Found
 found_from task ahead [] = []
 found_from task ahead (number ∷ numbers) =
-    map (found_by task (moves_of task ahead) number) (take 1 (drop number task.moves)) ++ found_from task (ahead ++ number ∷ []) numbers
+    map (found_by task (moves_of task.plan ahead) number) (take 1 (drop number task.plan.moves)) ++ found_from task (ahead ++ number ∷ []) numbers

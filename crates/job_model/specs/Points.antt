@@ -8,29 +8,29 @@ use Rattle.edit_plan.specs.Edits.{left_at}
 use Rattle.job_facts.specs.declared.totals.PointState.{PointState}
 use Rattle.job_facts.specs.declared.totals.PointState.TheVariants.{Absent, Kept, Possible, Removed}
 use Rattle.job_facts.specs.declared.totals.Totals.{Totals}
-use Rattle.job_model.specs.Tasks.{JobMove, Task}
+use Rattle.job_model.specs.Tasks.{JobMove, PlanOf, Task}
 
 -- the moves with these numbers, from 0
-abbrev pub moves_of : Task → List ℕ → List JobMove
-moves_of task numbers = flat_map (λ number. take 1 (drop number task.moves)) numbers
+abbrev pub moves_of : PlanOf → List ℕ → List JobMove
+moves_of plan numbers = flat_map (λ number. take 1 (drop number plan.moves)) numbers
 
 -- the moves that are left at a version
-abbrev pub left_moves : Task → ℕ → List JobMove
-left_moves task version = moves_of task (left_at task.edits version)
+abbrev pub left_moves : PlanOf → ℕ → List JobMove
+left_moves plan version = moves_of plan (left_at plan.edits version)
 
 -- the move is sure of the point, or possible at it
-abbrev pub is_sure : Task → JobMove → LatticePoint → Bool
-is_sure task move point = is_sure_by move.cutter task.slabs move.motion point.position (2 ^ task.depth)
+abbrev pub is_sure : PlanOf → JobMove → LatticePoint → Bool
+is_sure plan move point = is_sure_by move.cutter plan.slabs move.motion point.position (2 ^ plan.depth)
 
-abbrev pub is_possible : Task → JobMove → LatticePoint → Bool
-is_possible task move point = is_possible_by move.cutter task.slabs move.motion point.position (2 ^ task.depth)
+abbrev pub is_possible : PlanOf → JobMove → LatticePoint → Bool
+is_possible plan move point = is_possible_by move.cutter plan.slabs move.motion point.position (2 ^ plan.depth)
 
 -- some of the moves is
-abbrev pub some_sure : Task → List JobMove → LatticePoint → Bool
-some_sure task moves point = list_any (λ move. is_sure task move point) moves
+abbrev pub some_sure : PlanOf → List JobMove → LatticePoint → Bool
+some_sure plan moves point = list_any (λ move. is_sure plan move point) moves
 
-abbrev pub some_possible : Task → List JobMove → LatticePoint → Bool
-some_possible task moves point = list_any (λ move. is_possible task move point) moves
+abbrev pub some_possible : PlanOf → List JobMove → LatticePoint → Bool
+some_possible plan moves point = list_any (λ move. is_possible plan move point) moves
 
 -- the point is stock, part or fixture
 abbrev pub is_stock : Task → LatticePoint → Bool
@@ -46,12 +46,12 @@ is_fixture task point = in_solid task.fixture point.position
 abbrev pub state_after : Task → List JobMove → LatticePoint → PointState
 state_after task moves point =
     if not (is_stock task point) then Absent
-    else (if some_sure task moves point then Removed else (if some_possible task moves point then Possible else Kept))
+    else (if some_sure task.plan moves point then Removed else (if some_possible task.plan moves point then Possible else Kept))
 
 -- how many stock points these moves remove, how many they may meet, and how many there are
 abbrev pub totals_after : Task → List JobMove → Totals
 totals_after task moves = record {
-  removed = count_by (λ point. is_stock task point && some_sure task moves point) (lattice_of task.grid);
-  possible = count_by (λ point. is_stock task point && some_possible task moves point) (lattice_of task.grid);
-  of = count_by (is_stock task) (lattice_of task.grid);
+  removed = count_by (λ point. is_stock task point && some_sure task.plan moves point) (lattice_of task.plan.grid);
+  possible = count_by (λ point. is_stock task point && some_possible task.plan moves point) (lattice_of task.plan.grid);
+  of = count_by (is_stock task) (lattice_of task.plan.grid);
 }

@@ -16,7 +16,7 @@ use Rattle.job_model.specs.Tasks.{JobMove, Task}
 
 -- the point of a ray with an index
 abbrev pub lattice_point : Task → Ray → ℕ → LatticePoint
-lattice_point task ray l = record { ray = ray; l = l; position = point_of task.grid ray l }
+lattice_point task ray l = record { ray = ray; l = l; position = point_of task.plan.grid ray l }
 
 -- the answer to a question after these moves: the state of its point, or the totals
 abbrev pub answer_after : Task → List JobMove → Ask → Answer
@@ -25,14 +25,14 @@ answer_after task moves asks.Count = answers.Count (totals_after task moves)
 
 -- a query's question, with the answer at its own version
 abbrev pub answered : Task → Query → Ask × Answer
-answered task query = (query.ask, answer_after task (left_moves task query.version) query.ask)
+answered task query = (query.ask, answer_after task (left_moves task.plan query.version) query.ask)
 
 -- what the report says: of the moves that are left in the end, of the queries, and in all
 abbrev pub facts_of : Task → JobFacts
 facts_of task = record {
-  moves = length task.moves;
+  moves = length task.plan.moves;
   passed = task.passed;
-  left = found_from task [] (left_of task.edits);
+  left = found_from task [] (left_of task.plan.edits);
   answers = map (answered task) task.queries;
-  totals = totals_after task (left_moves task (length task.edits));
+  totals = totals_after task (left_moves task.plan (length task.plan.edits));
 }

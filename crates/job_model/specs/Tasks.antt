@@ -15,19 +15,22 @@ pub record JobMove : Type 0 where
   pub rapid : Bool
   pub line : ℕ
 
--- What is verified: the lattice; the stock, the part (lowered by its tolerance) and the fixtures (raised by their clearance) as
--- solids; how finely the cutter and the time are cut; the moves of the program, and how many of its records were passed over; the
--- edits, and the queries.
-pub record Task : Type 0 where
+-- What is cut: the lattice, how finely the cutter and the time are cut, the moves of the program, and the edits.
+pub record PlanOf : Type 0 where
   pub grid : GridSize
-  pub stock : Solid
-  pub part : Solid
-  pub fixture : Solid
   pub slabs : ℕ
   pub depth : ℕ
   pub moves : List JobMove
-  pub passed : ℕ
   pub edits : List Edit
+
+-- What is verified: what is cut; the stock, the part (lowered by its tolerance) and the fixtures (raised by their clearance) as
+-- solids; how many records of the program were passed over; and the queries.
+pub record Task : Type 0 where
+  pub plan : PlanOf
+  pub stock : Solid
+  pub part : Solid
+  pub fixture : Solid
+  pub passed : ℕ
   pub queries : List Query
 
 -- a move is valid
@@ -36,6 +39,6 @@ pub record IsJobMove (move : JobMove) : Type 0 where
   pub cutter : IsCutter move.cutter
 
 -- the cutter is cut into some slabs, and every move is valid
-pub record IsTask (task : Task) : Type 0 where
-  pub some : 0 < task.slabs
-  pub moves : All IsJobMove task.moves
+pub record IsPlan (plan : PlanOf) : Type 0 where
+  pub some : 0 < plan.slabs
+  pub moves : All IsJobMove plan.moves

@@ -27,17 +27,17 @@ pub record SomeMeets (moves : List JobMove) (point : LatticePoint) : Type 0 wher
 -- At each version a point that is removed lies in the lower cutter at some rational time of a move that is left; a point of the
 -- lattice, stock or not, at which none of them is possible lies in the upper cutter of none at any rational time.
 pub record IsTrueOfPoints (task : Task) : Type 0 where
-  pub removed : (version : ℕ) (point : LatticePoint) → state_after task (left_moves task version) point ≡ Removed
-      → SomeMeets (left_moves task version) point
-  pub not_possible : (version : ℕ) (point : LatticePoint) (move : JobMove) → some_possible task (left_moves task version) point ≡ false
-      → Contains (left_moves task version) move → ¬ UpperMeets move point
+  pub removed : (version : ℕ) (point : LatticePoint) → state_after task (left_moves task.plan version) point ≡ Removed
+      → SomeMeets (left_moves task.plan version) point
+  pub not_possible : (version : ℕ) (point : LatticePoint) (move : JobMove) → some_possible task.plan (left_moves task.plan version) point ≡ false
+      → Contains (left_moves task.plan version) move → ¬ UpperMeets move point
 
 -- A move that is found safe behind others meets no point of the part or of a fixture with its upper cutter, and in rapid motion no
 -- stock of which none of the moves ahead is sure.
 pub record IsTrueOfSafety (task : Task) : Type 0 where
-  pub solids : (ahead : List JobMove) (number : ℕ) (move : JobMove) (point : LatticePoint) → Contains task.moves move
-      → is_safe (found_by task ahead number move).counts ≡ true → IsPointOf task.grid point
+  pub solids : (ahead : List JobMove) (number : ℕ) (move : JobMove) (point : LatticePoint) → Contains task.plan.moves move
+      → is_safe (found_by task ahead number move).counts ≡ true → IsPointOf task.plan.grid point
       → (is_part task point || is_fixture task point) ≡ true → ¬ UpperMeets move point
-  pub stock : (ahead : List JobMove) (number : ℕ) (move : JobMove) (point : LatticePoint) → Contains task.moves move
-      → is_safe (found_by task ahead number move).counts ≡ true → move.rapid ≡ true → IsPointOf task.grid point
-      → is_stock task point ≡ true → some_sure task ahead point ≡ false → ¬ UpperMeets move point
+  pub stock : (ahead : List JobMove) (number : ℕ) (move : JobMove) (point : LatticePoint) → Contains task.plan.moves move
+      → is_safe (found_by task ahead number move).counts ≡ true → move.rapid ≡ true → IsPointOf task.plan.grid point
+      → is_stock task point ≡ true → some_sure task.plan ahead point ≡ false → ¬ UpperMeets move point
