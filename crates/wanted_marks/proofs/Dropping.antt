@@ -13,7 +13,8 @@ use Rattle.bern_form.proofs.Finer.{AllOut, left_on_none}
 use Rattle.bern_form.proofs.Relations.{AllPositive}
 use Rattle.cutter_slabs.specs.Stacks.{outer_stack, reach_of}
 use Rattle.cutter_marks.specs.MarkBy.{is_possible_by, is_sure_by}
-use Rattle.wanted_marks.specs.Limits.{AreLimits, IsWithinLimits, raised_square}
+use Rattle.axis_cells.specs.Exclusion.{squared}
+use Rattle.wanted_marks.specs.Limits.{AreLimits, IsWithinLimits}
 use Rattle.wanted_marks.specs.Rays.{IsClearOf, MoveOf}
 use Rattle.wanted_marks.specs.Widths.{width_of}
 use Rattle.wanted_marks.proofs.Exceeding.{all_over}
@@ -41,7 +42,7 @@ all_beside : (v : MoveOf) (limits p : List ℤ) → AreLimits limits v → all_p
 all_beside v limits p are beyond =
     let S = 2 ^ v.depth in let n = n_between v.motion 0 S S in let W = width_of v.motion p S in
     let over = (decides_positive (difference4 W limits)).0 beyond in record {
-      each = λ s among. inr (inr (inr (over_less W limits (raised_square S s.dia n) over (All-contains (IsWithinLimits limits n S) (outer_stack v.cutter v.slabs) s are among).at_most)));
+      each = λ s among. inr (inr (inr (over_less W limits (squared (pos S) s.dia n) over (All-contains (IsWithinLimits limits n S) (outer_stack v.cutter v.slabs) s are among).at_most)));
     }
 
 not_possible : (v : MoveOf) (limits p : List ℤ) → AreLimits limits v → all_positive (difference4 (width_of v.motion p (2 ^ v.depth)) limits) ≡ true

@@ -1,4 +1,3 @@
-pub mod Bits
 pub mod Told
 pub mod Rays
 pub mod Ways
@@ -6,7 +5,6 @@ pub mod Widths
 pub mod Lines
 pub mod Sheets
 pub mod Limits
-pub mod Samples
 pub mod Ready
 pub mod ReadyRay
 pub mod Strips

@@ -1,14 +1,13 @@
 //! The marks of a ray's wanted points, a word of 64 at a time.
 #![tactic(auto)]
 
-mod bits;
 mod limits;
 mod line;
 mod move_marker;
 mod ray_marker;
 mod sample;
-mod scalar;
 mod scaled;
+mod sets;
 mod sheet;
 mod strip_marker;
 mod turn;
@@ -16,5 +15,6 @@ mod word;
 
 pub use move_marker::MoveMarker;
 pub use ray_marker::RayMarker;
+pub use sets::mark_wanted;
 pub use strip_marker::StripMarker;
 pub use word::WordMarks;
