@@ -14,7 +14,7 @@ use Rattle.edit_plan.specs.Edits.{left_at}
 use Rattle.dexel_rays.specs.Findings.{is_fixture_possible, is_part_possible, is_rapid_possible}
 use Rattle.job_facts.specs.declared.totals.PointState.TheVariants.{Absent, Kept, Possible, Removed}
 use Rattle.job_model.specs.Findings.{found_by, seen}
-use Rattle.job_model.specs.Points.{is_fixture, is_part, is_possible, is_stock, is_sure, left_moves, moves_of, some_possible, some_sure}
+use Rattle.job_model.specs.Points.{is_fixture, is_part, may_meet, is_stock, is_sure, left_moves, moves_of, some_possible, some_sure}
 use Rattle.job_model.specs.Tasks.{IsJobMove, IsPlan, JobMove, PlanOf, Task}
 use Rattle.job_model.specs.Truth.{IsTrueOfPoints, IsTrueOfSafety, LowerMeets, UpperMeets}
 
@@ -73,7 +73,7 @@ sure_met plan move point some valid sure =
     removed_is_met move.cutter plan.slabs move.motion point.position (2 ^ plan.depth) valid.cutter some (some_cells plan.depth)
     ((decides_sure move.cutter plan.slabs move.motion point.position (2 ^ plan.depth)).0 sure)
 
-out_not_met : (plan : PlanOf) (move : JobMove) (point : LatticePoint) → 0 < plan.slabs → IsJobMove move → is_possible plan move point ≡ false → ¬ UpperMeets move point
+out_not_met : (plan : PlanOf) (move : JobMove) (point : LatticePoint) → 0 < plan.slabs → IsJobMove move → may_meet plan move point ≡ false → ¬ UpperMeets move point
 out_not_met plan move point some valid out =
     clear_is_not_met move.cutter plan.slabs move.motion point.position (2 ^ plan.depth) valid.cutter some (some_cells plan.depth) valid.sweep
     ((clear_is move.cutter plan.slabs move.motion point.position (2 ^ plan.depth) valid.cutter some (some_cells plan.depth) valid.sweep).0 out)
@@ -93,7 +93,7 @@ true_of_points task valid = record {
   not_possible = λ version point move none among.
       let left = left_moves task.plan version in
       out_not_met task.plan move point valid.some (of_all IsJobMove left move (moves_valid task.plan (left_at task.plan.edits version) valid.moves) among)
-      (subst (λ (m : JobMove). is_possible task.plan m point ≡ false) among.2 (none_of (λ m. is_possible task.plan m point) left among.0 move none among.1));
+      (subst (λ (m : JobMove). may_meet task.plan m point ≡ false) among.2 (none_of (λ m. may_meet task.plan m point) left among.0 move none among.1));
 }
 
 -- where a rule counts no point, it names none
@@ -132,13 +132,13 @@ true_of_safety task valid = record {
       let none = all_zero counts.part_possible counts.fix_possible counts.rapid_possible safe in
       let see = seen task ahead move in let points = lattice_of task.plan.grid in let here = listed task.plan.grid point of in
       out_not_met task.plan move point valid.some (of_all IsJobMove task.plan.moves move valid.moves among)
-      (in_either (is_part task point) (is_fixture task point) (is_possible task.plan move point) inside
+      (in_either (is_part task point) (is_fixture task point) (may_meet task.plan move point) inside
       (unnamed (λ p. is_part_possible (see p)) points point none.0 here) (unnamed (λ p. is_fixture_possible (see p)) points point none.1 here));
   stock = λ ahead number move point among safe rapid of stock before.
       let counts = (found_by task ahead number move).counts in
       let none = all_zero counts.part_possible counts.fix_possible counts.rapid_possible safe in
       let see = seen task ahead move in let points = lattice_of task.plan.grid in let here = listed task.plan.grid point of in
       out_not_met task.plan move point valid.some (of_all IsJobMove task.plan.moves move valid.moves among)
-      (rapid_out move.rapid (is_stock task point) (is_possible task.plan move point) (some_sure task.plan ahead point) rapid stock before
+      (rapid_out move.rapid (is_stock task point) (may_meet task.plan move point) (some_sure task.plan ahead point) rapid stock before
       (unnamed (λ p. is_rapid_possible (see p)) points point none.2 here));
 }

@@ -3,7 +3,7 @@ use Rattle.std.specs.Prelude.{ℕ, ◌+◌, List, [], ◌∷◌, ◌++◌, take,
 use Rattle.ray_grid.specs.Points.{LatticePoint, lattice_of}
 use Rattle.dexel_rays.specs.Findings.{Seen, findings}
 use Rattle.job_facts.specs.declared.facts.Found.{Found}
-use Rattle.job_model.specs.Points.{is_fixture, is_part, is_possible, is_stock, is_sure, moves_of, some_possible, some_sure}
+use Rattle.job_model.specs.Points.{is_fixture, is_part, may_meet, is_stock, is_sure, moves_of, some_possible, some_sure}
 use Rattle.job_model.specs.Tasks.{JobMove, Task}
 
 -- what is known of a point at a move, by the moves ahead of it
@@ -15,7 +15,7 @@ seen task ahead move point = record {
   sure_before = some_sure task.plan ahead point;
   possible_before = some_possible task.plan ahead point;
   sure = is_sure task.plan move point;
-  possible = is_possible task.plan move point;
+  possible = may_meet task.plan move point;
   rapid = move.rapid;
 }
 

@@ -22,15 +22,15 @@ left_moves plan version = moves_of plan (left_at plan.edits version)
 abbrev pub is_sure : PlanOf → JobMove → LatticePoint → Bool
 is_sure plan move point = is_sure_by move.cutter plan.slabs move.motion point.position (2 ^ plan.depth)
 
-abbrev pub is_possible : PlanOf → JobMove → LatticePoint → Bool
-is_possible plan move point = is_possible_by move.cutter plan.slabs move.motion point.position (2 ^ plan.depth)
+abbrev pub may_meet : PlanOf → JobMove → LatticePoint → Bool
+may_meet plan move point = is_possible_by move.cutter plan.slabs move.motion point.position (2 ^ plan.depth)
 
 -- some of the moves is
 abbrev pub some_sure : PlanOf → List JobMove → LatticePoint → Bool
 some_sure plan moves point = list_any (λ move. is_sure plan move point) moves
 
 abbrev pub some_possible : PlanOf → List JobMove → LatticePoint → Bool
-some_possible plan moves point = list_any (λ move. is_possible plan move point) moves
+some_possible plan moves point = list_any (λ move. may_meet plan move point) moves
 
 -- the point is stock, part or fixture
 abbrev pub is_stock : Task → LatticePoint → Bool

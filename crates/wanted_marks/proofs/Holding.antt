@@ -11,10 +11,10 @@ use Rattle.cutter_slabs.specs.Stacks.{inner_stack}
 use Rattle.cutter_marks.specs.MarkBy.{is_possible_by, is_sure_by}
 use Rattle.wanted_marks.specs.Rays.{IsRemovedBy, MoveOf}
 use Rattle.axis_cells.specs.Exclusion.{covered_by_some}
-use Rattle.wanted_marks.specs.Widths.{width_of}
+use Rattle.wanted_marks.specs.Widths.{whole_width}
 
 -- the last coefficients are the values at the last sample
-pub last_width_is : (m : Motion) (p : List ℤ) (S : ℕ) → at (width_of m p S) 4 ≡ pos 4 *ℤ spread (offset_at m p (pos S) (pos S)) (axis_at m (pos S) (pos S))
+pub last_width_is : (m : Motion) (p : List ℤ) (S : ℕ) → at (whole_width m p S) 4 ≡ pos 4 *ℤ spread (offset_at m p (pos S) (pos S)) (axis_at m (pos S) (pos S))
 last_width_is m p S = refl
 
 held_last : (m : Motion) (p : List ℤ) (S : ℕ) (slabs : List SlabSize)
