@@ -2,7 +2,7 @@
 use Rattle.std.proofs.Common.{◌≡◌, Bool, true, false, not, ◌&&◌, ◌||◌, IsTrue, refl, sym, ap, ap₂, ◌∙◌, if◌then◌else◌}
 use Rattle.dexel_rays.specs.Findings.{Seen, met}
 use Rattle.dexel_rays.specs.Asked.{is_wanted, is_sure_only, Agree}
-use Rattle.dexel_rays.proofs.Laws.{point, stock_gone, no_more, and_false}
+use Rattle.dexel_rays.proofs.Laws.{point, stock_gone, no_more}
 
 same_met : (a b c S P s p s' p' r : Bool) → s' ≡ s → p' ≡ p → met (point a b c S P s' p' r) ≡ met (point a b c S P s p r)
 same_met a b c S P s p s' p' r es ep = ap₂ (λ x y. met (point a b c S P x y r)) es ep
@@ -57,3 +57,16 @@ asked_agree p wanted only sure possible iw io is ip = record {
   same_sure = λ w. is ∙ taken wanted p.sure p.sure (iw ∙ w) refl;
   same_possible = λ w o. ip ∙ taken wanted (if only then p.sure else p.possible) p.possible (iw ∙ w) (ap (λ x. if x then p.sure else p.possible) (io ∙ o));
 }
+
+-- what was sure is possible still
+pub stays_possible : (S P s p : Bool) → (IsTrue S → IsTrue P) → (IsTrue s → IsTrue p) → IsTrue (S || (s && not S)) → IsTrue (P || (p && not P))
+stays_possible S true s p i e t = refl
+stays_possible true false s p i e t = let none = i refl in cc
+stays_possible false false true p i e t = let q = e refl in cc
+stays_possible false false false p i e t = cc
+
+-- marks that are asked for tell no point as sure that isn't possible, where all marks don't
+pub asked_possible : (wanted only s p : Bool) → (IsTrue s → IsTrue p) → IsTrue (wanted && s) → IsTrue (wanted && (if only then s else p))
+asked_possible true true s p e t = t
+asked_possible true false s p e t = e t
+asked_possible false only s p e t = cc

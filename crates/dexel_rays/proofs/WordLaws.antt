@@ -1,15 +1,14 @@
 -- The sets of 64 points: taking a delta back, and what a move adds and finds that is asked about no more than what is wanted.
-use Rattle.std.proofs.Common.{◌≡◌, ℕ, ◌^◌, ◌<◌, Bool, true, false, not, ◌&&◌, ◌||◌, IsTrue, refl, sym, ap, ap₂, ◌∙◌, ◌⊎◌, ⊎_elim, if◌then◌else◌}
+use Rattle.std.proofs.Common.{◌≡◌, ℕ, ◌^◌, ◌<◌, Bool, false, not, ◌&&◌, ◌||◌, IsTrue, sym, ap, ap₂, ◌∙◌, ◌⊎◌, ⊎_elim, if◌then◌else◌}
 use Rattle.std.specs.List.{range_with_len}
 use Rattle.vf_spans.specs.Words.{has_bit}
 use Rattle.vf_spans.proofs.WordBits.{same_word}
-use Rattle.job_facts.specs.declared.counts.Counts.{Counts}
 use Rattle.dexel_rays.specs.declared.word_sets.WordDelta.{WordDelta}
 use Rattle.dexel_rays.specs.declared.word_sets.WordSets.{WordSets}
 use Rattle.dexel_rays.specs.Findings.{Seen, met, findings, is_removed, is_new_possible, is_part_sure, is_part_possible, is_fixture_sure, is_fixture_possible, is_rapid_sure, is_rapid_possible, is_outside}
 use Rattle.dexel_rays.specs.Asked.{is_sure_only, is_wanted, Agree}
 use Rattle.dexel_rays.specs.WordSets.{seen_by, seen_bit, IsWordDelta, IsWordWith, IsWordWithout, SureIsPossible}
-use Rattle.dexel_rays.proofs.Asked.{agree_met, agree_new_sure, agree_new_possible, asked_agree, new_is_all}
+use Rattle.dexel_rays.proofs.Asked.{agree_met, agree_new_sure, agree_new_possible, asked_agree, new_is_all, stays_possible}
 use Rattle.dexel_rays.proofs.Laws.{back_again, outside_meets_none}
 use Rattle.dexel_rays.proofs.WordOnes.{below_same}
 
@@ -93,3 +92,12 @@ pub asked_word : (w : WordSets) (wanted only sure possible : ℕ) (s p : ℕ →
     → Agree (seen_by w s p rapid b) (has_bit sure b) (has_bit possible b)
 asked_word w wanted only sure possible s p rapid b iw io is ip =
     asked_agree (seen_by w s p rapid b) (has_bit wanted b) (has_bit only b) (has_bit sure b) (has_bit possible b) iw io is ip
+
+-- the sets hold no point as sure that isn't possible, where they didn't ahead of a move and its marks don't
+pub still_possible : (w after : WordSets) (delta : WordDelta) (sure possible : ℕ) → SureIsPossible w → ((b : ℕ) → b < 64 → IsTrue (has_bit sure b) → IsTrue (has_bit possible b))
+    → IsWordDelta w sure possible delta → IsWordWith w delta after → SureIsPossible after
+still_possible w after delta sure possible i e d u =
+    λ b lt t. u.all_possible b lt
+    ∙ ap (λ x. has_bit w.possible b || x) (d.new_possible b lt)
+    ∙ stays_possible (has_bit w.sure b) (has_bit w.possible b) (has_bit sure b) (has_bit possible b) (i b lt) (e b lt)
+    (sym (u.all_sure b lt ∙ ap (λ x. has_bit w.sure b || x) (d.new_sure b lt)) ∙ t)

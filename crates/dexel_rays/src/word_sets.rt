@@ -59,7 +59,10 @@ impl WordSets {
         ensures delta { IsWordDelta self.now sure possible result.0 }
         ensures counts { result.1 ≡ findings (seen_bit self.now sure possible rapid) (range_with_len 0 64) }
     {
-        (self.delta_of(sure, possible), self.counts_of(sure, possible, rapid))
+        (
+            self.delta_of(sure, possible),
+            self.counts_of(sure, possible, rapid),
+        )
     }
 
     /// The sets with what a move added.

@@ -1,8 +1,6 @@
 use Rattle.std.proofs.Common.{◌-◌, ◌^◌, refl, rules}
 use Rattle.std.specs.Prelude.{bit_and}
-use Rattle.std.proofs.lemmas.Nat.{and_le_l}
 use Rattle.dexel_rays.specs.declared.word_sets.WordSets.{WordSets}
-use Rattle.dexel_rays.specs.WordSets.{IsWordWithout}
 use Rattle.dexel_rays.proofs.WordLaws.{word_taken_back}
 use Rattle.dexel_rays.proofs.WordOnes.{minus_bit}
 use Rattle.dexel_rays.proofs.word_sets.WordSets.without.Goals as goal
