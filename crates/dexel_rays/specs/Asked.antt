@@ -6,11 +6,12 @@ use Rattle.dexel_rays.specs.Findings.{Seen}
 abbrev pub is_wanted : Seen → Bool
 is_wanted p = p.part || (p.fixture || not p.sure_before)
 
--- the point is neither part nor fixture, some move ahead was possible there, and this one isn't rapid: only whether it is sure still matters
+-- only whether the move is sure of the point still matters: it is neither part nor fixture, some move ahead was possible there,
+-- and this one isn't rapid
 abbrev pub is_sure_only : Seen → Bool
 is_sure_only p = not (p.part || p.fixture) && (p.possible_before && not p.rapid)
 
--- the marks agree with those of a move where it is asked about them: on whether it is sure, of a wanted point; and on whether it is
+-- marks agree with those of a move where it is asked about them: on whether it is sure, of a wanted point; and on whether it is
 -- possible, of one that is wanted for more than 'sure'
 pub record Agree (p : Seen) (sure possible : Bool) : Type 0 where
   pub same_sure : IsTrue (is_wanted p) → sure ≡ p.sure
