@@ -15,15 +15,15 @@ use Rattle.dexel_rays.specs.Steps.{IsDelta, IsUnited, IsWithout}
 abbrev pub point : Bool → Bool → Bool → Bool → Bool → Bool → Bool → Bool → Seen
 point a b c S P s p rapid = record { stock = a; part = b; fixture = c; sure_before = S; possible_before = P; sure = s; possible = p; rapid = rapid }
 
-no_more : (b : Bool) → (b && not true) ≡ false
+pub no_more : (b : Bool) → (b && not true) ≡ false
 no_more true = refl
 no_more false = refl
 
-and_false : (b : Bool) → (b && false) ≡ false
+pub and_false : (b : Bool) → (b && false) ≡ false
 and_false true = refl
 and_false false = refl
 
-stock_gone : (a b : Bool) → (a && (b && not true)) ≡ false
+pub stock_gone : (a b : Bool) → (a && (b && not true)) ≡ false
 stock_gone a b = ap (λ x. a && x) (no_more b) ∙ and_false a
 
 -- a settled point meets no rule, whatever this move marks there

@@ -1,3 +1,5 @@
 pub mod Findings
+pub mod Asked
 pub mod Sets
 pub mod Steps
+pub mod WordSets

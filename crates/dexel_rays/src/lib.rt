@@ -3,9 +3,12 @@
 
 mod delta;
 mod dexel;
+mod ones;
 #[cfg(test)]
 mod tests;
+mod word_sets;
 
 pub use delta::Delta;
 pub use dexel::Dexel;
-pub use job_facts::Counts;
+pub use job_facts::{Counts, Totals};
+pub use word_sets::{WordDelta, WordSets};
