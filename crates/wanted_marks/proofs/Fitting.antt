@@ -4,9 +4,8 @@ use Rattle.std.specs.List.{All}
 use Rattle.space.specs.Ranges.{IsPoint, IsWithin, axis_unit}
 use Rattle.space.specs.Vectors.{at}
 use Rattle.space.proofs.Naturals.{abs_mul, abs_sub}
-use Rattle.bern_form.specs.Cells.{scaled_square}
 use Rattle.bern_form.specs.Forms.{IsSmall, difference4, product22}
-use Rattle.bern_form.specs.Sizes.{IsBounded2, IsBounded4, axis_limit, length_limit, offset_limit, scale_limit}
+use Rattle.bern_form.specs.Sizes.{IsBounded2, IsBounded4, axis_limit, offset_limit, scale_limit}
 use Rattle.bern_form.proofs.Sizes.{difference4_bounded, product22_bounded, scaled4_bounded}
 use Rattle.axis_cells.proofs.Bounds.{list4}
 use Rattle.wanted_marks.specs.Ways.{scaled_vector, scaled_way}
@@ -26,12 +25,6 @@ axis_part scale a few h = let x = abs_mul (pos scale) a scale 100000 (omega arit
 
 pub vector_small : (scale : ℕ) (a : List ℤ) → scale ≤ scale_limit → IsWithin axis_unit a → IsWithin axis_limit (scaled_vector (pos scale) a)
 vector_small scale a few h = (axis_part scale (at a 0) few h.0, axis_part scale (at a 1) few h.1, axis_part scale (at a 2) few h.2)
-
-length_part : (scale : ℕ) (d : ℤ) → scale ≤ scale_limit → unsigned_abs d ≤ 300000 → unsigned_abs (pos scale *ℤ d) ≤ length_limit
-length_part scale d few h = let x = abs_mul (pos scale) d scale 300000 (omega arith) h in omega (arith, few)
-
-pub square_small : (scale : ℕ) (d : ℤ) → scale ≤ scale_limit → unsigned_abs d ≤ 300000 → unsigned_abs (scaled_square scale d) ≤ length_limit * length_limit
-square_small scale d few h = let x = length_part scale d few h in abs_mul (pos scale *ℤ d) (pos scale *ℤ d) length_limit length_limit x x
 
 -- a multiple of d n - u v
 pub record SpreadFits (by : ℤ) (d n u v : List ℤ) : Type 0 where

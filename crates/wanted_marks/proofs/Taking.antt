@@ -1,7 +1,7 @@
 -- One bit more of a word of marks.
 use Rattle.std.proofs.Common.{◌≡◌, ℕ, ◌+◌, Bool, true, false, not, ◌&&◌, ◌||◌, eqb, if◌then◌else◌, refl, sym, ap, ◌∙◌}
 use Rattle.std.proofs.lemmas.Bool.{eqb-true, and_parts}
-use Rattle.wanted_marks.specs.Bits.{has_bit}
+use Rattle.vf_spans.specs.Words.{has_bit}
 
 -- w: wanted, r: left to do, e: the bit that is done, t: what is true of it
 taken : (w r e t : Bool) → (e ≡ true → w ≡ true) → (((w && not r) && t) || (e && t)) ≡ ((w && not (r && not e)) && t)

@@ -1,4 +1,3 @@
-pub mod Bits
 pub mod Told
 pub mod Rays
 pub mod Ways

@@ -1,5 +1,5 @@
 -- The points of one ray against one move of a cutter.
-use Rattle.std.specs.Prelude.{◌≡◌, ℕ, ◌+◌, ◌^◌, ◌<◌, Bool, true, false, ◌&&◌, if◌then◌else◌, List, ℤ}
+use Rattle.std.specs.Prelude.{◌≡◌, ℕ, ◌+◌, ◌^◌, ◌<◌, Bool, true, false, ◌&&◌, if◌then◌else◌, List, ℤ, length}
 use Rattle.space.specs.Motion.{Motion}
 use Rattle.cutter_slabs.specs.Cutter.{CutterSize}
 use Rattle.cutter_slabs.specs.Stacks.{StacksOf}
@@ -7,7 +7,7 @@ use Rattle.cutter_marks.specs.MarkBy.{is_possible_by, is_sure_by}
 use Rattle.ray_grid.specs.Grids.{GridSize}
 use Rattle.ray_grid.specs.declared.ray.Ray.{Ray}
 use Rattle.ray_grid.specs.Lattice.{IsRay, point_of, points_of}
-use Rattle.wanted_marks.specs.Bits.{has_bit}
+use Rattle.vf_spans.specs.Words.{has_bit}
 
 -- a move of a cutter: the cutter and the number of its slabs, the motion, and the depth, at 2^depth cells
 pub record MoveOf : Type 0 where
@@ -55,6 +55,14 @@ is_sure_at r l = is_sure_in r.sweep (point_of r.grid r.ray l)
 abbrev pub is_possible_at : RayOf → ℕ → Bool
 is_possible_at r l = is_possible_in r.sweep (point_of r.grid r.ray l)
 
+-- it is told as possible: where only the sure ones are asked for, a sure one alone
+abbrev pub is_told_at : RayOf → Bool → ℕ → Bool
+is_told_at r sure_only l = if sure_only then is_sure_at r l else is_possible_at r l
+
+-- the set has a flag for each point of the ray
+abbrev pub IsSetOn : RayOf → List Bool → Type 0
+IsSetOn r set = length set ≡ points_of r.grid r.ray.family
+
 -- each bit of the word, the lowest of which is the index `first`, is a point of the ray
 abbrev pub AreOnRay : RayOf → ℕ → ℕ → Type 0
 AreOnRay r first wanted = (b : ℕ) → b < 64 → has_bit wanted b ≡ true → first + b < points_of r.grid r.ray.family
@@ -66,7 +74,6 @@ is_sure_bit r first wanted b = has_bit wanted b && is_sure_at r (first + b)
 abbrev pub is_possible_bit : RayOf → ℕ → ℕ → ℕ → Bool
 is_possible_bit r first wanted b = has_bit wanted b && is_possible_at r (first + b)
 
--- bit b is told as possible: where only the sure ones are asked for, a sure one alone
+-- bit b is told as possible
 abbrev pub is_told_bit : RayOf → ℕ → ℕ → ℕ → ℕ → Bool
-is_told_bit r first wanted sure_only b =
-    has_bit wanted b && (if has_bit sure_only b then is_sure_at r (first + b) else is_possible_at r (first + b))
+is_told_bit r first wanted sure_only b = has_bit wanted b && is_told_at r (has_bit sure_only b) (first + b)

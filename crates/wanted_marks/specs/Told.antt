@@ -1,7 +1,8 @@
 -- What a mark tells of a point.
-use Rattle.std.specs.Prelude.{Bool, true, false}
+use Rattle.std.specs.Prelude.{ℕ, Bool, true, false, ◌&&◌, ◌||◌, nat_eq}
 use Rattle.axis_cells.specs.declared.mark.Mark.{Mark}
 use Rattle.axis_cells.specs.declared.mark.Mark.TheVariants.{Clear, Possible, Removed}
+use Rattle.vf_spans.specs.Words.{has_bit}
 
 -- the point is sure to be cut
 abbrev pub tells_sure : Mark → Bool
@@ -14,3 +15,7 @@ abbrev pub tells_possible : Mark → Bool
 tells_possible Removed = true
 tells_possible Possible = true
 tells_possible Clear = false
+
+-- bit k of the word, where a fact is told of bit b
+abbrev pub with_told : ℕ → ℕ → Bool → ℕ → Bool
+with_told word b told k = has_bit word k || (nat_eq k b && told)

@@ -1,13 +1,11 @@
 //! The marks of a ray's wanted points, a word of 64 at a time.
 #![tactic(auto)]
 
-mod bits;
 mod limits;
 mod line;
 mod move_marker;
 mod ray_marker;
 mod sample;
-mod scalar;
 mod scaled;
 mod sheet;
 mod strip_marker;

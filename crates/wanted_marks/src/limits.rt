@@ -2,7 +2,7 @@ ghost use Rattle.std.specs.Prelude.{◌≡◌, ◌*◌, ◌≤◌, ◌≤ℤ◌,
 ghost use Rattle.bern_form.specs.Sizes.{IsBounded2, axis_limit, scale_limit};
 ghost use Rattle.wanted_marks.specs.Limits.{IsNoWider, all_not_below_zero, not_below_zero, raised_square};
 
-use crate::scaled::scaled_square;
+use axis_cells::scaled_square;
 use bern_form::{Form2, Slab, lift24, scale2};
 
 /// The diameter of a slab.

@@ -9,10 +9,9 @@ ghost use Rattle.wanted_marks.specs.Ways.{scaled_way};
 ghost use Rattle.wanted_marks.specs.Lines.{FitsAt, IsThrough, coefficient_at, last_height_at, width_at};
 ghost use Rattle.wanted_marks.specs.Widths.{IsTurn, quadratic, spread_form};
 
-use crate::scalar::scalar_form;
 use crate::scaled::scaled_way;
 use crate::turn::Turn;
-use axis_cells::Sweep;
+use axis_cells::{Sweep, scalar_product_on_cell};
 use bern_form::{Form2, Form4, minus4, scale4, times22};
 
 /// A multiple of d n - u v.
@@ -75,11 +74,11 @@ impl Line {
         let from = scaled_way(scale, &sweep.from, start);
         let to = scaled_way(scale, &sweep.to, start);
         let step = scaled_way(scale, start, next);
-        let u = scalar_form(&from, &to, &turn.first, &turn.last);
-        let u_step = scalar_form(&step, &step, &turn.first, &turn.last);
-        let d = scalar_form(&from, &to, &from, &to);
-        let d_step = scalar_form(&from, &to, &step, &step);
-        let step_square = scalar_form(&step, &step, &step, &step);
+        let u = scalar_product_on_cell(&from, &to, &turn.first, &turn.last);
+        let u_step = scalar_product_on_cell(&step, &step, &turn.first, &turn.last);
+        let d = scalar_product_on_cell(&from, &to, &from, &to);
+        let d_step = scalar_product_on_cell(&from, &to, &step, &step);
+        let step_square = scalar_product_on_cell(&step, &step, &step, &step);
         Line {
             constant: spread_form(&d, &turn.n, &u, &u, 4),
             first: spread_form(&d_step, &turn.n, &u, &u_step, 8),

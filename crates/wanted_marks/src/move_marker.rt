@@ -1,6 +1,3 @@
-ghost use Rattle.std.specs.Prelude.{◌≡◌, ◌^◌, ◌≤◌};
-ghost use Rattle.bern_form.specs.Sizes.{scale_limit};
-
 use crate::limits::{greatest_diameter, limits_of};
 use crate::line::Line;
 use crate::ray_marker::RayMarker;
@@ -8,7 +5,7 @@ use crate::sample::is_covered_by_some;
 use crate::sheet::Sheet;
 use crate::strip_marker::StripMarker;
 use crate::turn::Turn;
-use axis_cells::{Mark, Sweep};
+use axis_cells::{Mark, Sweep, cells_of};
 use box_bisect::mark_point_uncounted;
 use cutter_slabs::Stacks;
 use ray_grid::{Family, Grid, Ray};
@@ -24,16 +21,6 @@ pub struct MoveMarker<'a> {
     scale: u32,
     turn: Turn,
     limits: [i128; 5],
-}
-
-/// How many cells a depth has: 2^depth.
-#[inline]
-fn cells_of(depth: u32) -> u32
-    requires { depth ≤ 10 }
-    ensures cells { result ≡ 2 ^ depth }
-    ensures few { result ≤ scale_limit }
-{
-    1 << depth
 }
 
 impl<'a> Model for MoveMarker<'a> {

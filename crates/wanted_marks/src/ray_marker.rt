@@ -1,10 +1,10 @@
-use crate::bits::{chosen_bits, lowest_bit, without_bit};
 use crate::line::Line;
 use crate::move_marker::MoveMarker;
-use crate::word::WordMarks;
+use crate::word::{WordMarks, chosen_bits, without_bit};
 use axis_cells::Mark;
 use ray_grid::{Grid, Ray};
 use std::marker::Model;
+use vf_spans::bits::lowest_bit;
 
 /// A move of a cutter, ready to mark points of one ray.
 #[derive(Drop)]
@@ -30,7 +30,7 @@ impl<'a> RayMarker<'a> {
     ghost use Rattle.std.specs.Prelude.{◌≡◌, ℕ, ◌<◌, IsTrue};
     ghost use Rattle.std.specs.Option.{IfSome};
     ghost use Rattle.ray_grid.specs.Lattice.{IsRay, point_of, points_of};
-    ghost use Rattle.wanted_marks.specs.Bits.{has_bit};
+    ghost use Rattle.vf_spans.specs.Words.{has_bit};
     ghost use Rattle.wanted_marks.specs.Lines.{IsLineOf};
     ghost use Rattle.wanted_marks.specs.Rays.{AreOnRay, IsClearOf, IsRemovedBy};
     ghost use Rattle.wanted_marks.specs.Rays.{is_possible_at, is_possible_bit, is_sure_at, is_sure_bit, is_told_bit};

@@ -4,7 +4,7 @@ ghost use Rattle.bern_form.specs.Sizes.{axis_limit, offset_limit, scale_limit};
 ghost use Rattle.bern_form.specs.Slab.{covers};
 ghost use Rattle.wanted_marks.specs.Samples.{some_covers};
 
-use crate::scaled::scaled_square;
+use axis_cells::scaled_square;
 use bern_form::Slab;
 
 /// n times the square of a length that is taken times the scale.

@@ -1,8 +1,7 @@
 ghost use Rattle.std.specs.Prelude.{◌≡◌, ◌*◌, ◌<◌, ◌≤◌, ◌*ℤ◌, ◌-ℤ◌, pos, unsigned_abs};
 ghost use Rattle.space.specs.Ranges.{IsPoint, IsWithin, axis_unit};
 ghost use Rattle.space.specs.Vectors.{at};
-ghost use Rattle.bern_form.specs.Cells.{scaled_square};
-ghost use Rattle.bern_form.specs.Sizes.{axis_limit, length_limit, offset_limit, scale_limit};
+ghost use Rattle.bern_form.specs.Sizes.{axis_limit, offset_limit, scale_limit};
 ghost use Rattle.wanted_marks.specs.Ways.{scaled_vector, scaled_way};
 
 /// A coordinate times the scale.
@@ -66,16 +65,4 @@ pub fn scaled_axis(scale: u32, axis: &[i32; 3]) -> [i64; 3]
         axis_along(scale, axis, 1),
         axis_along(scale, axis, 2),
     ]
-}
-
-/// The square of a slab's length that is taken times the scale.
-#[inline]
-pub fn scaled_square(scale: u32, length: i32) -> i128
-    requires scale { scale ≤ scale_limit }
-    requires length { unsigned_abs length ≤ 300000 }
-    ensures square { result ≡ scaled_square scale length }
-    ensures small { unsigned_abs result ≤ length_limit * length_limit }
-{
-    let length = i128::from(weighted(scale, length));
-    length * length
 }

@@ -7,10 +7,9 @@ ghost use Rattle.wanted_marks.specs.Sheets.{FitsOn, IsLineOn, IsSheetThrough};
 ghost use Rattle.wanted_marks.specs.Widths.{IsTurn, moved3, moved5};
 
 use crate::line::{Line, quadratic, spread_form, wrapped};
-use crate::scalar::scalar_form;
 use crate::scaled::scaled_way;
 use crate::turn::Turn;
-use axis_cells::Sweep;
+use axis_cells::{Sweep, scalar_product_on_cell};
 use bern_form::{Form2, Form4};
 
 /// a + b l. The parts may be larger than what fits: where the whole fits, what wrapped comes back.
@@ -99,9 +98,9 @@ impl Sheet {
     {
         let step = scaled_way(scale, start, next);
         let side = scaled_way(scale, start, beside);
-        let both = scalar_form(&side, &side, &step, &step);
-        let u_side = scalar_form(&side, &side, &turn.first, &turn.last);
-        let u_step = scalar_form(&step, &step, &turn.first, &turn.last);
+        let both = scalar_product_on_cell(&side, &side, &step, &step);
+        let u_side = scalar_product_on_cell(&side, &side, &turn.first, &turn.last);
+        let u_step = scalar_product_on_cell(&step, &step, &turn.first, &turn.last);
         Sheet {
             along: Line::through(start, next, sweep, turn, scale),
             across: Line::through(start, beside, sweep, turn, scale),

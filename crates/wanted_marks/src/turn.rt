@@ -3,9 +3,8 @@ ghost use Rattle.space.specs.Ranges.{IsWithin};
 ghost use Rattle.bern_form.specs.Sizes.{IsBounded2, axis_limit, scale_limit};
 ghost use Rattle.wanted_marks.specs.Widths.{IsTurn};
 
-use crate::scalar::scalar_form;
 use crate::scaled::scaled_axis;
-use axis_cells::Sweep;
+use axis_cells::{Sweep, scalar_product_on_cell};
 use bern_form::Form2;
 
 /// How the axis turns on a move: the axis at both ends, times the scale, and n, the square of its length between them.
@@ -26,7 +25,7 @@ impl Turn {
     {
         let first = scaled_axis(scale, &sweep.axis_from);
         let last = scaled_axis(scale, &sweep.axis_to);
-        let n = scalar_form(&first, &last, &first, &last);
+        let n = scalar_product_on_cell(&first, &last, &first, &last);
         Turn { first, last, n }
     }
 }

@@ -1,9 +1,27 @@
-ghost use Rattle.std.specs.Prelude.{◌≡◌, ℕ, ◌<◌};
-ghost use Rattle.wanted_marks.specs.Bits.{has_bit, with_told};
-ghost use Rattle.wanted_marks.specs.Told.{tells_possible, tells_sure};
+ghost use Rattle.std.specs.Prelude.{◌≡◌, ℕ, ◌<◌, ◌&&◌, not, nat_eq, true, if◌then◌else◌};
+ghost use Rattle.vf_spans.specs.Words.{has_bit};
+ghost use Rattle.wanted_marks.specs.Told.{tells_possible, tells_sure, with_told};
 
-use crate::bits::with_bit;
 use axis_cells::Mark;
+use vf_spans::bits::with_bit;
+
+/// The word with one bit not set.
+#[inline]
+pub fn without_bit(word: u64, b: u32) -> u64
+    requires { b < 64 }
+    ensures bits { (k : ℕ) → k < 64 → has_bit result k ≡ (has_bit word k && not (nat_eq k b)) }
+    ensures less { has_bit word b ≡ true → result < word }
+{
+    word & !(1 << b)
+}
+
+/// The bits of the second word in these places, and elsewhere those of the first.
+#[inline]
+pub fn chosen_bits(elsewhere: u64, there: u64, places: u64) -> u64
+    ensures { (k : ℕ) → k < 64 → has_bit result k ≡ (if has_bit places k then has_bit there k else has_bit elsewhere k) }
+{
+    elsewhere & !places | there & places
+}
 
 /// The marks of a word of 64 points: a bit for each that is sure to be cut, and for each that may be met.
 #[derive(Clone, Copy, Debug, PartialEq, Eq)]

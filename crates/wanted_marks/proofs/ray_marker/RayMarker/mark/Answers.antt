@@ -1,5 +1,5 @@
 use Rattle.std.proofs.Common.{◌+◌}
-use Rattle.wanted_marks.specs.Bits.{has_bit}
+use Rattle.vf_spans.specs.Words.{has_bit}
 use Rattle.wanted_marks.specs.Rays.{is_possible_at, is_sure_at}
 use Rattle.wanted_marks.proofs.Taking.{told_of}
 use Rattle.wanted_marks.proofs.ray_marker.RayMarker.mark.Goals as goal

@@ -1,7 +1,7 @@
 use Rattle.std.proofs.Common.{◌+◌, arith, ap, subst, ◌∙◌}
-use Rattle.wanted_marks.specs.Bits.{has_bit}
+use Rattle.vf_spans.specs.Words.{has_bit}
 use Rattle.wanted_marks.specs.Rays.{IsRayOf, is_possible_at, is_sure_at}
-use Rattle.wanted_marks.proofs.BitLemmas.{has_bit-zero}
+use Rattle.vf_spans.proofs.WordBits.{has_bit-zero}
 use Rattle.wanted_marks.proofs.Taking.{all_taken, none_taken, still_wanted, taken_bit}
 use Rattle.wanted_marks.proofs.ray_marker.RayMarker.mark_each.Goals as goal
 

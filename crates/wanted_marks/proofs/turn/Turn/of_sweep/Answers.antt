@@ -12,12 +12,12 @@ invariant_of-result c =
     record {
       first_within = first.ensures.small;
       last_within = last.ensures.small;
-      n_small = subst (IsBounded2 (3 * (axis_limit * axis_limit))) (sym c.scalar_form-n.ensures)
+      n_small = subst (IsBounded2 (3 * (axis_limit * axis_limit))) (sym c.scalar_product_on_cell-n.ensures)
           (cross_bounded first.result last.result first.result last.result axis_limit axis_limit first.ensures.small last.ensures.small first.ensures.small last.ensures.small);
     }
 
 pub returns : goal.returns
 returns c =
     let s = c.sweep.inside in let first = c.scaled_axis-first in let last = c.scaled_axis-last in
-    subst (λ (m : Motion). IsTurn first.result last.result c.scalar_form-n.result.c m c.args.scale) c.sweep.view_is
-    (turn_is record { from = s.from; to = s.to; axis_from = s.axis_from; axis_to = s.axis_to } c.args.scale first.result last.result c.scalar_form-n.result.c first.ensures.axis last.ensures.axis c.scalar_form-n.ensures)
+    subst (λ (m : Motion). IsTurn first.result last.result c.scalar_product_on_cell-n.result.c m c.args.scale) c.sweep.view_is
+    (turn_is record { from = s.from; to = s.to; axis_from = s.axis_from; axis_to = s.axis_to } c.args.scale first.result last.result c.scalar_product_on_cell-n.result.c first.ensures.axis last.ensures.axis c.scalar_product_on_cell-n.ensures)

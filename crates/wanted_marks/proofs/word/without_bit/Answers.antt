@@ -1,5 +1,5 @@
 use Rattle.wanted_marks.proofs.BitLemmas.{without_less, without_one}
-use Rattle.wanted_marks.proofs.bits.without_bit.Goals as goal
+use Rattle.wanted_marks.proofs.word.without_bit.Goals as goal
 
 pub returns-clause-bits : goal.returns-clause-bits
 returns-clause-bits c = λ k below. without_one c.args.word c.args.b k c.requires below
