@@ -11,15 +11,26 @@ pub(crate) fn is_zero(v: &[i32; 3]) -> bool
 }
 
 /// Whether two axes are of opposite directions.
+#[tactic(auto, using(crate::proofs::AxisLemmas::last_first))]
 pub(crate) fn are_opposite(f: &[i32; 3], t: &[i32; 3]) -> bool
     requires first { IsWithin axis_unit f.now }
     requires last { IsWithin axis_unit t.now }
     ensures { result ≡ are_opposite f.now t.now }
 {
+    is_obtuse(f, t) && are_parallel(f, t)
+}
+
+/// Whether the cross product of two axes is zero.
+fn are_parallel(f: &[i32; 3], t: &[i32; 3]) -> bool
+    requires first { IsWithin axis_unit f.now }
+    requires last { IsWithin axis_unit t.now }
+    ensures { result ≡ (int_eq (at f.now 1 *ℤ at t.now 2) (at f.now 2 *ℤ at t.now 1)
+        && (int_eq (at f.now 2 *ℤ at t.now 0) (at f.now 0 *ℤ at t.now 2)
+        && int_eq (at f.now 0 *ℤ at t.now 1) (at f.now 1 *ℤ at t.now 0))) }
+{
     are_equal(f[1], t[2], f[2], t[1])
         && are_equal(f[2], t[0], f[0], t[2])
         && are_equal(f[0], t[1], f[1], t[0])
-        && is_obtuse(f, t)
 }
 
 /// Whether the scalar product of two axes is negative.
