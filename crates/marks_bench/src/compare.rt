@@ -1,5 +1,5 @@
-ghost use Rattle.std.specs.Prelude.{◌≡◌, ◌≤◌};
-ghost use Rattle.ray_grid.specs.Lattice.{IsRay};
+ghost use Rattle.std.specs.Prelude.{◌≡◌, ◌<◌, ◌≤◌};
+ghost use Rattle.ray_grid.specs.Lattice.{points_of};
 
 use crate::case::Case;
 use crate::sets::{boxes_of, sets_of};
@@ -45,9 +45,11 @@ fn compare_words(
     let strip = mover.on_strip(&case.grid, case.ray.family, case.ray.i);
     let by_strip = strip.on_ray(case.ray.j);
     tally.rays = tally.rays.wrapping_add(1);
-    let words = case.grid.points(case.ray.family).div_ceil(64).min(MOST_WORDS);
-    for n in 0..words {
+    for n in 0..MOST_WORDS {
         let first = 64 * n;
+        if first >= case.grid.points(case.ray.family) {
+            return;
+        }
         let plain = plain_word(case, stacks, first);
         count_points(case, stacks, &plain, first, tally);
         count_sets(sets, &plain, first, tally);
@@ -59,9 +61,13 @@ fn compare_words(
 
 /// Counts the points, and what each by itself is marked otherwise.
 fn count_points(case: &Case, stacks: &Stacks, plain: &Word, first: u32, tally: &mut Tally)
-    requires { first ≤ 1000000 }
+    requires few { first ≤ 1000000 }
+    requires within { first < points_of case.now.grid case.now.ray.family }
 {
-    tally.points = with_bits(tally.points, wanted_word(&case.grid, &case.ray, first, ALL));
+    tally.points = with_bits(
+        tally.points,
+        wanted_word(&case.grid, case.ray.family, first, ALL),
+    );
     tally.sure = with_bits(tally.sure, plain.sure);
     tally.possible = with_bits(tally.possible, plain.possible);
     let word = point_word(case, stacks, first);
@@ -97,13 +103,24 @@ fn count_words(
     first: u32,
     tally: &mut Tally,
 )
-    requires few { first ≤ 1000000 }
+    requires within { first < points_of grid.now ray.now.family }
     requires grid { marker.now.grid ≡ grid.now }
     requires ray { marker.now.ray ≡ ray.now }
 {
     count_wanted(marker, grid, ray, plain, first, ALL, 0, tally);
-    count_wanted(marker, grid, ray, plain, first, EACH_THIRD, EACH_OTHER, tally);
-    count_wanted(marker, grid, ray, plain, first, !EACH_THIRD, EACH_OTHER, tally);
+    count_wanted(
+        marker, grid, ray, plain, first, EACH_THIRD, EACH_OTHER, tally,
+    );
+    count_wanted(
+        marker,
+        grid,
+        ray,
+        plain,
+        first,
+        !EACH_THIRD,
+        EACH_OTHER,
+        tally,
+    );
 }
 
 /// The same of the points of one pattern.
@@ -117,11 +134,11 @@ fn count_wanted(
     sure_only: u64,
     tally: &mut Tally,
 )
-    requires few { first ≤ 1000000 }
+    requires within { first < points_of grid.now ray.now.family }
     requires grid { marker.now.grid ≡ grid.now }
     requires ray { marker.now.ray ≡ ray.now }
 {
-    let wanted = wanted_word(grid, ray, first, pattern);
+    let wanted = wanted_word(grid, ray.family, first, pattern);
     let marks = marker.mark(first, wanted, sure_only);
     let told = plain.possible & !sure_only | plain.sure & sure_only;
     tally.of_words = with_differences(tally.of_words, plain.sure & wanted, marks.sure);

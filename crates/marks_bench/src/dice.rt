@@ -20,7 +20,10 @@ impl Dice {
 
     /// The upper half of the next state.
     fn step(&mut self) -> u32 {
-        self.state = self.state.wrapping_mul(1_664_525).wrapping_add(1_013_904_223);
+        self.state = self
+            .state
+            .wrapping_mul(1_664_525)
+            .wrapping_add(1_013_904_223);
         self.state / 65_536
     }
 
@@ -41,11 +44,9 @@ impl Dice {
     }
 
     /// A number from the least on, so many in all.
-    pub(crate) fn from(&mut self, least: i32, n: u32) -> i32
-        requires some { 0 < n }
-        requires few { n < 1000000000 }
-    {
-        least.wrapping_add(self.below(n) as i32)
+    pub(crate) fn from(&mut self, least: i32, n: i32) -> i32 {
+        let number = (self.next() / 2) as i32;
+        least.wrapping_add(number % n.max(1))
     }
 
     /// Yes in one of so many cases.

@@ -21,7 +21,7 @@ pub(crate) struct Job {
     slabs: u32,
 }
 
-const UP: [i32; 3] = [0, 0, 100_000];
+pub(crate) const UP: [i32; 3] = [0, 0, 100_000];
 
 /// A flat end mill through a small plate upright and lying along x, a ball of its own height that touches a point with its tip,
 /// and a bull-nose whose corner comes close to a point; the last two in few slabs and in more.

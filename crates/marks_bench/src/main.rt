@@ -7,33 +7,47 @@ mod compare;
 mod dice;
 mod grids;
 mod jobs;
+mod long_ray;
+mod made;
+mod made_cutter;
+mod made_grid;
+mod made_move;
 mod parts;
+mod report;
 mod sets;
 mod tally;
+mod vector;
 mod words;
 
-use crate::jobs::{JOBS, compare_job};
-use crate::tally::Tally;
-use std::alloc::Global;
+use crate::report::report_of;
 use std::io;
 use vf_io::NoMemory;
 
 fn main(rt: HostRuntime) -> io::Result<()> {
-    let alloc = rt.alloc();
-    let mut total = Tally::new();
-    for job in &JOBS {
-        for depth in 0..4 {
-            let mut tally = Tally::new();
-            match compare_job(alloc, job, depth, &mut tally) {
-                Ok(()) => {
-                    println!(rt;
-                        "job depth {} sure {} possible {} differences {} {} {} outside {} boxed {}",
-                        depth, tally.sure, tally.possible, tally.of_points, tally.of_sets, tally.of_words, tally.outside, tally.boxed
-                    )?
-                }
-                Err(NoMemory) => println!(rt; "no memory")?,
-            }
-        }
+    let report = match report_of(rt.alloc()) {
+        Ok(report) => report,
+        Err(NoMemory) => return println!(rt; "no memory"),
+    };
+    for row in report.jobs.as_slice() {
+        println!(rt;
+            "job {} depth {} sure {} possible {}",
+            row.job, row.depth, row.sure, row.possible
+        )?;
     }
-    println!(rt; "rays {}", total.rays)
+    let (points, sure, possible) = report.long_ray;
+    println!(rt;
+        "long ray points {} sure {} possible {}",
+        points, sure, possible
+    )?;
+    println!(rt; "made rays {} left out {}", report.made, report.left_out)?;
+    let total = &report.total;
+    println!(rt;
+        "rays {} points {} sure {} possible {} in boxes {}",
+        total.rays, total.points, total.sure, total.possible, total.boxed
+    )?;
+    println!(rt;
+        "differences by points {} by sets {} by words {}",
+        total.of_points, total.of_sets, total.of_words
+    )?;
+    println!(rt; "possible outside of all boxes {}", total.outside)
 }

@@ -25,7 +25,15 @@ fn sets_from<L: Ledger>(
     requires some { 0 < L.parts }
 {
     let mut steps: Steps<L> = Steps::new(blank);
-    mark_ray(alloc, &case.grid, &case.ray, &case.sweep, stacks, case.depth, &mut steps)
+    mark_ray(
+        alloc,
+        &case.grid,
+        &case.ray,
+        &case.sweep,
+        stacks,
+        case.depth,
+        &mut steps,
+    )
 }
 
 /// The sets of a ray, by halving boxes in time and along the ray.

@@ -28,6 +28,19 @@ impl Tally {
             boxed: 0,
         }
     }
+
+    /// Adds another count to this one.
+    pub(crate) fn add(&mut self, other: &Tally) {
+        self.rays = self.rays.wrapping_add(other.rays);
+        self.points = self.points.wrapping_add(other.points);
+        self.sure = self.sure.wrapping_add(other.sure);
+        self.possible = self.possible.wrapping_add(other.possible);
+        self.of_points = self.of_points.wrapping_add(other.of_points);
+        self.of_sets = self.of_sets.wrapping_add(other.of_sets);
+        self.of_words = self.of_words.wrapping_add(other.of_words);
+        self.outside = self.outside.wrapping_add(other.outside);
+        self.boxed = self.boxed.wrapping_add(other.boxed);
+    }
 }
 
 /// How many bits a word has, and another number.

@@ -7,9 +7,9 @@ use axis_cells::Mark;
 use box_bisect::{RayMarks, mark_point_uncounted};
 use cutter_marks::mark_of;
 use cutter_slabs::Stacks;
-use ray_grid::{Grid, Ray};
+use ray_grid::{Family, Grid};
 use sweep_boxes::PointBox;
-use vf_spans::bits::{has_bit, with_bit};
+use vf_spans::bits::{bits_below, with_bit};
 
 /// The marks of a word of 64 points, a bit for each that is sure and for each that is possible.
 #[derive(Drop)]
@@ -43,17 +43,11 @@ impl Word {
 }
 
 /// Those bits of a pattern that stand for points of a ray, the lowest for the index `first`.
-pub(crate) fn wanted_word(grid: &Grid, ray: &Ray, first: u32, pattern: u64) -> u64
-    requires few { first ≤ 1000000 }
-    ensures { (b : ℕ) → b < 64 → has_bit result b ≡ true → first + b < points_of grid.now ray.now.family }
+pub(crate) fn wanted_word(grid: &Grid, family: Family, first: u32, pattern: u64) -> u64
+    requires { first < points_of grid.now family }
+    ensures { (b : ℕ) → b < 64 → has_bit result b ≡ true → first + b < points_of grid.now family }
 {
-    let mut word = 0;
-    for b in 0..64 {
-        if grid.has_point(ray, first + b) && has_bit(pattern, b) {
-            word = with_bit(word, b);
-        }
-    }
-    word
+    bits_below(pattern, grid.points(family) - first)
 }
 
 /// The marks by the plain body.
@@ -78,7 +72,10 @@ pub(crate) fn point_word(case: &Case, stacks: &Stacks, first: u32) -> Word
     for b in 0..64 {
         if case.grid.has_point(&case.ray, first + b) {
             let point = case.grid.point(&case.ray, first + b);
-            word = word.with(b, mark_point_uncounted(&case.sweep, stacks, point, case.depth));
+            word = word.with(
+                b,
+                mark_point_uncounted(&case.sweep, stacks, point, case.depth),
+            );
         }
     }
     word
