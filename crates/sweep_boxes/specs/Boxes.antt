@@ -4,5 +4,5 @@ use Rattle.sweep_boxes.specs.declared.point_box.PointBox.{PointBox}
 use Rattle.sweep_boxes.specs.Pieces.{IsAmong}
 
 -- the point lies in the box, its ends included
-abbrev pub IsInside : PointBox → List ℤ → Type 0
-IsInside region p = IsAmong region.low region.high p
+abbrev pub IsInBox : PointBox → List ℤ → Type 0
+IsInBox region p = IsAmong region.low region.high p

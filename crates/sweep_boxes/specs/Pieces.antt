@@ -8,15 +8,15 @@ use Rattle.bern_form.specs.Slab.{SlabSize}
 use Rattle.sweep_boxes.specs.Vectors.{cross, difference, sum}
 
 -- the place between two ends at the time a / b, times b
-abbrev pub place_at : List ℤ → List ℤ → ℤ → ℤ → List ℤ
-place_at from to a b = between a b (at from 0) (at to 0) ∷ between a b (at from 1) (at to 1) ∷ between a b (at from 2) (at to 2) ∷ []
+abbrev pub between_ends : List ℤ → List ℤ → ℤ → ℤ → List ℤ
+between_ends from to a b = between a b (at from 0) (at to 0) ∷ between a b (at from 1) (at to 1) ∷ between a b (at from 2) (at to 2) ∷ []
 
 -- the axis and the tip in the middle of the part, and the offset of a point from that tip
 abbrev pub middle_axis : Motion → ℕ → ℕ → List ℤ
 middle_axis m k S = axis_at m (pos (2 * k + 1)) (pos (2 * S))
 
 abbrev pub middle_tip : Motion → ℕ → ℕ → List ℤ
-middle_tip m k S = place_at m.from m.to (pos (2 * k + 1)) (pos (2 * S))
+middle_tip m k S = between_ends m.from m.to (pos (2 * k + 1)) (pos (2 * S))
 
 abbrev pub middle_offset : Motion → List ℤ → ℕ → ℕ → List ℤ
 middle_offset m p k S = offset_at m p (pos (2 * k + 1)) (pos (2 * S))

@@ -5,7 +5,7 @@ ghost use Rattle.bern_form.specs.Between.{is_left_between};
 ghost use Rattle.bern_form.specs.Slab.{SlabSize};
 ghost use Rattle.cutter_slabs.specs.Stacks.{outer_stack};
 ghost use Rattle.cutter_marks.specs.MarkBy.{is_possible_by};
-ghost use Rattle.sweep_boxes.specs.Boxes.{IsInside};
+ghost use Rattle.sweep_boxes.specs.Boxes.{IsInBox};
 ghost use Rattle.sweep_boxes.specs.Covers.{CoverParts, IsInSome};
 ghost use Rattle.sweep_boxes.specs.Limits.{most_level, place_limit};
 ghost use Rattle.sweep_boxes.specs.Pieces.{AreAsLarge};
@@ -28,9 +28,9 @@ fn part_box(sweep: &Sweep, size: &Size, level: u32, cell: u32, region: &PointBox
     requires highest { unsigned_abs size.now.highest ≤ place_limit }
     requires low { IsWithin place_limit region.now.low }
     requires high { IsWithin place_limit region.now.high }
-    ensures kept { (slabs : List SlabSize) (p : List ℤ) → AreAsLarge size.now.widest size.now.highest slabs → IsInside region.now p
-        → is_left_between slabs sweep.now p cell (cell + 1) (2 ^ level) ≡ true → IsInside result p }
-    ensures within { (p : List ℤ) → IsInside result p → IsInside region.now p }
+    ensures kept { (slabs : List SlabSize) (p : List ℤ) → AreAsLarge size.now.widest size.now.highest slabs → IsInBox region.now p
+        → is_left_between slabs sweep.now p cell (cell + 1) (2 ^ level) ≡ true → IsInBox result p }
+    ensures within { (p : List ℤ) → IsInBox result p → IsInBox region.now p }
 {
     let piece = piece_of(sweep, level, cell);
     let once = narrowed(&piece, size.widest, size.highest, region);
@@ -109,7 +109,7 @@ pub fn push_boxes(
     requires depth { depth ≤ 10 }
     requires low { IsWithin place_limit region.now.low }
     requires high { IsWithin place_limit region.now.high }
-    ensures covered { (p : List ℤ) → IsInside region.now p
+    ensures covered { (p : List ℤ) → IsInBox region.now p
         → is_possible_by stacks.now.cutter stacks.now.slabs sweep.now p (2 ^ depth) ≡ true
         → OnOk result (IsInSome boxes.new.items (length boxes.old.items) p) }
     ensures kept { take (length boxes.old.items) boxes.new.items ≡ boxes.old.items }

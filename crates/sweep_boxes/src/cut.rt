@@ -4,7 +4,7 @@ ghost use Rattle.space.specs.Ranges.{IsWithin};
 ghost use Rattle.space.specs.Vectors.{at, dot};
 ghost use Rattle.sweep_boxes.specs.Limits.{most_level, place_limit, side_limit};
 ghost use Rattle.sweep_boxes.specs.Made.{IsPieceOf};
-ghost use Rattle.sweep_boxes.specs.Pieces.{place_at};
+ghost use Rattle.sweep_boxes.specs.Pieces.{between_ends};
 
 use crate::piece::Piece;
 use crate::vector::{difference, dot, weighted};
@@ -30,7 +30,7 @@ fn places(time: u32, whole: u32, from: &[i32; 3], to: &[i32; 3]) -> [i128; 3]
     requires time { time ≤ whole }
     requires from { IsWithin place_limit from.now }
     requires to { IsWithin place_limit to.now }
-    ensures value { result ≡ place_at from.now to.now (pos time) (pos whole) }
+    ensures value { result ≡ between_ends from.now to.now (pos time) (pos whole) }
     ensures small { IsWithin (128 * place_limit) result }
 {
     [

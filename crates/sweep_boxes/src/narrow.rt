@@ -4,7 +4,7 @@ ghost use Rattle.space.specs.Ranges.{IsWithin};
 ghost use Rattle.space.specs.Vectors.{at, dot};
 ghost use Rattle.bern_form.specs.Between.{is_left_between};
 ghost use Rattle.bern_form.specs.Slab.{SlabSize};
-ghost use Rattle.sweep_boxes.specs.Boxes.{IsInside};
+ghost use Rattle.sweep_boxes.specs.Boxes.{IsInBox};
 ghost use Rattle.sweep_boxes.specs.Limits.{place_limit, side_limit};
 ghost use Rattle.sweep_boxes.specs.Made.{IsPieceOf};
 ghost use Rattle.sweep_boxes.specs.Lines.{IsHeldPlace};
@@ -55,8 +55,8 @@ pub fn narrowed(piece: &Piece, widest: i32, highest: i32, region: &PointBox) -> 
     requires low { IsWithin place_limit region.now.low }
     requires high { IsWithin place_limit region.now.high }
     ensures kept { (m : Motion) (k S : ℕ) (slabs : List SlabSize) (p : List ℤ) → IsPieceOf piece.now m k S
-        → AreAsLarge widest highest slabs → IsInside region.now p → is_left_between slabs m p k (k + 1) S ≡ true → IsInside result p }
-    ensures within { (p : List ℤ) → IsInside result p → IsInside region.now p }
+        → AreAsLarge widest highest slabs → IsInBox region.now p → is_left_between slabs m p k (k + 1) S ≡ true → IsInBox result p }
+    ensures within { (p : List ℤ) → IsInBox result p → IsInBox region.now p }
     ensures low { IsWithin place_limit result.low }
     ensures high { IsWithin place_limit result.high }
 {

@@ -2,7 +2,7 @@ ghost use Rattle.std.specs.Prelude.{◌≡◌, ◌*◌, ◌≤◌, ◌<◌, ◌�
 ghost use Rattle.space.specs.Ranges.{IsWithin};
 ghost use Rattle.space.specs.Reach.{is_in_reach, is_near};
 ghost use Rattle.space.specs.Vectors.{at};
-ghost use Rattle.sweep_boxes.specs.Boxes.{IsInside};
+ghost use Rattle.sweep_boxes.specs.Boxes.{IsInBox};
 ghost use Rattle.sweep_boxes.specs.Limits.{place_limit};
 
 use crate::point_box::PointBox;
@@ -101,8 +101,8 @@ pub fn near_part(from: &[i32; 3], to: &[i32; 3], reach: i32, region: &PointBox) 
     requires some { pos 0 ≤ℤ reach }
     requires low { IsWithin place_limit region.now.low }
     requires high { IsWithin place_limit region.now.high }
-    ensures value { (p : List ℤ) → IsInside region.now p → is_in_reach reach from.now to.now p ≡ true → IsInside result p }
-    ensures within { (p : List ℤ) → IsInside result p → IsInside region.now p }
+    ensures value { (p : List ℤ) → IsInBox region.now p → is_in_reach reach from.now to.now p ≡ true → IsInBox result p }
+    ensures within { (p : List ℤ) → IsInBox result p → IsInBox region.now p }
     ensures low { IsWithin place_limit result.low }
     ensures high { IsWithin place_limit result.high }
 {

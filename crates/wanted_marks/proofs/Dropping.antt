@@ -13,9 +13,10 @@ use Rattle.bern_form.proofs.Finer.{AllOut, left_on_none}
 use Rattle.bern_form.proofs.Relations.{AllPositive}
 use Rattle.cutter_slabs.specs.Stacks.{outer_stack, reach_of}
 use Rattle.cutter_marks.specs.MarkBy.{is_possible_by, is_sure_by}
-use Rattle.wanted_marks.specs.Limits.{AreLimits, IsWithinLimits, raised_square}
+use Rattle.axis_cells.specs.Exclusion.{squared}
+use Rattle.wanted_marks.specs.Limits.{AreLimits, IsWithinLimits}
 use Rattle.wanted_marks.specs.Rays.{IsClearOf, MoveOf}
-use Rattle.wanted_marks.specs.Widths.{width_of}
+use Rattle.wanted_marks.specs.Widths.{whole_width}
 use Rattle.wanted_marks.proofs.Exceeding.{all_over}
 
 under : (a b : ℤ) → pos 0 <ℤ (a -ℤ b) → b <ℤ a
@@ -36,15 +37,15 @@ over_less : (c r s : List ℤ) → AllPositive (difference4 c r) → ((k : ℕ) 
 over_less c r s p h = all_over c s (λ k l. below_both (at s k) (at r k) (at c k) (h k l) (under_limit c r k l p))
 
 -- each outer slab is excluded on the whole move
-all_beside : (v : MoveOf) (limits p : List ℤ) → AreLimits limits v → all_positive (difference4 (width_of v.motion p (2 ^ v.depth)) limits) ≡ true
+all_beside : (v : MoveOf) (limits p : List ℤ) → AreLimits limits v → all_positive (difference4 (whole_width v.motion p (2 ^ v.depth)) limits) ≡ true
     → AllOut (outer_stack v.cutter v.slabs) v.motion p 0 (2 ^ v.depth) (2 ^ v.depth)
 all_beside v limits p are beyond =
-    let S = 2 ^ v.depth in let n = n_between v.motion 0 S S in let W = width_of v.motion p S in
+    let S = 2 ^ v.depth in let n = n_between v.motion 0 S S in let W = whole_width v.motion p S in
     let over = (decides_positive (difference4 W limits)).0 beyond in record {
-      each = λ s among. inr (inr (inr (over_less W limits (raised_square S s.dia n) over (All-contains (IsWithinLimits limits n S) (outer_stack v.cutter v.slabs) s are among).at_most)));
+      each = λ s among. inr (inr (inr (over_less W limits (squared (pos S) s.dia n) over (All-contains (IsWithinLimits limits n S) (outer_stack v.cutter v.slabs) s are among).at_most)));
     }
 
-not_possible : (v : MoveOf) (limits p : List ℤ) → AreLimits limits v → all_positive (difference4 (width_of v.motion p (2 ^ v.depth)) limits) ≡ true
+not_possible : (v : MoveOf) (limits p : List ℤ) → AreLimits limits v → all_positive (difference4 (whole_width v.motion p (2 ^ v.depth)) limits) ≡ true
     → is_possible_by v.cutter v.slabs v.motion p (2 ^ v.depth) ≡ false
 unfolding is_possible_by
 not_possible v limits p are beyond =
@@ -60,7 +61,7 @@ not_sure false q both e = λ i. false
 
 pub is_clear : (v : MoveOf) (limits p : List ℤ) → AreLimits limits v
     → (is_sure_by v.cutter v.slabs v.motion p (2 ^ v.depth) ≡ true → is_possible_by v.cutter v.slabs v.motion p (2 ^ v.depth) ≡ true)
-    → all_positive (difference4 (width_of v.motion p (2 ^ v.depth)) limits) ≡ true → IsClearOf v p
+    → all_positive (difference4 (whole_width v.motion p (2 ^ v.depth)) limits) ≡ true → IsClearOf v p
 is_clear v limits p are both beyond =
     let out = not_possible v limits p are beyond in record {
       not_sure = not_sure (is_sure_by v.cutter v.slabs v.motion p (2 ^ v.depth)) (is_possible_by v.cutter v.slabs v.motion p (2 ^ v.depth)) both out;

@@ -10,15 +10,15 @@ use Rattle.bern_form.proofs.Decided.{decides_among, found_below}
 use Rattle.cutter_slabs.specs.Stacks.{inner_stack}
 use Rattle.cutter_marks.specs.MarkBy.{is_possible_by, is_sure_by}
 use Rattle.wanted_marks.specs.Rays.{IsRemovedBy, MoveOf}
-use Rattle.wanted_marks.specs.Samples.{some_covers}
-use Rattle.wanted_marks.specs.Widths.{width_of}
+use Rattle.axis_cells.specs.Exclusion.{covered_by_some}
+use Rattle.wanted_marks.specs.Widths.{whole_width}
 
 -- the last coefficients are the values at the last sample
-pub last_width_is : (m : Motion) (p : List ℤ) (S : ℕ) → at (width_of m p S) 4 ≡ pos 4 *ℤ spread (offset_at m p (pos S) (pos S)) (axis_at m (pos S) (pos S))
+pub last_width_is : (m : Motion) (p : List ℤ) (S : ℕ) → at (whole_width m p S) 4 ≡ pos 4 *ℤ spread (offset_at m p (pos S) (pos S)) (axis_at m (pos S) (pos S))
 last_width_is m p S = refl
 
 held_last : (m : Motion) (p : List ℤ) (S : ℕ) (slabs : List SlabSize)
-    → some_covers (pos S) (at (u_between m p 0 S S) 2) (at (n_between m 0 S S) 2) (spread (offset_at m p (pos S) (pos S)) (axis_at m (pos S) (pos S))) slabs ≡ true → held_at_sample slabs m p S ≡ true
+    → covered_by_some (pos S) (at (u_between m p 0 S S) 2) (at (n_between m 0 S S) 2) (spread (offset_at m p (pos S) (pos S)) (axis_at m (pos S) (pos S))) slabs ≡ true → held_at_sample slabs m p S ≡ true
 held_last m p S slabs held = found_below (λ k. some_holds slabs m p k S) (S + 1) S (omega arith) held
 
 sure_last : (v : MoveOf) (p : List ℤ) (slabs : List SlabSize) → slabs ≡ inner_stack v.cutter v.slabs → held_at_sample slabs v.motion p (2 ^ v.depth) ≡ true → is_sure_by v.cutter v.slabs v.motion p (2 ^ v.depth) ≡ true
@@ -28,15 +28,15 @@ sure_last v p slabs e held = subst (λ l. held_at_sample l v.motion p (2 ^ v.dep
 pub is_removed : (v : MoveOf) (p : List ℤ) (slabs : List SlabSize) (u n : ℤ) → slabs ≡ inner_stack v.cutter v.slabs
     → (is_sure_by v.cutter v.slabs v.motion p (2 ^ v.depth) ≡ true → is_possible_by v.cutter v.slabs v.motion p (2 ^ v.depth) ≡ true)
     → u ≡ at (u_between v.motion p 0 (2 ^ v.depth) (2 ^ v.depth)) 2 → n ≡ at (n_between v.motion 0 (2 ^ v.depth) (2 ^ v.depth)) 2
-    → some_covers (pos (2 ^ v.depth)) u n (spread (offset_at v.motion p (pos (2 ^ v.depth)) (pos (2 ^ v.depth))) (axis_at v.motion (pos (2 ^ v.depth)) (pos (2 ^ v.depth)))) slabs ≡ true
+    → covered_by_some (pos (2 ^ v.depth)) u n (spread (offset_at v.motion p (pos (2 ^ v.depth)) (pos (2 ^ v.depth))) (axis_at v.motion (pos (2 ^ v.depth)) (pos (2 ^ v.depth)))) slabs ≡ true
     → IsRemovedBy v p
 is_removed v p slabs u n e both eu en held =
     let S = 2 ^ v.depth in let w = spread (offset_at v.motion p (pos S) (pos S)) (axis_at v.motion (pos S) (pos S)) in
-    let sure = sure_last v p slabs e (held_last v.motion p S slabs (ap₂ (λ x y. some_covers (pos S) x y w slabs) (sym eu) (sym en) ∙ held)) in
+    let sure = sure_last v p slabs e (held_last v.motion p S slabs (ap₂ (λ x y. covered_by_some (pos S) x y w slabs) (sym eu) (sym en) ∙ held)) in
     record { sure = sure; possible = both sure }
 
 -- some slab at a place of the list covers
-pub covered_at : (slabs : List SlabSize) (i : ℕ) (d : SlabSize) (scale u n w : ℤ) → i < length slabs → covers (get_or slabs i d) scale u n w ≡ true → some_covers scale u n w slabs ≡ true
+pub covered_at : (slabs : List SlabSize) (i : ℕ) (d : SlabSize) (scale u n w : ℤ) → i < length slabs → covers (get_or slabs i d) scale u n w ≡ true → covered_by_some scale u n w slabs ≡ true
 covered_at slabs i d scale u n w l held =
     (decides_among (λ s. covers s scale u n w) (λ s. covers s scale u n w ≡ true) slabs (λ s. (λ e. e, λ e. e))).1 (get_or slabs i d, Contains-get_or slabs i d l, held)
 

@@ -25,7 +25,7 @@ use Rattle.wanted_marks.specs.Lines.{HasForms, IsLineOf, IsThrough, d_step, u_st
 use Rattle.wanted_marks.specs.Sheets.{FitsOn}
 use Rattle.wanted_marks.proofs.Fitting.{spread_fits}
 use Rattle.wanted_marks.proofs.Stepping.{HasRay, forms_are}
-use Rattle.wanted_marks.specs.Widths.{width_of}
+use Rattle.wanted_marks.specs.Widths.{whole_width}
 
 moves : (o s : ℤ) (l : ℕ) → o +ℤ (pos l *ℤ s) ≡ (o +ℤ (pos 0 *ℤ s)) +ℤ pos l *ℤ ((o +ℤ (pos 1 *ℤ s)) -ℤ (o +ℤ (pos 0 *ℤ s)))
 moves o s l =
@@ -69,7 +69,7 @@ point_between s first next p last l n h here there f t = (
   component_between (at s 2) (at next 2 -ℤ at first 2) (at p 2) (at last 2) l n h here.z there.z f.2 t.2,
 )
 
-pub width_small : (m : Motion) (p : List ℤ) (S : ℕ) → IsSweep m → IsPoint p → S ≤ scale_limit → All IsSmall (width_of m p S)
+pub width_small : (m : Motion) (p : List ℤ) (S : ℕ) → IsSweep m → IsPoint p → S ≤ scale_limit → All IsSmall (whole_width m p S)
 width_small m p S sweep point few =
     (between_fits (offset_at m p (pos 0) (pos S)) (offset_at m p (pos S) (pos S)) (axis_at m (pos 0) (pos S)) (axis_at m (pos S) (pos S))
     (offset_within m p 0 S sweep point (omega arith) few) (offset_within m p S S sweep point (omega arith) few)

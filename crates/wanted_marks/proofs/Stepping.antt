@@ -12,7 +12,7 @@ use Rattle.wanted_marks.specs.declared.sheet.Sheet.{Sheet}
 use Rattle.wanted_marks.specs.Lines.{HasForms, IsThrough, d_step, u_step, width_at}
 use Rattle.wanted_marks.specs.Sheets.{IsLineOn, IsSheet}
 use Rattle.wanted_marks.specs.Ways.{IsAlong, scaled_vector, scaled_way}
-use Rattle.wanted_marks.specs.Widths.{IsTurn, moved3, moved5, quadratics, spread_form, width_of}
+use Rattle.wanted_marks.specs.Widths.{IsTurn, moved3, moved5, quadratics, spread_form, whole_width}
 
 pub same3 : (a b c d e f : ℤ) → a ≡ d → b ≡ e → c ≡ f → a ∷ b ∷ c ∷ [] ≡ d ∷ e ∷ f ∷ []
 same3 a b c d e f h k l = ap (λ z. z ∷ b ∷ c ∷ []) h ∙ ap (λ z. d ∷ z ∷ c ∷ []) k ∙ ap (λ z. d ∷ e ∷ z ∷ []) l
@@ -186,7 +186,7 @@ forms_are line m o first next p S l is on =
     let end = offset_moves m o first next p s s l on in
     let U : u_between m p 0 S S ≡ moved3 u w l = ap₂ (λ x y. dot_on_cell x y A C) start end ∙ u_moves P Q A C v l in
     let D : d_between m p 0 S S ≡ moved_twice d f g l = ap₂ (λ x y. dot_on_cell x y x y) start end ∙ d_moves P Q v l in record {
-      width = ap (λ x. quadratics x line.first.c line.second.c l) is.constant_is ∙ ap₂ (λ x y. quadratics (width_of m o S) x y l) is.first_is is.second_is
+      width = ap (λ x. quadratics x line.first.c line.second.c l) is.constant_is ∙ ap₂ (λ x y. quadratics (whole_width m o S) x y l) is.first_is is.second_is
           ∙ width_moves n u w d f g l ∙ ap₂ (λ x y. spread_form (pos 4) x n y y) (sym D) (sym U);
       height = ap₂ (λ x y. at x 2 +ℤ l *ℤ at y 2) is.height_is is.height_step_is ∙ ap (λ x. at x 2) (sym U);
     }
@@ -202,7 +202,7 @@ spread_moves n u w d f v l =
 
 -- line j of a sheet, as what its parts are
 pub record HasRay (sheet : Sheet) (m : Motion) (o v : List ℤ) (S : ℕ) (j : ℤ) : Type 0 where
-  pub constant : width_at sheet.across j ≡ width_of m o S
+  pub constant : width_at sheet.across j ≡ whole_width m o S
   pub first : moved5 sheet.along.first.c sheet.mixed.c j ≡ spread_form (pos 8) (d_step m o v S) (n_between m 0 S S) (u_between m o 0 S S) (u_step m v S)
   pub height : moved3 sheet.across.height.c sheet.across.height_step.c j ≡ u_between m o 0 S S
 

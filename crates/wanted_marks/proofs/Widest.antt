@@ -12,7 +12,8 @@ use Rattle.space.proofs.Tests.{decides_lt}
 use Rattle.bern_form.specs.Cells.{scaled_square}
 use Rattle.bern_form.specs.Forms.{lifted, scaled2}
 use Rattle.bern_form.specs.Slab.{SlabSize}
-use Rattle.wanted_marks.specs.Limits.{IsNoWider, IsWithinLimits, all_not_below_zero, not_below_zero, raised_square}
+use Rattle.axis_cells.specs.Exclusion.{squared}
+use Rattle.wanted_marks.specs.Limits.{IsNoWider, IsWithinLimits, all_not_below_zero, not_below_zero}
 use Rattle.wanted_marks.proofs.Exceeding.{not_less}
 
 -- a number against itself or 0, whichever is more
@@ -70,18 +71,18 @@ at_clamped c (suc (suc (suc zero))) l = refl
 at_clamped c (suc (suc (suc (suc zero)))) l = refl
 at_clamped c (suc (suc (suc (suc (suc k))))) l = absurd (omega arith)
 
-coefficient_less : (S : ℕ) (a b : ℤ) (n : List ℤ) (k : ℕ) → k < 5 → pos 0 ≤ℤ a → a ≤ℤ b → at (raised_square S a n) k ≤ℤ at (all_not_below_zero (raised_square S b n)) k
+coefficient_less : (S : ℕ) (a b : ℤ) (n : List ℤ) (k : ℕ) → k < 5 → pos 0 ≤ℤ a → a ≤ℤ b → at (squared (pos S) a n) k ≤ℤ at (all_not_below_zero (squared (pos S) b n)) k
 coefficient_less S a b n k l h m =
     let s = square_more S a b h m in
-    let left : at (raised_square S a n) k ≡ pos s.0 *ℤ at (lifted n) k = raised_at (scaled_square S a) n k l ∙ ap (λ z. z *ℤ at (lifted n) k) s.3 in
-    let right : at (raised_square S b n) k ≡ pos s.1 *ℤ at (lifted n) k = raised_at (scaled_square S b) n k l ∙ ap (λ z. z *ℤ at (lifted n) k) s.4 in
-    subst (λ z. z ≤ℤ at (all_not_below_zero (raised_square S b n)) k) (sym left)
-    (subst (λ z. (pos s.0 *ℤ at (lifted n) k) ≤ℤ z) (sym (at_clamped (raised_square S b n) k l ∙ ap not_below_zero right)) (times_less s.0 s.1 (at (lifted n) k) s.2))
+    let left : at (squared (pos S) a n) k ≡ pos s.0 *ℤ at (lifted n) k = raised_at (scaled_square S a) n k l ∙ ap (λ z. z *ℤ at (lifted n) k) s.3 in
+    let right : at (squared (pos S) b n) k ≡ pos s.1 *ℤ at (lifted n) k = raised_at (scaled_square S b) n k l ∙ ap (λ z. z *ℤ at (lifted n) k) s.4 in
+    subst (λ z. z ≤ℤ at (all_not_below_zero (squared (pos S) b n)) k) (sym left)
+    (subst (λ z. (pos s.0 *ℤ at (lifted n) k) ≤ℤ z) (sym (at_clamped (squared (pos S) b n) k l ∙ ap not_below_zero right)) (times_less s.0 s.1 (at (lifted n) k) s.2))
 
-pub within_limits : (S : ℕ) (most : ℤ) (n : List ℤ) (s : SlabSize) → IsNoWider most s → IsWithinLimits (all_not_below_zero (raised_square S most n)) n S s
+pub within_limits : (S : ℕ) (most : ℤ) (n : List ℤ) (s : SlabSize) → IsNoWider most s → IsWithinLimits (all_not_below_zero (squared (pos S) most n)) n S s
 within_limits S most n s h = record { at_most = λ k l. coefficient_less S s.dia most n k l h.not_negative h.no_wider }
 
-pub all_within : (S : ℕ) (most : ℤ) (n limits : List ℤ) (slabs : List SlabSize) → limits ≡ all_not_below_zero (raised_square S most n) → All (IsNoWider most) slabs → All (IsWithinLimits limits n S) slabs
+pub all_within : (S : ℕ) (most : ℤ) (n limits : List ℤ) (slabs : List SlabSize) → limits ≡ all_not_below_zero (squared (pos S) most n) → All (IsNoWider most) slabs → All (IsWithinLimits limits n S) slabs
 all_within S most n limits slabs e h =
     subst (λ z. All (IsWithinLimits z n S) slabs) (sym e)
-    (All-weaker (IsNoWider most) (IsWithinLimits (all_not_below_zero (raised_square S most n)) n S) (λ s no_wider. within_limits S most n s no_wider) slabs h)
+    (All-weaker (IsNoWider most) (IsWithinLimits (all_not_below_zero (squared (pos S) most n)) n S) (λ s no_wider. within_limits S most n s no_wider) slabs h)

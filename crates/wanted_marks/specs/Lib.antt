@@ -5,7 +5,6 @@ pub mod Widths
 pub mod Lines
 pub mod Sheets
 pub mod Limits
-pub mod Samples
 pub mod Ready
 pub mod ReadyRay
 pub mod Strips

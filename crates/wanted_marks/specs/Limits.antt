@@ -2,9 +2,8 @@
 use Rattle.std.specs.Prelude.{ℕ, ◌^◌, ◌<◌, ◌≤ℤ◌, List, [], ◌∷◌, ℤ, pos, int_lt, if◌then◌else◌, All}
 use Rattle.space.specs.Vectors.{at}
 use Rattle.bern_form.specs.Between.{n_between}
-use Rattle.bern_form.specs.Cells.{scaled_square}
-use Rattle.bern_form.specs.Forms.{lifted, scaled2}
 use Rattle.bern_form.specs.Slab.{SlabSize}
+use Rattle.axis_cells.specs.Exclusion.{squared}
 use Rattle.cutter_slabs.specs.Stacks.{outer_stack}
 use Rattle.wanted_marks.specs.Rays.{MoveOf}
 
@@ -12,10 +11,6 @@ use Rattle.wanted_marks.specs.Rays.{MoveOf}
 pub record IsNoWider (most : ℤ) (s : SlabSize) : Type 0 where
   pub not_negative : pos 0 ≤ℤ s.dia
   pub no_wider : s.dia ≤ℤ most
-
--- dia^2 n raised to degree 4, for a diameter that is taken times S
-abbrev pub raised_square : ℕ → ℤ → List ℤ → List ℤ
-raised_square S dia n = lifted (scaled2 (scaled_square S dia) n)
 
 -- a number, or 0 where it is below
 abbrev pub not_below_zero : ℤ → ℤ
@@ -32,7 +27,7 @@ all_not_below_zero c =
 
 -- no coefficient of dia^2 n raised to degree 4 is above its limit
 pub record IsWithinLimits (limits n : List ℤ) (S : ℕ) (s : SlabSize) : Type 0 where
-  pub at_most : (k : ℕ) → k < 5 → at (raised_square S s.dia n) k ≤ℤ at limits k
+  pub at_most : (k : ℕ) → k < 5 → at (squared (pos S) s.dia n) k ≤ℤ at limits k
 
 -- for each outer slab of the cutter, on the whole move
 abbrev pub AreLimits : List ℤ → MoveOf → Type 0

@@ -9,7 +9,7 @@ use Rattle.bern_form.specs.Sizes.{axis_limit, offset_limit}
 use Rattle.ray_grid.specs.Lattice.{point_of, points_of}
 use Rattle.wanted_marks.specs.declared.line.Line.{Line}
 use Rattle.wanted_marks.specs.Rays.{MoveOf, RayOf}
-use Rattle.wanted_marks.specs.Widths.{quadratic, quadratics, spread_form, width_of}
+use Rattle.wanted_marks.specs.Widths.{quadratic, quadratics, spread_form, whole_width}
 
 -- the width form, and u at the last sample
 abbrev pub width_at : Line → ℤ → List ℤ
@@ -29,7 +29,7 @@ pub record FitsAt (line : Line) (l : ℤ) : Type 0 where
 
 -- they are those of the point p
 pub record HasForms (line : Line) (l : ℤ) (m : Motion) (p : List ℤ) (S : ℕ) : Type 0 where
-  pub width : width_at line l ≡ width_of m p S
+  pub width : width_at line l ≡ whole_width m p S
   pub height : last_height_at line l ≡ at (u_between m p 0 S S) 2
 
 -- on a move of a cutter, at the cells of its depth
@@ -50,7 +50,7 @@ d_step m s v S = dot_on_cell (offset_at m s (pos 0) (pos S)) (offset_at m s (pos
 
 -- the line begins at the point s and goes on by the step v
 pub record IsThrough (line : Line) (m : Motion) (s v : List ℤ) (S : ℕ) : Type 0 where
-  pub constant_is : line.constant.c ≡ width_of m s S
+  pub constant_is : line.constant.c ≡ whole_width m s S
   pub first_is : line.first.c ≡ spread_form (pos 8) (d_step m s v S) (n_between m 0 S S) (u_between m s 0 S S) (u_step m v S)
   pub second_is : line.second.c ≡ spread_form (pos 4) (dot_on_cell v v v v) (n_between m 0 S S) (u_step m v S) (u_step m v S)
   pub height_is : line.height.c ≡ u_between m s 0 S S

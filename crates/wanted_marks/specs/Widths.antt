@@ -11,8 +11,8 @@ abbrev pub spread_form : ℤ → List ℤ → List ℤ → List ℤ → List ℤ
 spread_form by d n u v = scaled4 by (difference4 (product22 d n) (product22 u v))
 
 -- the width form of the point p on a move of S cells
-abbrev pub width_of : Motion → List ℤ → ℕ → List ℤ
-width_of m p S = spread_form (pos 4) (d_between m p 0 S S) (n_between m 0 S S) (u_between m p 0 S S) (u_between m p 0 S S)
+abbrev pub whole_width : Motion → List ℤ → ℕ → List ℤ
+whole_width m p S = spread_form (pos 4) (d_between m p 0 S S) (n_between m 0 S S) (u_between m p 0 S S) (u_between m p 0 S S)
 
 -- a + b l, for three numbers, and for five
 abbrev pub moved3 : List ℤ → List ℤ → ℤ → List ℤ

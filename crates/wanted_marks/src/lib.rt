@@ -7,6 +7,7 @@ mod move_marker;
 mod ray_marker;
 mod sample;
 mod scaled;
+mod sets;
 mod sheet;
 mod strip_marker;
 mod turn;
@@ -14,5 +15,6 @@ mod word;
 
 pub use move_marker::MoveMarker;
 pub use ray_marker::RayMarker;
+pub use sets::mark_wanted;
 pub use strip_marker::StripMarker;
 pub use word::WordMarks;

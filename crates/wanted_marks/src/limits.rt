@@ -1,6 +1,7 @@
 ghost use Rattle.std.specs.Prelude.{◌≡◌, ◌*◌, ◌≤◌, ◌≤ℤ◌, ◌⊎◌, pos, All};
 ghost use Rattle.bern_form.specs.Sizes.{IsBounded2, axis_limit, scale_limit};
-ghost use Rattle.wanted_marks.specs.Limits.{IsNoWider, all_not_below_zero, not_below_zero, raised_square};
+ghost use Rattle.axis_cells.specs.Exclusion.{squared};
+ghost use Rattle.wanted_marks.specs.Limits.{IsNoWider, all_not_below_zero, not_below_zero};
 
 use axis_cells::scaled_square;
 use bern_form::{Form2, Slab, lift24, scale2};
@@ -52,7 +53,7 @@ pub fn limits_of(n: &Form2, scale: u32, diameter: i32) -> [i128; 5]
     requires scale { scale ≤ scale_limit }
     requires not_negative { pos 0 ≤ℤ diameter }
     requires few { diameter ≤ℤ pos 200000 }
-    ensures { result ≡ all_not_below_zero (raised_square scale diameter n.now.c) }
+    ensures { result ≡ all_not_below_zero (squared (pos scale) diameter n.now.c) }
 {
     let [a, b, c, d, e] = lift24(&scale2(n, scaled_square(scale, diameter))).c;
     [

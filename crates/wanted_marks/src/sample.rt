@@ -2,7 +2,7 @@ ghost use Rattle.std.specs.Prelude.{◌≡◌, ◌*◌, ◌≤◌, ℤ, ◌*ℤ�
 ghost use Rattle.bern_form.specs.Cells.{scaled_square};
 ghost use Rattle.bern_form.specs.Sizes.{axis_limit, offset_limit, scale_limit};
 ghost use Rattle.bern_form.specs.Slab.{covers};
-ghost use Rattle.wanted_marks.specs.Samples.{some_covers};
+ghost use Rattle.axis_cells.specs.Exclusion.{covered_by_some};
 
 use axis_cells::scaled_square;
 use bern_form::Slab;
@@ -74,7 +74,7 @@ pub fn is_covered_by_some(slabs: &[Slab], scale: u32, u: i128, n: i128, width: i
     requires scale { scale ≤ scale_limit }
     requires u { unsigned_abs u ≤ 3 * (offset_limit * axis_limit) }
     requires n { unsigned_abs n ≤ 3 * (axis_limit * axis_limit) }
-    ensures { IsTrue result → (w : ℤ) → width ≡ pos 4 *ℤ w → some_covers (pos scale) u n w slabs.now ≡ true }
+    ensures { IsTrue result → (w : ℤ) → width ≡ pos 4 *ℤ w → covered_by_some (pos scale) u n w slabs.now ≡ true }
 {
     for k in 0..slabs.len() {
         let slab = &slabs[slabs.len() - 1 - k];

@@ -7,7 +7,7 @@ use Rattle.bern_form.specs.Between.{is_left_between}
 use Rattle.bern_form.specs.Marks.{is_left_on}
 use Rattle.bern_form.specs.Slab.{SlabSize}
 use Rattle.cutter_slabs.specs.Stacks.{outer_stack, reach_of}
-use Rattle.sweep_boxes.specs.Boxes.{IsInside}
+use Rattle.sweep_boxes.specs.Boxes.{IsInBox}
 use Rattle.sweep_boxes.specs.Covers.{CoverParts, IsInSome}
 use Rattle.sweep_boxes.specs.Pieces.{AreAsLarge}
 use Rattle.sweep_boxes.proofs.Coarse.{left_part, on_ok, possible_parts}

@@ -2,15 +2,15 @@ use Rattle.std.proofs.Common.{◌≡◌, true, ◌+◌, ◌^◌, ◌<◌, ◌++�
 use Rattle.bern_form.specs.Between.{is_left_between}
 use Rattle.bern_form.specs.Slab.{SlabSize}
 use Rattle.sweep_boxes.specs.declared.point_box.PointBox.{PointBox}
-use Rattle.sweep_boxes.specs.Boxes.{IsInside}
+use Rattle.sweep_boxes.specs.Boxes.{IsInBox}
 use Rattle.sweep_boxes.specs.Pieces.{AreAsLarge}
 use Rattle.sweep_boxes.proofs.Largest.{one_box}
 use Rattle.sweep_boxes.proofs.boxes.push_parts.Goals as goal
 
 pub loop-cell-preserved : goal.loop-cell-preserved
 loop-cell-preserved c =
-    let holds : ℕ → PointBox → Type 0 = λ n box. (slabs : List SlabSize) (p : List ℤ) → AreAsLarge c.args.size.now.widest c.args.size.now.highest slabs → IsInside c.args.region.now p
-    → is_left_between slabs c.args.sweep.now p n (n + 1) (2 ^ c.args.level) ≡ true → IsInside box p in
+    let holds : ℕ → PointBox → Type 0 = λ n box. (slabs : List SlabSize) (p : List ℤ) → AreAsLarge c.args.size.now.widest c.args.size.now.highest slabs → IsInBox c.args.region.now p
+    → is_left_between slabs c.args.sweep.now p n (n + 1) (2 ^ c.args.level) ≡ true → IsInBox box p in
     let before = c.loop-cell.invariant in
     let items : c.push.new.self.items ≡ c.loop-cell.boxes.items ++ c.part_box.result ∷ [] = c.in_ok-push.ensures.items in
     let after = one_box c.loop-cell.boxes.items c.args.boxes.now.items c.loop-cell.cell c.part_box.result holds before.0 before.1

@@ -7,7 +7,7 @@ use Rattle.bern_form.specs.Between.{n_between}
 use Rattle.cutter_slabs.specs.Stacks.{inner_stack}
 use Rattle.wanted_marks.specs.Rays.{MoveOf}
 use Rattle.wanted_marks.specs.Ready.{IsReadyMove}
-use Rattle.wanted_marks.specs.Samples.{some_covers}
+use Rattle.axis_cells.specs.Exclusion.{covered_by_some}
 use Rattle.wanted_marks.proofs.Holding.{is_removed, last_width_is}
 use Rattle.wanted_marks.proofs.move_marker.MoveMarker.is_held_last.Goals as goal
 
@@ -24,4 +24,4 @@ returns c = λ yes p forms.
     let held = simp to_z-of_z at (c.is_covered_by_some.ensures yes w four) in
     is_removed v p c.inner.result.now c.last_height.result (at s.turn.n.c 2) stack (ready.both p) (c.last_height.ensures ∙ forms.height)
     (ap (λ l. at l 2) ready.turn.n_is ∙ ap (λ k. at (n_between v.motion 0 k k) 2) ready.scale_is)
-    (ap (λ k. some_covers (pos k) c.last_height.result (at s.turn.n.c 2) w c.inner.result.now) (sym ready.scale_is) ∙ held)
+    (ap (λ k. covered_by_some (pos k) c.last_height.result (at s.turn.n.c 2) w c.inner.result.now) (sym ready.scale_is) ∙ held)

@@ -1,4 +1,4 @@
-use Rattle.std.proofs.Common.{◌≡◌, ℕ, List, true, ◌<◌, ◌≤◌, ◌^◌, FitsSigned, arith, rules, subst, sym, ap, ap₂, ◌∙◌}
+use Rattle.std.proofs.Common.{pos, ◌≡◌, ℕ, List, true, ◌<◌, ◌≤◌, ◌^◌, FitsSigned, arith, rules, subst, sym, ap, ap₂, ◌∙◌}
 use Rattle.std.specs.List.{All}
 use Rattle.std.proofs.Math.Pow.{pow_mono}
 use Rattle.std.proofs.lemmas.Int.{to_z-of_z}
@@ -8,7 +8,8 @@ use Rattle.bern_form.specs.Between.{n_between}
 use Rattle.bern_form.specs.Marks.{held_at_sample}
 use Rattle.bern_form.specs.Slab.{SlabSize}
 use Rattle.cutter_marks.specs.MarkBy.{is_possible_by, is_sure_by}
-use Rattle.wanted_marks.specs.Limits.{IsNoWider, all_not_below_zero, raised_square}
+use Rattle.axis_cells.specs.Exclusion.{squared}
+use Rattle.wanted_marks.specs.Limits.{IsNoWider, all_not_below_zero}
 use Rattle.wanted_marks.proofs.Widest.{all_within}
 use Rattle.wanted_marks.proofs.move_marker.MoveMarker.new.Goals as goal
 
@@ -23,8 +24,8 @@ invariant_of-result c =
     let scale = c.cells_of-scale in let turn = c.of_sweep-turn in let widest = c.greatest_diameter.result in
     let fits : FitsSigned w32 widest = search rules in
     let n_is : turn.result.n.c ≡ n_between m 0 S S = turn.ensures.n_is ∙ ap (λ k. n_between m 0 k k) scale.ensures.cells in
-    let limits : c.limits_of-limits.result ≡ all_not_below_zero (raised_square S widest (n_between m 0 S S)) =
-    (simp to_z-of_z at c.limits_of-limits.ensures) ∙ ap₂ (λ k n. all_not_below_zero (raised_square k widest n)) scale.ensures.cells n_is in
+    let limits : c.limits_of-limits.result ≡ all_not_below_zero (squared (pos S) widest (n_between m 0 S S)) =
+    (simp to_z-of_z at c.limits_of-limits.ensures) ∙ ap₂ (λ k n. all_not_below_zero (squared (pos k) widest n)) scale.ensures.cells n_is in
     record {
       shallow = c.requires;
       valid = valid;

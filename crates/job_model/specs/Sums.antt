@@ -1,0 +1,16 @@
+-- Counts and totals of several parts together.
+use Rattle.std.specs.Prelude.{List, [], ◌∷◌}
+use Rattle.job_facts.specs.declared.counts.Counts.{Counts}
+use Rattle.job_facts.specs.declared.totals.Totals.{Totals}
+use Rattle.job_facts.specs.Counts.{no_counts, plus}
+use Rattle.job_facts.specs.Totals.{no_totals, plus_totals}
+
+-- the counts of all parts together
+abbrev pub sum_counts : List Counts → Counts
+sum_counts [] = no_counts
+sum_counts (counts ∷ rest) = plus counts (sum_counts rest)
+
+-- the totals of all parts together
+abbrev pub sum_totals : List Totals → Totals
+sum_totals [] = no_totals
+sum_totals (totals ∷ rest) = plus_totals totals (sum_totals rest)

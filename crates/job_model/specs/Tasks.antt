@@ -1,0 +1,44 @@
+-- A job as the three files stand for it.
+use Rattle.std.specs.Prelude.{ℕ, ◌<◌, ◌≤◌, Bool, List}
+use Rattle.std.specs.List.{All}
+use Rattle.space.specs.Motion.{IsSweep, Motion}
+use Rattle.cutter_slabs.specs.Cutter.{CutterSize, IsCutter}
+use Rattle.ray_grid.specs.Grids.{GridSize}
+use Rattle.ray_shapes.specs.declared.solid.Solid.{Solid}
+use Rattle.edit_plan.specs.declared.edit.Edit.{Edit}
+use Rattle.edit_plan.specs.declared.query.Query.{Query}
+
+-- a move of the program, with the cutter that it has once the setup's tool fills what is missing
+pub record JobMove : Type 0 where
+  pub motion : Motion
+  pub cutter : CutterSize
+  pub rapid : Bool
+  pub line : ℕ
+
+-- What is cut: the lattice, how finely the cutter and the time are cut, the moves of the program, and the edits.
+pub record PlanOf : Type 0 where
+  pub grid : GridSize
+  pub slabs : ℕ
+  pub depth : ℕ
+  pub moves : List JobMove
+  pub edits : List Edit
+
+-- What is verified: what is cut; the stock, the part (lowered by its tolerance) and the fixtures (raised by their clearance) as
+-- solids; how many records of the program were passed over; and the queries.
+pub record Task : Type 0 where
+  pub plan : PlanOf
+  pub stock : Solid
+  pub part : Solid
+  pub fixture : Solid
+  pub passed : ℕ
+  pub queries : List Query
+
+-- a move is valid
+pub record IsJobMove (move : JobMove) : Type 0 where
+  pub sweep : IsSweep move.motion
+  pub cutter : IsCutter move.cutter
+
+-- the cutter is cut into some slabs, and every move is valid
+pub record IsPlan (plan : PlanOf) : Type 0 where
+  pub some : 0 < plan.slabs
+  pub moves : All IsJobMove plan.moves
