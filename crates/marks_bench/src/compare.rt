@@ -40,23 +40,43 @@ fn compare_words(
     boxes: &[PointBox],
     tally: &mut Tally,
 ) {
-    let mover = MoveMarker::new(&case.sweep, stacks, case.depth);
-    let by_ray = mover.on_ray(&case.grid, case.ray);
-    let strip = mover.on_strip(&case.grid, case.ray.family, case.ray.i);
-    let by_strip = strip.on_ray(case.ray.j);
     tally.rays = tally.rays.wrapping_add(1);
     for n in 0..MOST_WORDS {
-        let first = 64 * n;
-        if first >= case.grid.points(case.ray.family) {
-            return;
-        }
-        let plain = plain_word(case, stacks, first);
-        count_points(case, stacks, &plain, first, tally);
-        count_sets(sets, &plain, first, tally);
-        count_boxes(case, boxes, &plain, first, tally);
-        count_words(&by_ray, &case.grid, &case.ray, &plain, first, tally);
-        count_words(&by_strip, &case.grid, &case.ray, &plain, first, tally);
+        compare_word(case, stacks, sets, boxes, 64 * n, tally);
     }
+}
+
+/// Marks the points from an index on, where the ray has it.
+fn compare_word(
+    case: &Case,
+    stacks: &Stacks,
+    sets: &RayMarks,
+    boxes: &[PointBox],
+    first: u32,
+    tally: &mut Tally,
+)
+    requires few { first ≤ 1000000 }
+{
+    if first >= case.grid.points(case.ray.family) {
+        return;
+    }
+    let plain = plain_word(case, stacks, first);
+    count_points(case, stacks, &plain, first, tally);
+    count_sets(sets, &plain, first, tally);
+    count_boxes(case, boxes, &plain, first, tally);
+    count_markers(case, stacks, &plain, first, tally);
+}
+
+/// Counts what the markers of the ray and of its strip have otherwise.
+fn count_markers(case: &Case, stacks: &Stacks, plain: &Word, first: u32, tally: &mut Tally)
+    requires within { first < points_of case.now.grid case.now.ray.family }
+{
+    let mover = MoveMarker::new(&case.sweep, stacks, case.depth);
+    let by_ray = mover.on_ray(&case.grid, case.ray);
+    count_words(&by_ray, &case.grid, &case.ray, plain, first, tally);
+    let strip = mover.on_strip(&case.grid, case.ray.family, case.ray.i);
+    let by_strip = strip.on_ray(case.ray.j);
+    count_words(&by_strip, &case.grid, &case.ray, plain, first, tally);
 }
 
 /// Counts the points, and what each by itself is marked otherwise.

@@ -44,6 +44,11 @@ fn three(dice: &mut Dice, least: i32, n: i32) -> [i32; 3] {
     ]
 }
 
+/// What is left of a number when another is taken from it as often as it goes.
+fn rest(x: i32, n: i32) -> i32 {
+    x % n.max(1)
+}
+
 /// A number along one of the axes.
 fn along_one(axis: u32, x: i32) -> [i32; 3] {
     match axis {
@@ -66,8 +71,8 @@ fn made_way(dice: &mut Dice) -> [i32; 3] {
 fn made_offset(dice: &mut Dice, cutter: &Cutter, way: &[i32; 3]) -> [i32; 3] {
     let beside = upright_to(way);
     let radius = cutter.d / 2;
-    let some_height = dice.from(0, 300_000) % cutter.h.max(1);
-    let some_radius = dice.from(0, 100_000) % radius.max(1);
+    let some_height = rest(dice.from(0, 300_000), cutter.h);
+    let some_radius = rest(dice.from(0, 100_000), radius);
     let near = dice.from(-2, 5);
     let (height, distance) = match dice.below(6) {
         0 | 1 => (some_height, some_radius),

@@ -1,5 +1,3 @@
-ghost use Rattle.std.specs.Prelude.{pos, ◌≤ℤ◌};
-
 /// Sums that are too large for what is read wrap; what is made of them is left out by the tests of moves and grids.
 pub(crate) fn sum(a: &[i32; 3], b: &[i32; 3]) -> [i32; 3] {
     [
@@ -40,9 +38,7 @@ pub(crate) fn upright_to(a: &[i32; 3]) -> [i32; 3] {
 }
 
 /// A hundred times the length of a vector of small components, rounded up.
-fn hundred_lengths(a: &[i32; 3]) -> i32
-    ensures { pos 1 ≤ℤ result }
-{
+fn hundred_lengths(a: &[i32; 3]) -> i32 {
     let whole = square(a[0])
         .wrapping_add(square(a[1]))
         .wrapping_add(square(a[2]));
@@ -59,10 +55,8 @@ fn square(n: i32) -> i32 {
 }
 
 /// A part of a length, taken times a component.
-fn portion(component: i32, length: i32, hundreds: i32) -> i32
-    requires { pos 1 ≤ℤ hundreds }
-{
-    component.wrapping_mul(length).wrapping_mul(100) / hundreds
+fn portion(component: i32, length: i32, hundreds: i32) -> i32 {
+    component.wrapping_mul(length).wrapping_mul(100) / hundreds.max(1)
 }
 
 /// The vector of a length along another of small components.
