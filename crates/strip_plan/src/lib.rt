@@ -1,0 +1,9 @@
+//! The moves of a job made ready for strips: their stacks, and the boxes outside of which none is possible.
+#![tactic(auto)]
+
+mod cutters;
+mod plan;
+mod plan_move;
+
+pub use plan::Plan;
+pub use plan_move::PlanMove;
