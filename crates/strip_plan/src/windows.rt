@@ -1,4 +1,5 @@
-ghost use Rattle.std.specs.Prelude.{◌≡◌, ℕ, ◌<◌, ◌≤◌, ◌⊎◌, ◌&&◌, IsTrue, List, ℤ, int_le, length, true};
+ghost use Rattle.std.specs.Prelude.{◌≡◌, ℕ, ◌<◌, ◌≤◌, ◌&&◌, Some, int_le, length, slice_get};
+ghost use Rattle.ray_grid.specs.declared.ray.Ray.{Ray};
 ghost use Rattle.space.specs.Vectors.{at};
 ghost use Rattle.ray_grid.specs.Lattice.{IsRay, point_of, points_of};
 ghost use Rattle.ray_grid.specs.Strips.{strip_at, strips_of};
@@ -61,6 +62,36 @@ pub(crate) fn boxes_window(grid: &Grid, ray: &Ray, boxes: &[PointBox], start: us
     let mut window = (0, 0);
     for place in start..end {
         window = hull(window, box_window(grid, ray, &boxes[place]));
+    }
+    window
+}
+
+/// From the one to the other number stand the rays of a strip with a point that a box holds.
+fn box_strip_window(grid: &Grid, strip: u32, held: &PointBox) -> (u32, u32)
+    requires { strip < length (strips_of grid.now) }
+    ensures order { result.0 ≤ result.1 }
+    ensures within { result.1 ≤ length (strip_at grid.now strip) }
+    ensures holds { (n : ℕ) (ray : Ray) (l : ℕ) → slice_get (strip_at grid.now strip) n ≡ Some ray
+        → l < points_of grid.now ray.family → IsInBox held.now (point_of grid.now ray l) → IsFrom result.0 result.1 n }
+{
+    if !has_place(held) {
+        return (0, 0);
+    }
+    grid.strip_window(strip, held.low, held.high, 0)
+}
+
+/// The same of the boxes from a place on and ahead of another.
+pub(crate) fn boxes_strip_window(grid: &Grid, strip: u32, boxes: &[PointBox], start: usize, end: usize) -> (u32, u32)
+    requires strip { strip < length (strips_of grid.now) }
+    requires end { end ≤ length boxes.now }
+    ensures order { result.0 ≤ result.1 }
+    ensures within { result.1 ≤ length (strip_at grid.now strip) }
+    ensures holds { (n : ℕ) (ray : Ray) (l : ℕ) → slice_get (strip_at grid.now strip) n ≡ Some ray
+        → l < points_of grid.now ray.family → IsInOneOf boxes.now start end (point_of grid.now ray l) → IsFrom result.0 result.1 n }
+{
+    let mut window = (0, 0);
+    for place in start..end {
+        window = hull(window, box_strip_window(grid, strip, &boxes[place]));
     }
     window
 }
