@@ -1,11 +1,10 @@
 -- The boxes of moves, one move more at a time.
-use Rattle.std.proofs.Common.{◌≡◌, ◌∙◌, true, ℕ, ◌+◌, ◌^◌, ◌<◌, ◌≤◌, List, [], ◌∷◌, ◌++◌, Some, ⊎_elim, length, take, slice_get, slice_index, get_or, ℤ, arith, ap, refl, subst, sym}
+use Rattle.std.proofs.Common.{◌≡◌, ◌∙◌, true, ℕ, ◌+◌, ◌^◌, ◌<◌, ◌≤◌, List, [], ◌∷◌, ◌++◌, ⊎_elim, length, take, slice_index, get_or, ℤ, arith, ap, refl, subst, sym}
 use Rattle.std.specs.Prelude.{Result, Ok, Err, OnOk}
 use Rattle.std.proofs.lemmas.Bool.{cases_lt}
 use Rattle.std.proofs.lemmas.List.{get_or_append_left, length-append}
 use Rattle.std.proofs.lemmas.Option.{get_or_from_slice_get}
 use Rattle.std.proofs.Math.Seq.{get_or-append_seam}
-use Rattle.space.specs.Motion.{Motion}
 use Rattle.cutter_marks.specs.MarkBy.{is_possible_by}
 use Rattle.ray_grid.specs.Grids.{GridSize}
 use Rattle.ray_grid.specs.declared.ray.Ray.{Ray}
@@ -14,8 +13,7 @@ use Rattle.sweep_boxes.specs.declared.point_box.PointBox.{PointBox}
 use Rattle.sweep_boxes.specs.Boxes.{IsInBox}
 use Rattle.sweep_boxes.specs.Covers.{IsInSome}
 use Rattle.job_model.specs.Tasks.{JobMove}
-use Rattle.cutter_slabs.specs.Stacks.{StacksOf}
-use Rattle.strip_plan.specs.Boxed.{Covers, HasBoxes, IsInOneOf, IsMetAt}
+use Rattle.strip_plan.specs.Boxed.{HasBoxes, IsInOneOf}
 use Rattle.strip_plan.proofs.Places.{longer, same_at}
 
 -- what is so of each point after an Ok is so of all

@@ -1,8 +1,8 @@
 -- Where the points of a grid lie along each axis.
-use Rattle.std.proofs.Common.{◌≡◌, ◌∙◌, ℕ, suc, zero, ◌+◌, ◌-◌, ◌*◌, ◌/◌, ◌%◌, ◌<◌, ◌≤◌, List, ℤ, pos, ◌+ℤ◌, ◌-ℤ◌, ◌*ℤ◌, ◌≤ℤ◌, unsigned_abs, arith, ap, sym, subst}
+use Rattle.std.proofs.Common.{◌≡◌, ◌∙◌, ℕ, ◌-◌, ◌*◌, ◌<◌, ◌≤◌, List, ℤ, pos, ◌+ℤ◌, ◌-ℤ◌, ◌≤ℤ◌, unsigned_abs, arith, ap, sym, subst}
 use Rattle.std.proofs.lemmas.Int.{ints}
 use Rattle.std.proofs.Math.Nat.{mul-le-mul}
-use Rattle.space.specs.Ranges.{IsBetween, IsWithin, metre}
+use Rattle.space.specs.Ranges.{IsBetween}
 use Rattle.space.specs.Vectors.{at}
 use Rattle.ray_grid.specs.Grids.{GridSize}
 use Rattle.ray_grid.specs.declared.ray.Ray.{Ray}
@@ -43,7 +43,7 @@ node_between g axis n is three lt =
     let here = times_is n g.pitch one in
     let last = times_is (c * per_node g - 1) g.step a in
     let far : (pos 1000000 -ℤ pos ((c * per_node g - 1) * s) +ℤ pos (n * p)) ≤ℤ pos 1000000 = node_within (pos 1000000 -ℤ pos ((c * per_node g - 1) * s)) p s c n
-        (omega (arith, ints, a)) (omega (arith, ints, one, a, b)) is.divides lt (omega (arith, ints)) in
+    (omega (arith, ints, a)) (omega (arith, ints, one, a, b)) is.divides lt (omega (arith, ints)) in
     record { from_least = rw here (omega (arith, ints)); to_most = rw (here, last) (omega (arith, ints, far)) }
 
 -- the last place on an axis

@@ -1,10 +1,10 @@
 -- What marks by a move of a plan.
-use Rattle.std.proofs.Common.{◌≡◌, ◌∙◌, ℕ, ◌<◌, List, Some, length, slice_get, slice_index, get_or, arith, ap, refl, subst, sym}
+use Rattle.std.proofs.Common.{◌≡◌, ◌∙◌, ℕ, ◌<◌, List, Some, length, slice_get, slice_index, get_or, arith, ap, refl}
 use Rattle.std.proofs.lemmas.Grind.{get_or_default_zero}
 use Rattle.std.proofs.lemmas.Option.{get_or_from_slice_get, slice_get_read}
 use Rattle.space.specs.Motion.{Motion}
 use Rattle.cutter_slabs.specs.Stacks.{StacksOf}
-use Rattle.wanted_marks.specs.Rays.{MoveOf, move_of}
+use Rattle.wanted_marks.specs.Rays.{move_of}
 use Rattle.job_model.specs.Tasks.{JobMove, PlanOf}
 use Rattle.strip_plan.specs.Cutters.{HasStacks}
 use Rattle.strip_plan.specs.Plans.{HasNumber, move_in}

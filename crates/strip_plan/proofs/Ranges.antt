@@ -1,5 +1,5 @@
 -- What a box holds, by the tests of reach.
-use Rattle.std.proofs.Common.{◌≡◌, true, ◌&&◌, ℕ, ◌<◌, List, ℤ, pos, ◌≤ℤ◌, IsTrue, arith, refl}
+use Rattle.std.proofs.Common.{◌≡◌, true, ◌&&◌, List, ℤ, pos, ◌≤ℤ◌, IsTrue, arith, refl}
 use Rattle.std.specs.Prelude.{int_le}
 use Rattle.std.proofs.lemmas.Int.{ints}
 use Rattle.space.specs.Reach.{is_in_reach, is_near}

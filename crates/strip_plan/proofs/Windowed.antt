@@ -1,8 +1,8 @@
 -- The boxes of a move hold the points of a ray, and the rays of a strip, at which it is possible.
-use Rattle.std.proofs.Common.{◌≡◌, ◌∙◌, true, ℕ, ◌+◌, ◌<◌, ◌≤◌, List, Some, length, slice_get, slice_index, get_or, arith, ap, refl, subst, sym}
+use Rattle.std.proofs.Common.{◌≡◌, ◌∙◌, ℕ, ◌+◌, ◌<◌, ◌≤◌, List, length, slice_index, get_or, arith, refl, subst, sym}
 use Rattle.std.proofs.lemmas.Grind.{get_or_default_zero}
 use Rattle.ray_grid.specs.declared.ray.Ray.{Ray}
-use Rattle.ray_grid.specs.Lattice.{point_of, points_of}
+use Rattle.ray_grid.specs.Lattice.{point_of}
 use Rattle.sweep_boxes.specs.declared.point_box.PointBox.{PointBox}
 use Rattle.job_model.specs.Tasks.{JobMove, PlanOf}
 use Rattle.strip_plan.specs.Boxed.{HasBoxes, IsInOneOf}

@@ -57,7 +57,13 @@ pub(crate) fn boxes_of(
     for n in 0..moves.len() {
         let next = &moves[n];
         let place = cutters.places[n];
-        push_move(&mut boxes, &next.sweep, &cutters.stacks[place], depth, &region)?;
+        push_move(
+            &mut boxes,
+            &next.sweep,
+            &cutters.stacks[place],
+            depth,
+            &region,
+        )?;
         starts.push(boxes.len())?;
     }
     Ok(Boxes { boxes, starts })

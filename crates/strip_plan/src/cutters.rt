@@ -47,7 +47,12 @@ fn stand_at(stacks: &[Stacks], place: usize, cutter: Cutter, slabs: u32) -> bool
 
 /// The place where the stacks of a cutter stand, if they are there. The map tells where to look; that they are the cutter's own is
 /// looked at, so nothing rests on the map.
-fn known_place(places: &BTreeMap<Key, usize>, stacks: &[Stacks], cutter: Cutter, slabs: u32) -> Option<usize>
+fn known_place(
+    places: &BTreeMap<Key, usize>,
+    stacks: &[Stacks],
+    cutter: Cutter,
+    slabs: u32,
+) -> Option<usize>
     requires { All (HasSlabs slabs) stacks.now }
     ensures { IfSome result (IsPlaceOf stacks.now cutter slabs) }
 {

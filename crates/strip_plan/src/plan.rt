@@ -123,7 +123,11 @@ impl Plan {
         ensures { (move : JobMove) → HasNumber self.now number move → result ≡ move_in self.now move }
     {
         let place = self.cutters.places[number as usize];
-        MoveMarker::new(&self.moves[number as usize].sweep, &self.cutters.stacks[place], self.depth)
+        MoveMarker::new(
+            &self.moves[number as usize].sweep,
+            &self.cutters.stacks[place],
+            self.depth,
+        )
     }
 
     /// From the one index of a ray to the other lie all at which a move is possible. The second is excluded.

@@ -51,7 +51,13 @@ fn box_window(grid: &Grid, ray: &Ray, held: &PointBox) -> (u32, u32)
 }
 
 /// The same of the boxes from a place on and ahead of another.
-pub(crate) fn boxes_window(grid: &Grid, ray: &Ray, boxes: &[PointBox], start: usize, end: usize) -> (u32, u32)
+pub(crate) fn boxes_window(
+    grid: &Grid,
+    ray: &Ray,
+    boxes: &[PointBox],
+    start: usize,
+    end: usize,
+) -> (u32, u32)
     requires ray { IsRay grid.now ray.now }
     requires end { end ≤ length boxes.now }
     ensures order { result.0 ≤ result.1 }
@@ -81,7 +87,13 @@ fn box_strip_window(grid: &Grid, strip: u32, held: &PointBox) -> (u32, u32)
 }
 
 /// The same of the boxes from a place on and ahead of another.
-pub(crate) fn boxes_strip_window(grid: &Grid, strip: u32, boxes: &[PointBox], start: usize, end: usize) -> (u32, u32)
+pub(crate) fn boxes_strip_window(
+    grid: &Grid,
+    strip: u32,
+    boxes: &[PointBox],
+    start: usize,
+    end: usize,
+) -> (u32, u32)
     requires strip { strip < length (strips_of grid.now) }
     requires end { end ≤ length boxes.now }
     ensures order { result.0 ≤ result.1 }

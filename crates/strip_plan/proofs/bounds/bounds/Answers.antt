@@ -1,4 +1,4 @@
-use Rattle.std.proofs.Common.{◌≡◌, ◌∙◌, ap, refl, rules, w32, FitsSigned, List, ℤ}
+use Rattle.std.proofs.Common.{◌∙◌, ap, refl, rules, w32, FitsSigned, List, ℤ}
 use Rattle.std.proofs.lemmas.Int.{to_z-of_z}
 use Rattle.space.specs.Vectors.{at}
 use Rattle.strip_plan.proofs.Extents.{in_bounds}

@@ -1,4 +1,4 @@
-use Rattle.std.proofs.Common.{◌≡◌, true, ◌^◌, List, ℤ, length}
+use Rattle.std.proofs.Common.{◌≡◌, true, ◌^◌, length}
 use Rattle.cutter_marks.specs.MarkBy.{is_possible_by}
 use Rattle.sweep_boxes.specs.Boxes.{IsInBox}
 use Rattle.sweep_boxes.specs.Covers.{IsInSome}

@@ -1,4 +1,4 @@
-use Rattle.std.proofs.Common.{◌≡◌, Option, IsSomeAnd, pos, subst, sym}
+use Rattle.std.proofs.Common.{Option, IsSomeAnd, pos, subst, sym}
 use Rattle.ray_grid.specs.declared.ray.Ray.{Ray}
 use Rattle.ray_grid.specs.Lattice.{point_of}
 use Rattle.ray_grid.specs.Reach.{Enters}
