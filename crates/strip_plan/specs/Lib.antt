@@ -1,0 +1,4 @@
+pub mod Plans
+pub mod Cutters
+pub mod Boxed
+pub mod Windows

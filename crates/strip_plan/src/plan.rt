@@ -1,0 +1,159 @@
+ghost use Rattle.std.specs.Prelude.{◌≡◌, ◌<◌, ◌≤◌, All, Some, IfOk, length, slice_get};
+ghost use Rattle.edit_plan.specs.Edits.{AppliesBelow};
+ghost use Rattle.edit_plan.specs.Limits.{most_edits, most_script_moves};
+ghost use Rattle.ray_grid.specs.Lattice.{IsRay, points_of};
+ghost use Rattle.ray_grid.specs.Strips.{strip_at, strips_of};
+ghost use Rattle.job_model.specs.Tasks.{JobMove};
+ghost use Rattle.strip_plan.specs.Plans.{HasNumber, move_in};
+ghost use Rattle.strip_plan.specs.Windows.{HoldsEntered, HoldsPossible};
+
+use crate::boxes::{Boxes, boxes_of};
+use crate::cutters::{Cutters, cutters_of};
+use crate::plan_move::PlanMove;
+use crate::windows::{boxes_strip_window, boxes_window};
+use edit_plan::{Edit, Edits};
+use ray_grid::{Grid, Ray};
+use std::alloc::Global;
+use std::marker::Model;
+use vf_io::NoMemory;
+use wanted_marks::MoveMarker;
+
+/// A plan, ready for strips. It is seen as the grid, the slabs, the depth, the moves and the edits that it was made of.
+#[derive(Drop)]
+pub struct Plan {
+    grid: Grid,
+    depth: u32,
+    moves: Vec<PlanMove>,
+    edits: Edits,
+    cutters: Cutters,
+    boxes: Boxes,
+}
+
+impl Model for Plan {
+    ghost use Rattle.std.specs.Prelude.{◌≤◌, All, length};
+    ghost use Rattle.edit_plan.specs.Edits.{AppliesBelow};
+    ghost use Rattle.edit_plan.specs.Limits.{most_edits, most_script_moves};
+    ghost use Rattle.job_model.specs.Tasks.{PlanOf};
+    ghost use Rattle.strip_plan.specs.Boxed.{HasBoxes};
+    ghost use Rattle.strip_plan.specs.Cutters.{HasStacks};
+
+    ghost Value = { PlanOf };
+
+    ghost view = { λ p. record { grid = p.grid; slabs = p.cutters.slabs; depth = p.depth; moves = p.moves.items; edits = p.edits } };
+
+    ghost invariant = { λ p. (p.depth ≤ 10) × (length p.moves.items ≤ most_script_moves) × (length p.edits ≤ most_edits)
+        × All (AppliesBelow (length p.moves.items)) p.edits
+        × HasStacks p.cutters.slabs p.moves.items p.cutters.stacks.items p.cutters.places.items (length p.moves.items)
+        × HasBoxes p.grid p.cutters.slabs p.depth p.moves.items p.boxes.boxes.items p.boxes.starts.items (length p.moves.items) };
+}
+
+impl Plan {
+    /// The plan of moves, for cutters in `slabs` and times in 2^`depth` cells. Fails only for want of memory.
+    pub fn new(
+        alloc: Global,
+        grid: Grid,
+        slabs: u32,
+        depth: u32,
+        moves: Vec<PlanMove>,
+        edits: Edits,
+    ) -> Result<Plan, NoMemory>
+        requires some { 1 ≤ slabs }
+        requires few { slabs ≤ 256 }
+        requires shallow { depth ≤ 10 }
+        requires few_moves { length moves.items ≤ most_script_moves }
+        requires few_edits { length edits ≤ most_edits }
+        requires named { All (AppliesBelow (length moves.items)) edits }
+        ensures { IfOk result (λ plan. plan ≡ record { grid = grid; slabs = slabs; depth = depth; moves = moves.items; edits = edits }) }
+    {
+        let cutters = cutters_of(alloc, &moves, slabs)?;
+        let boxes = boxes_of(alloc, &grid, depth, &moves, &cutters)?;
+        Ok(Plan {
+            grid,
+            depth,
+            moves,
+            edits,
+            cutters,
+            boxes,
+        })
+    }
+
+    /// The lattice.
+    pub fn grid(&self) -> &Grid
+        ensures { result.now ≡ self.now.grid }
+    {
+        &self.grid
+    }
+
+    /// How many moves the program has.
+    pub fn moves(&self) -> u32
+        ensures count { result ≡ length self.now.moves }
+        ensures few { result ≤ most_script_moves }
+    {
+        self.moves.len() as u32
+    }
+
+    /// How many edits there are.
+    pub fn edits(&self) -> u32
+        ensures count { result ≡ length self.now.edits }
+        ensures few { result ≤ most_edits }
+    {
+        self.edits.len() as u32
+    }
+
+    /// The edit that follows a version. The move that it applies is one of the plan's.
+    pub fn edit(&self, version: u32) -> Edit
+        requires { version < length self.now.edits }
+        ensures edit { slice_get self.now.edits version ≡ Some result }
+        ensures named { AppliesBelow (length self.now.moves) result }
+    {
+        self.edits.as_slice()[version as usize]
+    }
+
+    /// Whether a move is in rapid motion.
+    pub fn is_rapid(&self, number: u32) -> bool
+        requires { number < length self.now.moves }
+        ensures { (move : JobMove) → HasNumber self.now number move → result ≡ move.rapid }
+    {
+        self.moves[number as usize].rapid
+    }
+
+    /// What marks the points of rays by a move.
+    pub fn marker(&self, number: u32) -> MoveMarker<'_>
+        requires { number < length self.now.moves }
+        ensures { (move : JobMove) → HasNumber self.now number move → result ≡ move_in self.now move }
+    {
+        let place = self.cutters.places[number as usize];
+        MoveMarker::new(
+            &self.moves[number as usize].sweep,
+            &self.cutters.stacks[place],
+            self.depth,
+        )
+    }
+
+    /// From the one index of a ray to the other lie all at which a move is possible. The second is excluded.
+    pub fn ray_window(&self, number: u32, ray: &Ray) -> (u32, u32)
+        requires number { number < length self.now.moves }
+        requires ray { IsRay self.now.grid ray.now }
+        ensures order { result.0 ≤ result.1 }
+        ensures within { result.1 ≤ points_of self.now.grid ray.now.family }
+        ensures holds { (move : JobMove) → HasNumber self.now number move → HoldsPossible self.now move ray.now result.0 result.1 }
+    {
+        let start = self.boxes.starts[number as usize];
+        let end = self.boxes.starts[number as usize + 1];
+        boxes_window(&self.grid, ray, &self.boxes.boxes, start, end)
+    }
+
+    /// From the one number of a strip's rays to the other stand all with a point at which a move is possible. The second is
+    /// excluded; the two are equal where the move's boxes leave the strip alone.
+    pub fn strip_window(&self, number: u32, strip: u32) -> (u32, u32)
+        requires number { number < length self.now.moves }
+        requires strip { strip < length (strips_of self.now.grid) }
+        ensures order { result.0 ≤ result.1 }
+        ensures within { result.1 ≤ length (strip_at self.now.grid strip) }
+        ensures holds { (move : JobMove) → HasNumber self.now number move → HoldsEntered self.now move strip result.0 result.1 }
+    {
+        let start = self.boxes.starts[number as usize];
+        let end = self.boxes.starts[number as usize + 1];
+        boxes_strip_window(&self.grid, strip, &self.boxes.boxes, start, end)
+    }
+}
