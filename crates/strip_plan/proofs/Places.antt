@@ -7,7 +7,7 @@ use Rattle.std.proofs.Math.Seq.{get_or-append_seam}
 use Rattle.cutter_slabs.specs.Cutter.{CutterSize}
 use Rattle.cutter_slabs.specs.Stacks.{StacksOf}
 use Rattle.job_model.specs.Tasks.{JobMove}
-use Rattle.strip_plan.specs.Cutters.{HasStacks, IsPlaceOf}
+use Rattle.strip_plan.specs.Cutters.{HasStacks, IsStackPlace}
 
 -- what is kept of a list has its place in a longer one
 pub longer : {X : Type 0} → (xs ys : List X) → take (length xs) ys ≡ xs → length xs ≤ length ys
@@ -18,7 +18,7 @@ same_at xs ys i d kept l = sym (get_or-take (length xs) ys i d l) ∙ ap (λ zs.
 
 -- a place of stacks stays one when more are made
 pub still_place : (stacks more : List StacksOf) (cutter : CutterSize) (slabs place : ℕ) → take (length stacks) more ≡ stacks
-    → IsPlaceOf stacks cutter slabs place → IsPlaceOf more cutter slabs place
+    → IsStackPlace stacks cutter slabs place → IsStackPlace more cutter slabs place
 still_place stacks more cutter slabs place kept is = record {
   within = let w = is.within in let m = longer stacks more kept in omega (arith, w, m);
   there = λ d. same_at stacks more place d kept is.within ∙ is.there d;
@@ -27,20 +27,20 @@ still_place stacks more cutter slabs place kept is = record {
 -- the place of one more move
 pub one_more : (slabs : ℕ) (moves : List JobMove) (stacks more : List StacksOf) (places : List ℕ) (count : ℕ) (next : JobMove) (place : ℕ)
     → HasStacks slabs moves stacks places count → take (length stacks) more ≡ stacks → next ≡ get_or moves count next
-    → IsPlaceOf more next.cutter slabs place → HasStacks slabs moves more (places ++ place ∷ []) (count + 1)
+    → IsStackPlace more next.cutter slabs place → HasStacks slabs moves more (places ++ place ∷ []) (count + 1)
 one_more slabs moves stacks more places count next place has kept read is =
     let many = has.many in record {
       many = omega (arith, length-append places (place ∷ []), many);
       each = λ n move l at.
           ⊎_elim
           (λ less.
-          subst (IsPlaceOf more move.cutter slabs) (sym (get_or_append_left places (place ∷ []) 0 n (omega (arith, less, many))))
+          subst (IsStackPlace more move.cutter slabs) (sym (get_or_append_left places (place ∷ []) 0 n (omega (arith, less, many))))
           (still_place stacks more move.cutter slabs (slice_index places n) kept (has.each n move less at)))
           (λ most.
           let e : n ≡ length places = omega (arith, l, most, many) in
           let e2 : n ≡ count = omega (arith, l, most) in
           let same : next ≡ move = read ∙ ap (λ i. get_or moves i next) (sym e2) ∙ get_or_from_slice_get moves n move next at in
           let last : get_or (places ++ place ∷ []) n 0 ≡ place = ap (λ i. get_or (places ++ place ∷ []) i 0) e ∙ get_or-append_seam places place [] 0 in
-          subst (IsPlaceOf more move.cutter slabs) (sym last) (subst (λ (m : JobMove). IsPlaceOf more m.cutter slabs place) same is))
+          subst (IsStackPlace more move.cutter slabs) (sym last) (subst (λ (m : JobMove). IsStackPlace more m.cutter slabs place) same is))
           (cases_lt n count);
     }

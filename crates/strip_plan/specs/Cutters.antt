@@ -9,11 +9,11 @@ abbrev pub HasSlabs : ℕ → StacksOf → Type 0
 HasSlabs slabs stacks = stacks.slabs ≡ slabs
 
 -- at the place stand the stacks of a cutter
-pub record IsPlaceOf (stacks : List StacksOf) (cutter : CutterSize) (slabs place : ℕ) : Type 0 where
+pub record IsStackPlace (stacks : List StacksOf) (cutter : CutterSize) (slabs place : ℕ) : Type 0 where
   pub within : place < length stacks
   pub there : (d : StacksOf) → slice_index_or stacks place d ≡ record { cutter = cutter; slabs = slabs }
 
 -- each of the first so many moves has a place, and there the stacks of its cutter stand
 pub record HasStacks (slabs : ℕ) (moves : List JobMove) (stacks : List StacksOf) (places : List ℕ) (count : ℕ) : Type 0 where
   pub many : length places ≡ count
-  pub each : (n : ℕ) (move : JobMove) → n < count → slice_get moves n ≡ Some move → IsPlaceOf stacks move.cutter slabs (slice_index places n)
+  pub each : (n : ℕ) (move : JobMove) → n < count → slice_get moves n ≡ Some move → IsStackPlace stacks move.cutter slabs (slice_index places n)

@@ -1,6 +1,6 @@
 ghost use Rattle.std.specs.Prelude.{◌≡◌, ◌≤◌, IsTrue, IfOk, OnOk, All, length, take};
 ghost use Rattle.std.specs.Option.{IfSome};
-ghost use Rattle.strip_plan.specs.Cutters.{HasSlabs, HasStacks, IsPlaceOf};
+ghost use Rattle.strip_plan.specs.Cutters.{HasSlabs, HasStacks, IsStackPlace};
 
 use crate::plan_move::PlanMove;
 use cutter_slabs::{Cutter, Stacks};
@@ -37,7 +37,7 @@ fn key_of(cutter: Cutter) -> Key {
 /// Whether the stacks at a place are those of a cutter.
 fn stand_at(stacks: &[Stacks], place: usize, cutter: Cutter, slabs: u32) -> bool
     requires { All (HasSlabs slabs) stacks.now }
-    ensures { IsTrue result → IsPlaceOf stacks.now cutter slabs place }
+    ensures { IsTrue result → IsStackPlace stacks.now cutter slabs place }
 {
     if place >= stacks.len() {
         return false;
@@ -54,7 +54,7 @@ fn known_place(
     slabs: u32,
 ) -> Option<usize>
     requires { All (HasSlabs slabs) stacks.now }
-    ensures { IfSome result (IsPlaceOf stacks.now cutter slabs) }
+    ensures { IfSome result (IsStackPlace stacks.now cutter slabs) }
 {
     let place = *places.get(&key_of(cutter))?;
     if stand_at(stacks, place, cutter, slabs) {
@@ -77,7 +77,7 @@ fn place_of(
     requires all { All (HasSlabs slabs) stacks.old.items }
     ensures all { OnOk result (All (HasSlabs slabs) stacks.new.items) }
     ensures kept { OnOk result (take (length stacks.old.items) stacks.new.items ≡ stacks.old.items) }
-    ensures place { IfOk result (IsPlaceOf stacks.new.items cutter slabs) }
+    ensures place { IfOk result (IsStackPlace stacks.new.items cutter slabs) }
 {
     if let Some(place) = known_place(places, stacks, cutter, slabs) {
         return Ok(place);

@@ -1,6 +1,6 @@
 use Rattle.std.proofs.Common.{List, ℕ, ◌+◌, subst, sym}
 use Rattle.job_model.specs.Tasks.{JobMove}
-use Rattle.strip_plan.specs.Cutters.{HasStacks, IsPlaceOf}
+use Rattle.strip_plan.specs.Cutters.{HasStacks, IsStackPlace}
 use Rattle.strip_plan.proofs.Places.{one_more}
 use Rattle.strip_plan.proofs.cutters.cutters_of.Goals as goal
 
@@ -8,7 +8,7 @@ pub loop-next-preserved : goal.loop-next-preserved
 loop-next-preserved c =
     let next = c.next-item.result in
     let place = c.in_ok-place.place in
-    let here = subst (λ (m : JobMove). IsPlaceOf c.place_of.new.stacks.items m.cutter c.args.slabs place) c.next.view_is c.in_ok-place.ensures.place in
+    let here = subst (λ (m : JobMove). IsStackPlace c.place_of.new.stacks.items m.cutter c.args.slabs place) c.next.view_is c.in_ok-place.ensures.place in
     let more = one_more c.args.slabs c.args.moves.now c.loop-next.stacks.items c.place_of.new.stacks.items c.loop-next.places.items c.loop-next.next-index next place
     c.loop-next.invariant.1 c.in_ok-place.ensures.kept c.next-item.is here in (
       c.in_ok-place.ensures.all,
