@@ -4,6 +4,7 @@ ghost use Rattle.ray_grid.specs.Lattice.{points_of};
 use crate::case::Case;
 use crate::sets::{boxes_of, sets_of};
 use crate::tally::{Tally, with_bits, with_differences};
+use crate::word_sets::{WordSets, word_sets_of};
 use crate::words::{Word, box_word, plain_word, point_word, set_word, wanted_word};
 use box_bisect::RayMarks;
 use cutter_slabs::Stacks;
@@ -27,8 +28,9 @@ const MOST_WORDS: u32 = 6_250;
 pub(crate) fn compare(alloc: Global, case: &Case, tally: &mut Tally) -> Result<(), NoMemory> {
     let stacks = Stacks::new(alloc, case.cutter, case.slabs)?;
     let sets = sets_of(alloc, case, &stacks)?;
+    let word_sets = word_sets_of(alloc, case, &stacks, !EACH_THIRD, EACH_OTHER)?;
     let boxes = boxes_of(alloc, case, &stacks)?;
-    compare_words(case, &stacks, &sets, boxes.as_slice(), tally);
+    compare_words(case, &stacks, &sets, &word_sets, boxes.as_slice(), tally);
     Ok(())
 }
 
@@ -37,12 +39,13 @@ fn compare_words(
     case: &Case,
     stacks: &Stacks,
     sets: &RayMarks,
+    word_sets: &WordSets,
     boxes: &[PointBox],
     tally: &mut Tally,
 ) {
     tally.rays = tally.rays.wrapping_add(1);
     for n in 0..MOST_WORDS {
-        compare_word(case, stacks, sets, boxes, 64 * n, tally);
+        compare_word(case, stacks, sets, word_sets, boxes, 64 * n, tally);
     }
 }
 
@@ -51,6 +54,7 @@ fn compare_word(
     case: &Case,
     stacks: &Stacks,
     sets: &RayMarks,
+    word_sets: &WordSets,
     boxes: &[PointBox],
     first: u32,
     tally: &mut Tally,
@@ -63,6 +67,7 @@ fn compare_word(
     let plain = plain_word(case, stacks, first);
     count_points(case, stacks, &plain, first, tally);
     count_sets(sets, &plain, first, tally);
+    count_word_sets(word_sets, &plain, first, tally);
     count_boxes(case, boxes, &plain, first, tally);
     count_markers(case, stacks, &plain, first, tally);
 }
@@ -102,6 +107,20 @@ fn count_sets(sets: &RayMarks, plain: &Word, first: u32, tally: &mut Tally)
     let word = set_word(sets, first);
     tally.of_sets = with_differences(tally.of_sets, plain.sure, word.sure);
     tally.of_sets = with_differences(tally.of_sets, plain.possible, word.possible);
+}
+
+/// Counts what the sets made word by word have otherwise.
+fn count_word_sets(sets: &WordSets, plain: &Word, first: u32, tally: &mut Tally)
+    requires { first ≤ 1000000 }
+{
+    count_told(plain, &sets.word(first), !EACH_THIRD, EACH_OTHER, tally);
+}
+
+/// Counts what the marks of a word have otherwise than the plain ones of the wanted points.
+fn count_told(plain: &Word, marks: &Word, wanted: u64, sure_only: u64, tally: &mut Tally) {
+    let told = plain.possible & !sure_only | plain.sure & sure_only;
+    tally.of_words = with_differences(tally.of_words, plain.sure & wanted, marks.sure);
+    tally.of_words = with_differences(tally.of_words, told & wanted, marks.possible);
 }
 
 /// Counts the points in boxes, and the possible ones outside of them.
@@ -160,7 +179,9 @@ fn count_wanted(
 {
     let wanted = wanted_word(grid, ray.family, first, pattern);
     let marks = marker.mark(first, wanted, sure_only);
-    let told = plain.possible & !sure_only | plain.sure & sure_only;
-    tally.of_words = with_differences(tally.of_words, plain.sure & wanted, marks.sure);
-    tally.of_words = with_differences(tally.of_words, told & wanted, marks.possible);
+    let word = Word {
+        sure: marks.sure,
+        possible: marks.possible,
+    };
+    count_told(plain, &word, wanted, sure_only, tally);
 }

@@ -17,6 +17,7 @@ mod report;
 mod sets;
 mod tally;
 mod vector;
+mod word_sets;
 mod words;
 
 use crate::report::report_of;

@@ -8,7 +8,7 @@ use std::alloc::Global;
 use vf_io::NoMemory;
 
 /// How many rays are made.
-const RAYS: u32 = 400;
+const RAYS: u32 = 2_000;
 
 /// What is marked of a worked job at a depth.
 #[derive(Clone, Copy)]

@@ -19,7 +19,7 @@ pub(crate) struct Word {
 }
 
 impl Word {
-    const NONE: Word = Word {
+    pub(crate) const NONE: Word = Word {
         sure: 0,
         possible: 0,
     };
