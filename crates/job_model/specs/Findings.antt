@@ -32,4 +32,5 @@ found_by task ahead number move = record {
 abbrev pub found_from : Task → List ℕ → List ℕ → List Found
 found_from task ahead [] = []
 found_from task ahead (number ∷ numbers) =
-    map (found_by task (moves_of task.plan ahead) number) (take 1 (drop number task.plan.moves)) ++ found_from task (ahead ++ number ∷ []) numbers
+    map (found_by task (moves_of task.plan ahead) number) (take 1 (drop number task.plan.moves))
+      ++ found_from task (ahead ++ number ∷ []) numbers

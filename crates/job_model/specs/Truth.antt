@@ -29,7 +29,8 @@ pub record SomeMeets (moves : List JobMove) (point : LatticePoint) : Type 0 wher
 pub record IsTrueOfPoints (task : Task) : Type 0 where
   pub removed : (version : ℕ) (point : LatticePoint) → state_after task (left_moves task.plan version) point ≡ Removed
       → SomeMeets (left_moves task.plan version) point
-  pub not_possible : (version : ℕ) (point : LatticePoint) (move : JobMove) → some_possible task.plan (left_moves task.plan version) point ≡ false
+  pub not_possible : (version : ℕ) (point : LatticePoint) (move : JobMove)
+      → some_possible task.plan (left_moves task.plan version) point ≡ false
       → Contains (left_moves task.plan version) move → ¬ UpperMeets move point
 
 -- A move that is found safe behind others meets no point of the part or of a fixture with its upper cutter, and in rapid motion no

@@ -16,4 +16,5 @@ pub record IsStackPlace (stacks : List StacksOf) (cutter : CutterSize) (slabs pl
 -- each of the first so many moves has a place, and there the stacks of its cutter stand
 pub record HasStacks (slabs : ℕ) (moves : List JobMove) (stacks : List StacksOf) (places : List ℕ) (count : ℕ) : Type 0 where
   pub many : length places ≡ count
-  pub each : (n : ℕ) (move : JobMove) → n < count → slice_get moves n ≡ Some move → IsStackPlace stacks move.cutter slabs (slice_index places n)
+  pub each : (n : ℕ) (move : JobMove) → n < count → slice_get moves n ≡ Some move
+      → IsStackPlace stacks move.cutter slabs (slice_index places n)

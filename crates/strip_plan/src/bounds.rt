@@ -23,7 +23,8 @@ fn last_point(grid: &Grid, family: Family) -> [i32; 3]
 pub(crate) fn bounds(grid: &Grid) -> PointBox
     ensures low { IsWithin place_limit result.low }
     ensures high { IsWithin place_limit result.high }
-    ensures holds { (ray : Ray) (l : ℕ) → IsRay grid.now ray → l < points_of grid.now ray.family → IsInBox result (point_of grid.now ray l) }
+    ensures holds { (ray : Ray) (l : ℕ) → IsRay grid.now ray → l < points_of grid.now ray.family
+        → IsInBox result (point_of grid.now ray l) }
 {
     let x = last_point(grid, Family::X);
     let y = last_point(grid, Family::Y);

@@ -48,7 +48,8 @@ pub(crate) fn boxes_of(
 ) -> Result<Boxes, NoMemory>
     requires depth { depth ≤ 10 }
     requires stacks { HasStacks cutters.now.slabs moves.now cutters.now.stacks.items cutters.now.places.items (length moves.now) }
-    ensures { IfOk result (λ made. HasBoxes grid.now cutters.now.slabs depth moves.now made.boxes.items made.starts.items (length moves.now)) }
+    ensures { IfOk result (λ made.
+        HasBoxes grid.now cutters.now.slabs depth moves.now made.boxes.items made.starts.items (length moves.now)) }
 {
     let region = bounds(grid);
     let mut boxes = Vec::new(alloc);
