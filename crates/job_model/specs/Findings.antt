@@ -33,4 +33,4 @@ abbrev pub found_from : Task → List ℕ → List ℕ → List Found
 found_from task ahead [] = []
 found_from task ahead (number ∷ numbers) =
     map (found_by task (moves_of task.plan ahead) number) (take 1 (drop number task.plan.moves))
-      ++ found_from task (ahead ++ number ∷ []) numbers
+    ++ found_from task (ahead ++ number ∷ []) numbers
