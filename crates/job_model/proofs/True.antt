@@ -15,7 +15,7 @@ use Rattle.dexel_rays.specs.Findings.{is_fixture_possible, is_part_possible, is_
 use Rattle.job_facts.specs.declared.totals.PointState.TheVariants.{Absent, Kept, Possible, Removed}
 use Rattle.job_model.specs.Findings.{found_by, seen}
 use Rattle.job_model.specs.Points.{is_fixture, is_part, may_meet, is_stock, is_sure, left_moves, moves_of, some_possible, some_sure}
-use Rattle.job_model.specs.Tasks.{IsJobMove, IsPlan, JobMove, PlanOf, Task}
+use Rattle.job_model.specs.Tasks.{IsJobMove, IsPlan, Job, JobMove, PlanOf}
 use Rattle.job_model.specs.Truth.{IsTrueOfPoints, IsTrueOfSafety, LowerMeets, UpperMeets}
 
 -- a test of some item of a list
@@ -84,16 +84,16 @@ is_removed_by true false true h = cc
 is_removed_by true false false h = cc
 is_removed_by false sure possible h = cc
 
-pub true_of_points : (task : Task) → IsPlan task.plan → IsTrueOfPoints task
-true_of_points task valid = record {
+pub true_of_points : (job : Job) → IsPlan job.plan → IsTrueOfPoints job
+true_of_points job valid = record {
   removed = λ version point state.
-      let left = left_moves task.plan version in
-      let found = some_of (λ move. is_sure task.plan move point) left (is_removed_by (is_stock task point) (some_sure task.plan left point) (some_possible task.plan left point) state) in
-      record { move = found.0; among = found.1; met = sure_met task.plan found.0 point valid.some (of_all IsJobMove left found.0 (moves_valid task.plan (left_at task.plan.edits version) valid.moves) found.1) found.2 };
+      let left = left_moves job.plan version in
+      let found = some_of (λ move. is_sure job.plan move point) left (is_removed_by (is_stock job point) (some_sure job.plan left point) (some_possible job.plan left point) state) in
+      record { move = found.0; among = found.1; met = sure_met job.plan found.0 point valid.some (of_all IsJobMove left found.0 (moves_valid job.plan (left_at job.plan.edits version) valid.moves) found.1) found.2 };
   not_possible = λ version point move none among.
-      let left = left_moves task.plan version in
-      out_not_met task.plan move point valid.some (of_all IsJobMove left move (moves_valid task.plan (left_at task.plan.edits version) valid.moves) among)
-      (subst (λ (m : JobMove). may_meet task.plan m point ≡ false) among.2 (none_of (λ m. may_meet task.plan m point) left among.0 move none among.1));
+      let left = left_moves job.plan version in
+      out_not_met job.plan move point valid.some (of_all IsJobMove left move (moves_valid job.plan (left_at job.plan.edits version) valid.moves) among)
+      (subst (λ (m : JobMove). may_meet job.plan m point ≡ false) among.2 (none_of (λ m. may_meet job.plan m point) left among.0 move none among.1));
 }
 
 -- where a rule counts no point, it names none
@@ -125,20 +125,20 @@ listed : (grid : GridSize) (point : LatticePoint) → IsPointOf grid point → C
 listed grid point of =
     subst (λ (p : List ℤ). Contains (lattice_of grid) record { ray = point.ray; l = point.l; position = p }) (sym of.position) (listed_point grid point.ray point.l of.ray of.index)
 
-pub true_of_safety : (task : Task) → IsPlan task.plan → IsTrueOfSafety task
-true_of_safety task valid = record {
+pub true_of_safety : (job : Job) → IsPlan job.plan → IsTrueOfSafety job
+true_of_safety job valid = record {
   solids = λ ahead number move point among safe of inside.
-      let counts = (found_by task ahead number move).counts in
+      let counts = (found_by job ahead number move).counts in
       let none = all_zero counts.part_possible counts.fix_possible counts.rapid_possible safe in
-      let see = seen task ahead move in let points = lattice_of task.plan.grid in let here = listed task.plan.grid point of in
-      out_not_met task.plan move point valid.some (of_all IsJobMove task.plan.moves move valid.moves among)
-      (in_either (is_part task point) (is_fixture task point) (may_meet task.plan move point) inside
+      let see = seen job ahead move in let points = lattice_of job.plan.grid in let here = listed job.plan.grid point of in
+      out_not_met job.plan move point valid.some (of_all IsJobMove job.plan.moves move valid.moves among)
+      (in_either (is_part job point) (is_fixture job point) (may_meet job.plan move point) inside
       (unnamed (λ p. is_part_possible (see p)) points point none.0 here) (unnamed (λ p. is_fixture_possible (see p)) points point none.1 here));
   stock = λ ahead number move point among safe rapid of stock before.
-      let counts = (found_by task ahead number move).counts in
+      let counts = (found_by job ahead number move).counts in
       let none = all_zero counts.part_possible counts.fix_possible counts.rapid_possible safe in
-      let see = seen task ahead move in let points = lattice_of task.plan.grid in let here = listed task.plan.grid point of in
-      out_not_met task.plan move point valid.some (of_all IsJobMove task.plan.moves move valid.moves among)
-      (rapid_out move.rapid (is_stock task point) (may_meet task.plan move point) (some_sure task.plan ahead point) rapid stock before
+      let see = seen job ahead move in let points = lattice_of job.plan.grid in let here = listed job.plan.grid point of in
+      out_not_met job.plan move point valid.some (of_all IsJobMove job.plan.moves move valid.moves among)
+      (rapid_out move.rapid (is_stock job point) (may_meet job.plan move point) (some_sure job.plan ahead point) rapid stock before
       (unnamed (λ p. is_rapid_possible (see p)) points point none.2 here));
 }

@@ -2,13 +2,17 @@
 use Rattle.std.specs.Prelude.{ℕ, ◌^◌, Bool, ◌&&◌, not, if◌then◌else◌, List, take, drop, count_by}
 use Rattle.std.specs.List.{flat_map, list_any}
 use Rattle.cutter_marks.specs.MarkBy.{is_possible_by, is_sure_by}
-use Rattle.ray_grid.specs.Points.{LatticePoint, lattice_of}
+use Rattle.ray_grid.specs.Grids.{GridSize}
+use Rattle.ray_grid.specs.declared.ray.Ray.{Ray}
+use Rattle.ray_grid.specs.Lattice.{point_of}
+use Rattle.ray_grid.specs.Points.{LatticePoint, lattice_of, points_on}
+use Rattle.ray_grid.specs.Strips.{strip_at}
 use Rattle.ray_shapes.specs.Sets.{in_solid}
 use Rattle.edit_plan.specs.Edits.{left_at}
 use Rattle.job_facts.specs.declared.totals.PointState.{PointState}
 use Rattle.job_facts.specs.declared.totals.PointState.TheVariants.{Absent, Kept, Possible, Removed}
 use Rattle.job_facts.specs.declared.totals.Totals.{Totals}
-use Rattle.job_model.specs.Tasks.{JobMove, PlanOf, Task}
+use Rattle.job_model.specs.Tasks.{Job, JobMove, PlanOf}
 
 -- the moves with these numbers, from 0
 abbrev pub moves_of : PlanOf → List ℕ → List JobMove
@@ -33,25 +37,37 @@ abbrev pub some_possible : PlanOf → List JobMove → LatticePoint → Bool
 some_possible plan moves point = list_any (λ move. may_meet plan move point) moves
 
 -- the point is stock, part or fixture
-abbrev pub is_stock : Task → LatticePoint → Bool
-is_stock task point = in_solid task.stock point.position
+abbrev pub is_stock : Job → LatticePoint → Bool
+is_stock job point = in_solid job.stock point.position
 
-abbrev pub is_part : Task → LatticePoint → Bool
-is_part task point = in_solid task.part point.position
+abbrev pub is_part : Job → LatticePoint → Bool
+is_part job point = in_solid job.part point.position
 
-abbrev pub is_fixture : Task → LatticePoint → Bool
-is_fixture task point = in_solid task.fixture point.position
+abbrev pub is_fixture : Job → LatticePoint → Bool
+is_fixture job point = in_solid job.fixture point.position
 
 -- the state of the point after these moves
-abbrev pub state_after : Task → List JobMove → LatticePoint → PointState
-state_after task moves point =
-    if not (is_stock task point) then Absent
-    else (if some_sure task.plan moves point then Removed else (if some_possible task.plan moves point then Possible else Kept))
+abbrev pub state_after : Job → List JobMove → LatticePoint → PointState
+state_after job moves point =
+    if not (is_stock job point) then Absent
+    else (if some_sure job.plan moves point then Removed else (if some_possible job.plan moves point then Possible else Kept))
 
--- how many stock points these moves remove, how many they may meet, and how many there are
-abbrev pub totals_after : Task → List JobMove → Totals
-totals_after task moves = record {
-  removed = count_by (λ point. is_stock task point && some_sure task.plan moves point) (lattice_of task.plan.grid);
-  possible = count_by (λ point. is_stock task point && some_possible task.plan moves point) (lattice_of task.plan.grid);
-  of = count_by (is_stock task) (lattice_of task.plan.grid);
+-- of these points, how many are stock that the moves remove, how many stock that they may meet, and how many stock
+abbrev pub totals_over : Job → List LatticePoint → List JobMove → Totals
+totals_over job points moves = record {
+  removed = count_by (λ point. is_stock job point && some_sure job.plan moves point) points;
+  possible = count_by (λ point. is_stock job point && some_possible job.plan moves point) points;
+  of = count_by (is_stock job) points;
 }
+
+-- the same over the whole lattice
+abbrev pub totals_after : Job → List JobMove → Totals
+totals_after job moves = totals_over job (lattice_of job.plan.grid) moves
+
+-- the point of a ray with an index
+abbrev pub point_in : GridSize → Ray → ℕ → LatticePoint
+point_in grid ray l = record { ray = ray; l = l; position = point_of grid ray l }
+
+-- the points of a strip, ray by ray
+abbrev pub strip_points : GridSize → ℕ → List LatticePoint
+strip_points grid strip = flat_map (points_on grid) (strip_at grid strip)

@@ -23,13 +23,17 @@ pub record PlanOf : Type 0 where
   pub moves : List JobMove
   pub edits : List Edit
 
--- What is verified: what is cut; the stock, the part (lowered by its tolerance) and the fixtures (raised by their clearance) as
--- solids; how many records of the program were passed over; and the queries.
-pub record Task : Type 0 where
+-- What is judged: what is cut; and the stock, the part (lowered by its tolerance) and the fixtures (raised by their clearance) as
+-- solids.
+pub record Job : Type 0 where
   pub plan : PlanOf
   pub stock : Solid
   pub part : Solid
   pub fixture : Solid
+
+-- What is verified: the job; how many records of the program were passed over; and the queries.
+pub record Task : Type 0 where
+  pub job : Job
   pub passed : ℕ
   pub queries : List Query
 

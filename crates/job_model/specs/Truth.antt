@@ -9,7 +9,7 @@ use Rattle.job_facts.specs.Counts.{is_safe}
 use Rattle.job_facts.specs.declared.totals.PointState.TheVariants.{Removed}
 use Rattle.job_model.specs.Findings.{found_by}
 use Rattle.job_model.specs.Points.{is_fixture, is_part, is_stock, left_moves, moves_of, some_possible, some_sure, state_after}
-use Rattle.job_model.specs.Tasks.{JobMove, Task}
+use Rattle.job_model.specs.Tasks.{Job, JobMove}
 
 -- the move meets the point: its lower, or its upper, cutter holds it at some rational time
 abbrev pub LowerMeets : JobMove → LatticePoint → Type 0
@@ -26,19 +26,19 @@ pub record SomeMeets (moves : List JobMove) (point : LatticePoint) : Type 0 wher
 
 -- At each version a point that is removed lies in the lower cutter at some rational time of a move that is left; a point of the
 -- lattice, stock or not, at which none of them is possible lies in the upper cutter of none at any rational time.
-pub record IsTrueOfPoints (task : Task) : Type 0 where
-  pub removed : (version : ℕ) (point : LatticePoint) → state_after task (left_moves task.plan version) point ≡ Removed
-      → SomeMeets (left_moves task.plan version) point
+pub record IsTrueOfPoints (job : Job) : Type 0 where
+  pub removed : (version : ℕ) (point : LatticePoint) → state_after job (left_moves job.plan version) point ≡ Removed
+      → SomeMeets (left_moves job.plan version) point
   pub not_possible : (version : ℕ) (point : LatticePoint) (move : JobMove)
-      → some_possible task.plan (left_moves task.plan version) point ≡ false
-      → Contains (left_moves task.plan version) move → ¬ UpperMeets move point
+      → some_possible job.plan (left_moves job.plan version) point ≡ false
+      → Contains (left_moves job.plan version) move → ¬ UpperMeets move point
 
 -- A move that is found safe behind others meets no point of the part or of a fixture with its upper cutter, and in rapid motion no
 -- stock of which none of the moves ahead is sure.
-pub record IsTrueOfSafety (task : Task) : Type 0 where
-  pub solids : (ahead : List JobMove) (number : ℕ) (move : JobMove) (point : LatticePoint) → Contains task.plan.moves move
-      → is_safe (found_by task ahead number move).counts ≡ true → IsPointOf task.plan.grid point
-      → (is_part task point || is_fixture task point) ≡ true → ¬ UpperMeets move point
-  pub stock : (ahead : List JobMove) (number : ℕ) (move : JobMove) (point : LatticePoint) → Contains task.plan.moves move
-      → is_safe (found_by task ahead number move).counts ≡ true → move.rapid ≡ true → IsPointOf task.plan.grid point
-      → is_stock task point ≡ true → some_sure task.plan ahead point ≡ false → ¬ UpperMeets move point
+pub record IsTrueOfSafety (job : Job) : Type 0 where
+  pub solids : (ahead : List JobMove) (number : ℕ) (move : JobMove) (point : LatticePoint) → Contains job.plan.moves move
+      → is_safe (found_by job ahead number move).counts ≡ true → IsPointOf job.plan.grid point
+      → (is_part job point || is_fixture job point) ≡ true → ¬ UpperMeets move point
+  pub stock : (ahead : List JobMove) (number : ℕ) (move : JobMove) (point : LatticePoint) → Contains job.plan.moves move
+      → is_safe (found_by job ahead number move).counts ≡ true → move.rapid ≡ true → IsPointOf job.plan.grid point
+      → is_stock job point ≡ true → some_sure job.plan ahead point ≡ false → ¬ UpperMeets move point
