@@ -1,0 +1,26 @@
+ghost use Rattle.std.specs.Prelude.{◌≡◌, ℕ, ◌+◌, ◌*◌, ◌<◌, ◌≤◌, length};
+ghost use Rattle.vf_spans.specs.Members.{has};
+ghost use Rattle.vf_spans.specs.Words.{has_bit, words_below};
+
+use vf_spans::Spans;
+use vf_spans::bits::bits_of_range;
+
+/// Whether a range has an index in word n.
+fn enters(n: u32, range: (u32, u32)) -> bool {
+    range.0 / 64 <= n && u64::from(n) * 64 < u64::from(range.1)
+}
+
+/// Word n of a set: bit b is the index 64 n + b.
+pub fn word_of(set: &Spans, n: u32) -> u64
+    requires { n < words_below (length set.now) }
+    ensures { (b : ℕ) → b < 64 → has_bit result b ≡ has set.now (64 * n + b) }
+{
+    let mut word = 0;
+    for r in 0..set.ranges() {
+        let range = set.range(r);
+        if enters(n, range) {
+            word |= bits_of_range(n, range.0, range.1);
+        }
+    }
+    word
+}

@@ -1,0 +1,132 @@
+ghost use Rattle.std.specs.Prelude.{◌≡◌, ℕ, ◌+◌, ◌*◌, ◌<◌, ◌≤◌, false, OnOk, OnErr, length};
+ghost use Rattle.vf_spans.specs.Members.{count_of, has};
+ghost use Rattle.vf_spans.specs.Words.{words_below};
+ghost use Rattle.dexel_rays.specs.Sets.{HaveBound};
+ghost use Rattle.ray_words.specs.Rays.{IsBelow, IsGiven, IsKept, IsTaken, IsWordAt};
+
+use crate::range_word::word_of;
+use dexel_rays::{WordDelta, WordSets};
+use std::alloc::Global;
+use std::marker::Model;
+use vf_io::NoMemory;
+use vf_spans::Spans;
+
+/// The sets of one ray: the indices that are stock, part and fixture, as ranges, and those of which some move was sure and at
+/// which some move was possible. A stretch of the ray is kept as words of 64 points; beyond it no move was sure or possible.
+#[derive(Drop)]
+pub struct WordRay {
+    stock: Spans,
+    part: Spans,
+    fixture: Spans,
+    first: u32,
+    words: Vec<WordSets>,
+}
+
+impl Model for WordRay {
+    ghost use Rattle.std.specs.Prelude.{length};
+    ghost use Rattle.ray_words.specs.Rays.{KeptSets};
+    ghost use Rattle.ray_words.specs.Kept.{IsWordRay, sets_of};
+
+    ghost Value = { KeptSets };
+
+    ghost view = { λ r. record { sets = sets_of r.stock r.part r.fixture r.first r.words.items; first = r.first; count = length r.words.items } };
+
+    ghost invariant = { λ r. IsWordRay r.stock r.part r.fixture r.first r.words.items };
+}
+
+impl WordRay {
+    /// A ray that no move has changed: no word is kept. It takes no memory.
+    pub fn new(alloc: Global, stock: Spans, part: Spans, fixture: Spans) -> WordRay
+        requires part { length part ≡ length stock }
+        requires fixture { length fixture ≡ length stock }
+        ensures stock { result.sets.stock ≡ stock }
+        ensures part { result.sets.part ≡ part }
+        ensures fixture { result.sets.fixture ≡ fixture }
+        ensures sure { (i : ℕ) → has result.sets.sure i ≡ false }
+        ensures possible { (i : ℕ) → has result.sets.possible i ≡ false }
+        ensures bound { HaveBound (length stock) result.sets }
+    {
+        WordRay {
+            stock,
+            part,
+            fixture,
+            first: 0,
+            words: Vec::new(alloc),
+        }
+    }
+
+    /// How many points the ray has; the five sets have this bound.
+    pub fn bound(&self) -> u32
+        ensures points { result ≡ length self.now.sets.stock }
+        ensures all { HaveBound result self.now.sets }
+    {
+        self.stock.bound()
+    }
+
+    pub fn has_stock(&self, l: u32) -> bool
+        ensures { result ≡ has self.now.sets.stock l }
+    {
+        self.stock.has(l)
+    }
+
+    pub fn has_sure(&self, l: u32) -> bool
+        ensures { result ≡ has self.now.sets.sure l }
+    {
+        todo
+    }
+
+    pub fn has_possible(&self, l: u32) -> bool
+        ensures { result ≡ has self.now.sets.possible l }
+    {
+        todo
+    }
+
+    /// How many points of the ray are stock, removed or not.
+    pub fn stock_count(&self) -> u32
+        ensures { result ≡ count_of self.now.sets.stock }
+    {
+        self.stock.count()
+    }
+
+    /// The five words of the points from the index 64 n on.
+    pub fn word(&self, n: u32) -> WordSets
+        requires { n < words_below (length self.now.sets.stock) }
+        ensures { IsWordAt self.now.sets n result }
+    {
+        todo
+    }
+
+    /// Keeps the words from `lo` on and below `hi`, and what is between them and those that are kept already. The sets stay.
+    pub fn keep(&mut self, lo: u32, hi: u32) -> Result<(), NoMemory>
+        requires some { lo < hi }
+        requires within { hi ≤ words_below (length self.old.sets.stock) }
+        ensures sets { self.new.sets ≡ self.old.sets }
+        ensures kept { OnOk result ((n : ℕ) → lo ≤ n → n < hi → IsKept self.new n) }
+        ensures still { OnOk result ((n : ℕ) → IsKept self.old n → IsKept self.new n) }
+        ensures unchanged { OnErr result (self.new ≡ self.old) }
+    {
+        todo
+    }
+
+    /// Adds the points of a delta in word n. It takes no memory.
+    pub fn give(&mut self, n: u32, delta: &WordDelta)
+        requires kept { IsKept self.old n }
+        requires sure { IsBelow (length self.old.sets.stock) n delta.now.sure }
+        requires possible { IsBelow (length self.old.sets.stock) n delta.now.possible }
+        ensures given { IsGiven self.old.sets n delta.now self.new.sets }
+        ensures first { self.new.first ≡ self.old.first }
+        ensures count { self.new.count ≡ self.old.count }
+    {
+        todo
+    }
+
+    /// Takes the points of a delta in word n away. It takes no memory.
+    pub fn take(&mut self, n: u32, delta: &WordDelta)
+        requires kept { IsKept self.old n }
+        ensures taken { IsTaken self.old.sets n delta.now self.new.sets }
+        ensures first { self.new.first ≡ self.old.first }
+        ensures count { self.new.count ≡ self.old.count }
+    {
+        todo
+    }
+}
