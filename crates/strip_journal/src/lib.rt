@@ -1,0 +1,12 @@
+//! One strip with its journal: the state of its points after each edit that was done on it.
+#![tactic(auto)]
+
+mod applying;
+mod entry;
+mod finding;
+mod fresh;
+mod journal;
+mod strip;
+mod turning;
+
+pub use strip::Strip;

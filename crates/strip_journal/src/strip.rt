@@ -1,0 +1,187 @@
+ghost use Rattle.std.specs.Prelude.{◌≡◌, ℕ, ◌+◌, ◌-◌, ◌<◌, ◌≤◌, Some, IfOk, OnOk, OnErr, All, length, slice_get};
+ghost use Rattle.std.specs.Fn.{FnReturnsAt};
+ghost use Rattle.ray_grid.specs.declared.ray.Ray.{Ray};
+ghost use Rattle.ray_grid.specs.Lattice.{IsRay, points_of};
+ghost use Rattle.ray_grid.specs.Strips.{strip_at, strips_of};
+ghost use Rattle.ray_shapes.specs.Sets.{Gives};
+ghost use Rattle.edit_plan.specs.Edits.{left_at};
+ghost use Rattle.job_facts.specs.Counts.{AreWithin};
+ghost use Rattle.job_model.specs.Points.{left_moves, point_in, state_after, strip_points, totals_over};
+ghost use Rattle.strip_journal.specs.Strips.{AddsFound, IsFoundAt, most_before};
+
+use crate::fresh::fresh_rays;
+use crate::journal::Journal;
+use edit_plan::Edit;
+use job_facts::{Counts, PointState, Totals};
+use ray_grid::Ray;
+use ray_shapes::{RayShape, Solid};
+use std::alloc::Global;
+use std::marker::Model;
+use std::snapshot::Snapshot;
+use std::sync::ledger::Ledger;
+use strip_plan::Plan;
+use vf_io::NoMemory;
+use vf_spans::Spans;
+use vf_steps::Steps;
+
+/// A strip with its journal. It is seen as the job that it is of, its number, and how many of the job's edits were done on it: all
+/// that it tells is so of these.
+#[derive(Drop)]
+pub struct Strip {
+    alloc: Global,
+    plan: Snapshot<Plan>,
+    stock: Snapshot<Solid>,
+    part: Snapshot<Solid>,
+    fixture: Snapshot<Solid>,
+    journal: Journal,
+}
+
+impl Model for Strip {
+    ghost use Rattle.strip_journal.specs.Journals.{IsJournal};
+    ghost use Rattle.strip_journal.specs.Strips.{StripOf};
+
+    ghost Value = { StripOf };
+
+    ghost view = { λ s. record {
+      job = record { plan = s.plan.value; stock = s.stock.value; part = s.part.value; fixture = s.fixture.value };
+      number = s.journal.number;
+      done = s.journal.done;
+    } };
+
+    ghost invariant = { λ s.
+        IsJournal record { plan = s.plan.value; stock = s.stock.value; part = s.part.value; fixture = s.fixture.value } s.journal };
+}
+
+impl Strip {
+    /// The strip of a number before the first edit, with the points of the three bodies on its rays. Fails only for want of memory.
+    pub fn fresh<
+        A: Fn(&Ray) -> Result<Spans, NoMemory>,
+        B: Fn(&Ray) -> Result<Spans, NoMemory>,
+        C: Fn(&Ray) -> Result<Spans, NoMemory>,
+    >(
+        alloc: Global,
+        plan: &Plan,
+        number: u32,
+        stock: &RayShape<A>,
+        part: &RayShape<B>,
+        fixture: &RayShape<C>,
+    ) -> Result<Strip, NoMemory>
+        requires number { number < length (strips_of plan.now.grid) }
+        requires stock_grid { stock.now.grid ≡ plan.now.grid }
+        requires part_grid { part.now.grid ≡ plan.now.grid }
+        requires fixture_grid { fixture.now.grid ≡ plan.now.grid }
+        requires stock_callable { (ray : _) → IsRay stock.now.grid ray.now → A.pre stock.now.source ray }
+        requires part_callable { (ray : _) → IsRay part.now.grid ray.now → B.pre part.now.source ray }
+        requires fixture_callable { (ray : _) → IsRay fixture.now.grid ray.now → C.pre fixture.now.source ray }
+        requires stock_gives { Gives (FnReturnsAt A.Fn stock.now.source) stock.now.grid stock.now.solid }
+        requires part_gives { Gives (FnReturnsAt B.Fn part.now.source) part.now.grid part.now.solid }
+        requires fixture_gives { Gives (FnReturnsAt C.Fn fixture.now.source) fixture.now.grid fixture.now.solid }
+        ensures { IfOk result (λ s. s ≡ record {
+          job = record { plan = plan.now; stock = stock.now.solid; part = part.now.solid; fixture = fixture.now.solid };
+          number = number;
+          done = 0;
+        }) }
+    {
+        let (rays, points) = fresh_rays(alloc, plan.grid(), number, stock, part, fixture)?;
+        let journal = Journal {
+            number,
+            stock: points,
+            rays,
+            changes: Vec::new(alloc),
+            entries: Vec::new(alloc),
+            line: Vec::new(alloc),
+            at: 0,
+            done: 0,
+        };
+        Ok(Strip {
+            alloc,
+            plan: Snapshot::of(plan),
+            stock: Snapshot::of(&stock.solid),
+            part: Snapshot::of(&part.solid),
+            fixture: Snapshot::of(&fixture.solid),
+            journal,
+        })
+    }
+
+    /// The strip's number.
+    pub fn number(&self) -> u32
+        ensures number { result ≡ self.now.number }
+        ensures strip { result < length (strips_of self.now.job.plan.grid) }
+    {
+        self.journal.number
+    }
+
+    /// How many edits were done on the strip.
+    pub fn done(&self) -> u32
+        ensures done { result ≡ self.now.done }
+        ensures within { result ≤ length self.now.job.plan.edits }
+    {
+        self.journal.done
+    }
+
+    /// Does the edit that comes next. After want of memory nothing is changed.
+    pub fn advance(&mut self, plan: &Plan) -> Result<(), NoMemory>
+        requires plan { self.old.job.plan ≡ plan.now }
+        requires next { self.old.done < length plan.now.edits }
+        ensures ok { OnOk result (self.new ≡ record self.old { done = self.old.done + 1 }) }
+        ensures unchanged { OnErr result (self.new ≡ self.old) }
+    {
+        match plan.edit(self.journal.done) {
+            Edit::Apply(number) => self.journal.apply(self.alloc, plan, number),
+            Edit::Undo => self.journal.undo(),
+            Edit::Redo => self.journal.redo(),
+        }
+    }
+
+    /// The state of point l of ray n at a version, in at most one step for each edit since.
+    pub fn mark_at<L: Ledger>(
+        &self,
+        version: u32,
+        n: u32,
+        l: u32,
+        steps: &mut Steps<L>,
+    ) -> PointState
+        requires version { version ≤ self.now.done }
+        requires ray { n < length (strip_at self.now.job.plan.grid self.now.number) }
+        requires point { (ray : Ray) → slice_get (strip_at self.now.job.plan.grid self.now.number) n ≡ Some ray
+            → l < points_of self.now.job.plan.grid ray.family }
+        ensures state { (ray : Ray) → slice_get (strip_at self.now.job.plan.grid self.now.number) n ≡ Some ray
+            → result ≡ state_after self.now.job (left_moves self.now.job.plan version) (point_in self.now.job.plan.grid ray l) }
+        ensures cost { steps.new ≤ steps.old + (self.now.done - version) }
+    {
+        self.journal.state_at(version, n, l, steps)
+    }
+
+    /// How many stock points of the strip are removed at a version, at how many a move is possible, and how many there are.
+    pub fn counts_at(&self, version: u32) -> Totals
+        requires { version ≤ self.now.done }
+        ensures { result ≡ totals_over self.now.job (strip_points self.now.job.plan.grid self.now.number)
+            (left_moves self.now.job.plan version) }
+    {
+        self.journal.totals_at(version)
+    }
+
+    /// How many moves are left.
+    pub fn left(&self) -> u32
+        ensures { result ≡ length (left_at self.now.job.plan.edits self.now.done) }
+    {
+        self.journal.at
+    }
+
+    /// What the j-th of the moves that are left finds on the strip by those ahead of it.
+    pub fn found(&self, j: u32) -> Counts
+        requires { j < length (left_at self.now.job.plan.edits self.now.done) }
+        ensures { IsFoundAt self.now j result }
+    {
+        self.journal.counts_of(self.journal.line[j as usize])
+    }
+
+    /// Adds what each of the moves that are left finds on the strip to the counts at its place.
+    pub fn add_found(&self, counts: &mut [Counts])
+        requires many { length counts.old ≡ length (left_at self.now.job.plan.edits self.now.done) }
+        requires room { All (AreWithin most_before) counts.old }
+        ensures { AddsFound self.now counts.old counts.new }
+    {
+        self.journal.add_found(counts)
+    }
+}
