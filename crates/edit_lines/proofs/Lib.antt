@@ -1,0 +1,4 @@
+pub mod LinesLists
+pub mod LinesOrder
+pub mod LinesChain
+pub mod LinesSteps
