@@ -1,16 +1,16 @@
 -- One word of a stretch is written: what it makes of the sets.
-use Rattle.std.proofs.Common.{◌≡◌, ◌≢◌, ℕ, ◌+◌, ◌-◌, ◌*◌, ◌/◌, ◌%◌, ◌<◌, ◌≤◌, List, length, get_or, set, cond, leb, Bool, true, false, not, ◌&&◌, ◌||◌, eqb, ⊎_elim, arith, refl, sym, ap, ap₂, ◌∙◌}
+use Rattle.std.proofs.Common.{◌≡◌, ◌≢◌, ℕ, ◌+◌, ◌-◌, ◌*◌, ◌/◌, ◌%◌, ◌<◌, ◌≤◌, List, length, get_or, set, cond, leb, Bool, true, false, not, ◌&&◌, ◌||◌, ⊎_elim, arith, refl, sym, ap, ap₂, ◌∙◌, subst}
 use Rattle.std.proofs.lemmas.Bool.{cases_eq, cases_lt, eq-eqb, ne_eqb, false_from_ne_true, lt-leb}
-use Rattle.std.proofs.lemmas.List.{get_or-set_same, get_or-set_other}
+use Rattle.std.proofs.lemmas.List.{get_or_read, get_or-set_same, get_or-set_other}
 use Rattle.std.proofs.Math.ListN.{length-set}
 use Rattle.vf_spans.specs.Members.{has}
 use Rattle.vf_spans.specs.Words.{has_bit, in_word, words_below}
 use Rattle.dexel_rays.specs.declared.word_sets.WordDelta.{WordDelta}
 use Rattle.dexel_rays.specs.declared.word_sets.WordSets.{WordSets}
 use Rattle.dexel_rays.specs.WordSets.{IsWordWith, IsWordWithout}
-use Rattle.ray_words.specs.Rays.{IsBelow, IsGiven, IsTaken, IsWordAt}
-use Rattle.ray_words.specs.Kept.{no_bits, word_at, mark_at, marks_of, sets_of, IsWordRay}
-use Rattle.ray_words.proofs.Marks.{InStretch, AreBits, word_at-in, word_cases, in_some_word, length-marks, has-marks, has-marks-past, mark_at-bit}
+use Rattle.ray_words.specs.Rays.{IsBelow, IsGiven, IsKept, IsTaken, KeptSets}
+use Rattle.ray_words.specs.Kept.{no_bits, word_at, marks_of, sets_of, IsWordRay}
+use Rattle.ray_words.proofs.Marks.{InStretch, AreBits, word_at-in, in_some_word, length-marks, has-marks, has-marks-past}
 
 or_false : (x : Bool) → (x || false) ≡ x
 or_false true = refl
@@ -173,51 +173,111 @@ written_ray change stock part fixture first ws n k w delta h d =
     (written_bits change (λ w. w.sure) (length stock) first ws n k w delta.sure d.sure (sure_bits stock part fixture first ws h))
     (written_bits change (λ w. w.possible) (length stock) first ws n k w delta.possible d.possible (possible_bits stock part fixture first ws h))
 
--- a delta is given
-pub given_word : (stock : List Bool) (first : ℕ) (ws : List WordSets) (n k : ℕ) (w : WordSets) (delta : WordDelta) → first + k ≡ n → k < length ws
-    → IsBelow (length stock) n delta.sure → IsBelow (length stock) n delta.possible → IsWordWith (word_at first ws n) delta w
-    → IsWordWritten (λ x y. x || y) (length stock) first ws n k w delta
-given_word stock first ws n k w delta at there s p u = record {
-  stock = u.stock;
-  part = u.part;
-  fixture = u.fixture;
-  sure = record { at = at; there = there; stays = or_false; beyond = λ b lt le. false_from_ne_true (has_bit delta.sure b) (λ t. let below = s b lt t in omega arith); bits = u.all_sure };
-  possible = record { at = at; there = there; stays = or_false; beyond = λ b lt le. false_from_ne_true (has_bit delta.possible b) (λ t. let below = p b lt t in omega arith); bits = u.all_possible };
-}
+-- a ray that is kept so is seen as r
+abbrev pub IsSeenAs : List Bool → List Bool → List Bool → ℕ → List WordSets → KeptSets → Type 0
+IsSeenAs stock part fixture first ws r = let kept : KeptSets = record { sets = sets_of stock part fixture first ws; first = first; count = length ws } in kept ≡ r
 
-pub given_sets : (stock part fixture : List Bool) (first : ℕ) (ws : List WordSets) (n k : ℕ) (w : WordSets) (delta : WordDelta)
-    → IsWordWritten (λ x y. x || y) (length stock) first ws n k w delta
-    → IsGiven (sets_of stock part fixture first ws) n delta (sets_of stock part fixture first (set ws k w))
-given_sets stock part fixture first ws n k w delta d = record {
-  stock = refl;
-  part = refl;
-  fixture = refl;
-  sure_bound = length-marks (λ w. w.sure) (length stock) first (set ws k w) ∙ sym (length-marks (λ w. w.sure) (length stock) first ws);
-  possible_bound = length-marks (λ w. w.possible) (length stock) first (set ws k w) ∙ sym (length-marks (λ w. w.possible) (length stock) first ws);
-  sure = λ i. written_marks (λ x y. x || y) (λ w. w.sure) (length stock) first ws n k w delta.sure i d.sure;
-  possible = λ i. written_marks (λ x y. x || y) (λ w. w.possible) (length stock) first ws n k w delta.possible i d.possible;
-}
+-- a kept word has a place in the stretch
+kept_place : (r : KeptSets) (stock part fixture : List Bool) (first : ℕ) (ws : List WordSets) (n : ℕ) → IsSeenAs stock part fixture first ws r → IsKept r n → InStretch first ws n
+kept_place r stock part fixture first ws n is kept =
+    let from = kept.from in
+    let below = kept.below in
+    let same_first : first ≡ r.first = ap (λ (v : KeptSets). v.first) is in
+    let same_count : length ws ≡ r.count = ap (λ (v : KeptSets). v.count) is in
+    record { from = omega arith; below = omega arith }
+
+-- what was read at that place
+read_word : (first : ℕ) (ws : List WordSets) (n k : ℕ) (x : WordSets) → first + k ≡ n → k < length ws → x ≡ get_or ws k x → word_at first ws n ≡ x
+read_word first ws n k x at there e = word_at-in first ws n k at ∙ sym (get_or_read ws k x there e no_bits)
+
+-- a delta is given
+pub given_word : (r : KeptSets) (stock part fixture : List Bool) (first : ℕ) (ws : List WordSets) (n : ℕ) (x w : WordSets) (delta : WordDelta)
+    → IsSeenAs stock part fixture first ws r → IsKept r n → x ≡ get_or ws (n - first) x
+    → IsBelow (length r.sets.stock) n delta.sure → IsBelow (length r.sets.stock) n delta.possible → IsWordWith x delta w
+    → IsWordWritten (λ p q. p || q) (length stock) first ws n (n - first) w delta
+given_word r stock part fixture first ws n x w delta is kept e sure possible u =
+    let here = kept_place r stock part fixture first ws n is kept in
+    let from = here.from in
+    let below = here.below in
+    let at : first + (n - first) ≡ n = omega arith in
+    let there : n - first < length ws = omega arith in
+    let was = read_word first ws n (n - first) x at there e in
+    let bound : length r.sets.stock ≡ length stock = ap (λ (v : KeptSets). length v.sets.stock) (sym is) in
+    record {
+      stock = u.stock ∙ ap (λ (v : WordSets). v.stock) (sym was);
+      part = u.part ∙ ap (λ (v : WordSets). v.part) (sym was);
+      fixture = u.fixture ∙ ap (λ (v : WordSets). v.fixture) (sym was);
+      sure = record {
+        at = at;
+        there = there;
+        stays = or_false;
+        beyond = λ b lt le. false_from_ne_true (has_bit delta.sure b) (λ t. let low = sure b lt t in omega arith);
+        bits = λ b lt. u.all_sure b lt ∙ ap (λ (v : WordSets). has_bit v.sure b || has_bit delta.sure b) (sym was);
+      };
+      possible = record {
+        at = at;
+        there = there;
+        stays = or_false;
+        beyond = λ b lt le. false_from_ne_true (has_bit delta.possible b) (λ t. let low = possible b lt t in omega arith);
+        bits = λ b lt. u.all_possible b lt ∙ ap (λ (v : WordSets). has_bit v.possible b || has_bit delta.possible b) (sym was);
+      };
+    }
+
+pub given_sets : (r : KeptSets) (stock part fixture : List Bool) (first : ℕ) (ws : List WordSets) (n k : ℕ) (w : WordSets) (delta : WordDelta)
+    → IsSeenAs stock part fixture first ws r → IsWordWritten (λ p q. p || q) (length stock) first ws n k w delta
+    → IsGiven r.sets n delta (sets_of stock part fixture first (set ws k w))
+given_sets r stock part fixture first ws n k w delta is d =
+    subst (λ (v : KeptSets). IsGiven v.sets n delta (sets_of stock part fixture first (set ws k w))) is (record {
+      stock = refl;
+      part = refl;
+      fixture = refl;
+      sure_bound = length-marks (λ w. w.sure) (length stock) first (set ws k w) ∙ sym (length-marks (λ w. w.sure) (length stock) first ws);
+      possible_bound = length-marks (λ w. w.possible) (length stock) first (set ws k w) ∙ sym (length-marks (λ w. w.possible) (length stock) first ws);
+      sure = λ i. written_marks (λ p q. p || q) (λ w. w.sure) (length stock) first ws n k w delta.sure i d.sure;
+      possible = λ i. written_marks (λ p q. p || q) (λ w. w.possible) (length stock) first ws n k w delta.possible i d.possible;
+    })
 
 -- a delta is taken away
-pub taken_word : (stock : List Bool) (first : ℕ) (ws : List WordSets) (n k : ℕ) (w : WordSets) (delta : WordDelta) → first + k ≡ n → k < length ws
-    → IsWordWithout (word_at first ws n) delta w → IsWordWritten (λ x y. x && not y) (length stock) first ws n k w delta
-taken_word stock first ws n k w delta at there u = record {
-  stock = u.stock;
-  part = u.part;
-  fixture = u.fixture;
-  sure = record { at = at; there = there; stays = and_not_false; beyond = λ b lt le. refl; bits = u.left_sure };
-  possible = record { at = at; there = there; stays = and_not_false; beyond = λ b lt le. refl; bits = u.left_possible };
-}
+pub taken_word : (r : KeptSets) (stock part fixture : List Bool) (first : ℕ) (ws : List WordSets) (n : ℕ) (x w : WordSets) (delta : WordDelta)
+    → IsSeenAs stock part fixture first ws r → IsKept r n → x ≡ get_or ws (n - first) x → IsWordWithout x delta w
+    → IsWordWritten (λ p q. p && not q) (length stock) first ws n (n - first) w delta
+taken_word r stock part fixture first ws n x w delta is kept e u =
+    let here = kept_place r stock part fixture first ws n is kept in
+    let from = here.from in
+    let below = here.below in
+    let at : first + (n - first) ≡ n = omega arith in
+    let there : n - first < length ws = omega arith in
+    let was = read_word first ws n (n - first) x at there e in
+    record {
+      stock = u.stock ∙ ap (λ (v : WordSets). v.stock) (sym was);
+      part = u.part ∙ ap (λ (v : WordSets). v.part) (sym was);
+      fixture = u.fixture ∙ ap (λ (v : WordSets). v.fixture) (sym was);
+      sure = record {
+        at = at;
+        there = there;
+        stays = and_not_false;
+        beyond = λ b lt le. refl;
+        bits = λ b lt. u.left_sure b lt ∙ ap (λ (v : WordSets). has_bit v.sure b && not (has_bit delta.sure b)) (sym was);
+      };
+      possible = record {
+        at = at;
+        there = there;
+        stays = and_not_false;
+        beyond = λ b lt le. refl;
+        bits = λ b lt. u.left_possible b lt ∙ ap (λ (v : WordSets). has_bit v.possible b && not (has_bit delta.possible b)) (sym was);
+      };
+    }
 
-pub taken_sets : (stock part fixture : List Bool) (first : ℕ) (ws : List WordSets) (n k : ℕ) (w : WordSets) (delta : WordDelta)
-    → IsWordWritten (λ x y. x && not y) (length stock) first ws n k w delta
-    → IsTaken (sets_of stock part fixture first ws) n delta (sets_of stock part fixture first (set ws k w))
-taken_sets stock part fixture first ws n k w delta d = record {
-  stock = refl;
-  part = refl;
-  fixture = refl;
-  sure_bound = length-marks (λ w. w.sure) (length stock) first (set ws k w) ∙ sym (length-marks (λ w. w.sure) (length stock) first ws);
-  possible_bound = length-marks (λ w. w.possible) (length stock) first (set ws k w) ∙ sym (length-marks (λ w. w.possible) (length stock) first ws);
-  sure = λ i. written_marks (λ x y. x && not y) (λ w. w.sure) (length stock) first ws n k w delta.sure i d.sure;
-  possible = λ i. written_marks (λ x y. x && not y) (λ w. w.possible) (length stock) first ws n k w delta.possible i d.possible;
-}
+pub taken_sets : (r : KeptSets) (stock part fixture : List Bool) (first : ℕ) (ws : List WordSets) (n k : ℕ) (w : WordSets) (delta : WordDelta)
+    → IsSeenAs stock part fixture first ws r → IsWordWritten (λ p q. p && not q) (length stock) first ws n k w delta
+    → IsTaken r.sets n delta (sets_of stock part fixture first (set ws k w))
+taken_sets r stock part fixture first ws n k w delta is d =
+    subst (λ (v : KeptSets). IsTaken v.sets n delta (sets_of stock part fixture first (set ws k w))) is (record {
+      stock = refl;
+      part = refl;
+      fixture = refl;
+      sure_bound = length-marks (λ w. w.sure) (length stock) first (set ws k w) ∙ sym (length-marks (λ w. w.sure) (length stock) first ws);
+      possible_bound = length-marks (λ w. w.possible) (length stock) first (set ws k w) ∙ sym (length-marks (λ w. w.possible) (length stock) first ws);
+      sure = λ i. written_marks (λ p q. p && not q) (λ w. w.sure) (length stock) first ws n k w delta.sure i d.sure;
+      possible = λ i. written_marks (λ p q. p && not q) (λ w. w.possible) (length stock) first ws n k w delta.possible i d.possible;
+    })

@@ -1,12 +1,15 @@
 -- A new stretch with the words of the sets, and what a longer one keeps.
-use Rattle.std.proofs.Common.{◌≡◌, ◌≢◌, ℕ, ◌+◌, ◌-◌, ◌*◌, ◌<◌, ◌≤◌, List, [], ◌∷◌, ◌++◌, length, get_or, Bool, false, ⊎_elim, arith, refl, sym, ap, ◌∙◌, subst, length-append}
+use Rattle.std.proofs.Common.{◌≡◌, ℕ, ◌+◌, ◌-◌, ◌*◌, ◌<◌, ◌≤◌, List, [], ◌∷◌, ◌++◌, length, get_or, Bool, ⊎_elim, arith, refl, sym, ap, ◌∙◌, subst, length-append}
 use Rattle.std.proofs.lemmas.Bool.{cases_lt}
 use Rattle.std.proofs.lemmas.List.{get_or_append_left, get_or_push}
-use Rattle.vf_spans.specs.Words.{words_below}
+use Rattle.vf_spans.specs.Members.{has}
+use Rattle.vf_spans.specs.Words.{has_bit, words_below}
+use Rattle.vf_spans.proofs.WordBits.{has_bit-zero}
 use Rattle.dexel_rays.specs.declared.word_sets.WordSets.{WordSets}
 use Rattle.dexel_rays.specs.Sets.{Sets}
-use Rattle.ray_words.specs.Rays.{IsWordAt}
-use Rattle.ray_words.specs.Kept.{no_bits, word_at, marks_of, sets_of, AreWordsFrom, IsWordRay}
+use Rattle.ray_words.specs.Rays.{IsWordAt, KeptSets}
+use Rattle.ray_words.specs.Kept.{no_bits, word_at, marks_of, sets_of, AreWordsFrom, IsStretch, IsUnmarked, IsWordRay}
+use Rattle.ray_words.proofs.Changes.{IsSeenAs}
 use Rattle.ray_words.proofs.Marks.{InStretch, word_at-in, same_marks}
 
 -- one word more
@@ -72,3 +75,35 @@ longer_ray stock part fixture first ws first' ws' r h = record {
       subst (λ d. IsWordAt d n (word_at first' ws' n)) (sym (longer_sets stock part fixture first ws first' ws' h))
       (word_from (sets_of stock part fixture first ws) first' ws' n h.words here);
 }
+
+-- three words of the bodies, with none sure and none possible, where the sets have no mark
+pub fresh_word : (r : KeptSets) (stock part fixture : List Bool) (first : ℕ) (ws : List WordSets) (n s p f : ℕ)
+    → (let kept : KeptSets = record { sets = sets_of stock part fixture first ws; first = first; count = length ws } in kept) ≡ r
+    → ((b : ℕ) → b < 64 → has_bit s b ≡ has stock (64 * n + b)) → ((b : ℕ) → b < 64 → has_bit p b ≡ has part (64 * n + b))
+    → ((b : ℕ) → b < 64 → has_bit f b ≡ has fixture (64 * n + b)) → IsUnmarked r.sets n
+    → IsWordAt r.sets n (record { stock = s; part = p; fixture = f; sure = 0; possible = 0 })
+fresh_word r stock part fixture first ws n s p f is s0 p0 f0 none = record {
+  stock = λ b lt. s0 b lt ∙ ap (λ k. has k.sets.stock (64 * n + b)) is;
+  part = λ b lt. p0 b lt ∙ ap (λ k. has k.sets.part (64 * n + b)) is;
+  fixture = λ b lt. f0 b lt ∙ ap (λ k. has k.sets.fixture (64 * n + b)) is;
+  sure = λ b lt. has_bit-zero b ∙ sym (none.sure b lt);
+  possible = λ b lt. has_bit-zero b ∙ sym (none.possible b lt);
+}
+
+-- such a stretch, made of the words of a ray that is seen as r
+pub made_longer : (r : KeptSets) (stock part fixture : List Bool) (first : ℕ) (ws : List WordSets) (lo hi : ℕ) (s : ℕ × ℕ) (ws' : List WordSets)
+    → IsSeenAs stock part fixture first ws r → IsStretch r lo hi s → lo < hi → length ws' ≡ s.1 - s.0 → AreWordsFrom r.sets s.0 ws'
+    → IsLonger stock part fixture first ws s.0 ws'
+made_longer r stock part fixture first ws lo hi s ws' is stretch some size words =
+    let same_first : first ≡ r.first = ap (λ (v : KeptSets). v.first) is in
+    let same_count : length ws ≡ r.count = ap (λ (v : KeptSets). v.count) is in
+    let bound : length r.sets.stock ≡ length stock = ap (λ (v : KeptSets). length v.sets.stock) (sym is) in
+    let from = stretch.from in
+    let to = stretch.to in
+    let within = stretch.within in
+    record {
+      within = omega arith;
+      from = λ any. let low = stretch.kept_from (omega arith) in omega arith;
+      to = λ any. let high = stretch.kept_to (omega arith) in omega arith;
+      words = subst (λ (v : KeptSets). AreWordsFrom v.sets s.0 ws') (sym is) words;
+    }

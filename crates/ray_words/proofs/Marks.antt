@@ -86,7 +86,7 @@ is_unmarked stock part fixture first ws n none = record {
 pub no_marks : (pick : WordSets → ℕ) (bound first : ℕ) (ws : List WordSets) (i : ℕ) → pick no_bits ≡ 0 → length ws ≡ 0 → has (marks_of pick bound first ws) i ≡ false
 no_marks pick bound first ws i zero none =
     let empty : word_at first ws (i / 64) ≡ no_bits =
-      ⊎_elim (λ (lt : i / 64 < first). word_at-before first ws (i / 64) lt) (λ (le : first ≤ i / 64). word_at-past first ws (i / 64) (omega arith)) (cases_lt (i / 64) first) in
+    ⊎_elim (λ (lt : i / 64 < first). word_at-before first ws (i / 64) lt) (λ (le : first ≤ i / 64). word_at-past first ws (i / 64) (omega arith)) (cases_lt (i / 64) first) in
     ap (λ m. has (marks_of pick bound first ws) m) (sym (in_some_word i)) ∙ has_none pick bound first ws (i / 64) (i % 64) zero empty (omega arith)
 
 -- the bits that are picked from each word of the stretch are the flags of the set

@@ -1,4 +1,4 @@
-use Rattle.std.proofs.Common.{ℕ, arith, subst}
+use Rattle.std.proofs.Common.{arith, subst}
 use Rattle.ray_words.specs.Rays.{KeptSets}
 use Rattle.ray_words.specs.Kept.{IsUnmarked}
 use Rattle.ray_words.proofs.Marks.{is_unmarked, word_at-before, word_at-past}
