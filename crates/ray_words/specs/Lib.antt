@@ -1,1 +1,2 @@
 pub mod Rays
+pub mod Kept

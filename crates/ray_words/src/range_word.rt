@@ -1,13 +1,26 @@
-ghost use Rattle.std.specs.Prelude.{◌≡◌, ℕ, ◌+◌, ◌*◌, ◌<◌, ◌≤◌, length};
-ghost use Rattle.vf_spans.specs.Members.{has};
+ghost use Rattle.std.specs.Prelude.{◌≡◌, ℕ, ◌+◌, ◌*◌, ◌/◌, ◌<◌, ◌≤◌, ◌↔◌, IsTrue, length};
+ghost use Rattle.vf_spans.specs.Members.{has, in_range};
 ghost use Rattle.vf_spans.specs.Words.{has_bit, words_below};
 
 use vf_spans::Spans;
 use vf_spans::bits::bits_of_range;
 
 /// Whether a range has an index in word n.
-fn enters(n: u32, range: (u32, u32)) -> bool {
+fn enters(n: u32, range: (u32, u32)) -> bool
+    ensures { IsTrue result ↔ ((range.0 / 64 ≤ n) × (64 * n < range.1)) }
+{
     range.0 / 64 <= n && u64::from(n) * 64 < u64::from(range.1)
+}
+
+/// The bits of word n at the indices of a range.
+fn bits_within(n: u32, range: (u32, u32)) -> u64
+    ensures { (b : ℕ) → b < 64 → has_bit result b ≡ in_range (64 * n + b) range }
+{
+    if enters(n, range) {
+        bits_of_range(n, range.0, range.1)
+    } else {
+        0
+    }
 }
 
 /// Word n of a set: bit b is the index 64 n + b.
@@ -17,10 +30,7 @@ pub fn word_of(set: &Spans, n: u32) -> u64
 {
     let mut word = 0;
     for r in 0..set.ranges() {
-        let range = set.range(r);
-        if enters(n, range) {
-            word |= bits_of_range(n, range.0, range.1);
-        }
+        word |= bits_within(n, set.range(r));
     }
     word
 }

@@ -1,7 +1,8 @@
-ghost use Rattle.std.specs.Prelude.{◌≡◌, ℕ, ◌+◌, ◌*◌, ◌<◌, ◌≤◌, false, OnOk, OnErr, length};
+ghost use Rattle.std.specs.Prelude.{◌≡◌, ℕ, ◌+◌, ◌*◌, ◌<◌, ◌≤◌, ◌-◌, false, IfOk, MatchOption, OnOk, OnErr, length};
 ghost use Rattle.vf_spans.specs.Members.{count_of, has};
 ghost use Rattle.vf_spans.specs.Words.{words_below};
 ghost use Rattle.dexel_rays.specs.Sets.{HaveBound};
+ghost use Rattle.ray_words.specs.Kept.{AreWordsFrom, IsStretch, IsUnmarked};
 ghost use Rattle.ray_words.specs.Rays.{IsBelow, IsGiven, IsKept, IsTaken, IsWordAt};
 
 use crate::range_word::word_of;
@@ -10,6 +11,7 @@ use std::alloc::Global;
 use std::marker::Model;
 use vf_io::NoMemory;
 use vf_spans::Spans;
+use vf_spans::bits::has_bit;
 
 /// The sets of one ray: the indices that are stock, part and fixture, as ranges, and those of which some move was sure and at
 /// which some move was possible. A stretch of the ray is kept as words of 64 points; beyond it no move was sure or possible.
@@ -72,13 +74,19 @@ impl WordRay {
     pub fn has_sure(&self, l: u32) -> bool
         ensures { result ≡ has self.now.sets.sure l }
     {
-        todo
+        match self.kept(l / 64) {
+            Some(word) => has_bit(word.sure, l % 64),
+            None => false,
+        }
     }
 
     pub fn has_possible(&self, l: u32) -> bool
         ensures { result ≡ has self.now.sets.possible l }
     {
-        todo
+        match self.kept(l / 64) {
+            Some(word) => has_bit(word.possible, l % 64),
+            None => false,
+        }
     }
 
     /// How many points of the ray are stock, removed or not.
@@ -93,7 +101,10 @@ impl WordRay {
         requires { n < words_below (length self.now.sets.stock) }
         ensures { IsWordAt self.now.sets n result }
     {
-        todo
+        match self.kept(n) {
+            Some(word) => word,
+            None => self.unmarked(n),
+        }
     }
 
     /// Keeps the words from `lo` on and below `hi`, and what is between them and those that are kept already. The sets stay.
@@ -105,7 +116,14 @@ impl WordRay {
         ensures still { OnOk result ((n : ℕ) → IsKept self.old n → IsKept self.new n) }
         ensures unchanged { OnErr result (self.new ≡ self.old) }
     {
-        todo
+        if self.first <= lo && hi <= self.end() {
+            return Ok(());
+        }
+        let (first, end) = self.stretch(lo, hi);
+        let words = self.words_from(first, end)?;
+        self.first = first;
+        self.words = words;
+        Ok(())
     }
 
     /// Adds the points of a delta in word n. It takes no memory.
@@ -117,7 +135,8 @@ impl WordRay {
         ensures first { self.new.first ≡ self.old.first }
         ensures count { self.new.count ≡ self.old.count }
     {
-        todo
+        let at = (n - self.first) as usize;
+        self.words[at] = self.words[at].with(delta);
     }
 
     /// Takes the points of a delta in word n away. It takes no memory.
@@ -127,6 +146,75 @@ impl WordRay {
         ensures first { self.new.first ≡ self.old.first }
         ensures count { self.new.count ≡ self.old.count }
     {
-        todo
+        let at = (n - self.first) as usize;
+        self.words[at] = self.words[at].without(delta);
+    }
+
+    /// Word n, if it is kept; else no move was sure or possible there.
+    #[inline]
+    fn kept(&self, n: u32) -> Option<WordSets>
+        ensures { MatchOption result (IsUnmarked self.now.sets n) (λ word. IsWordAt self.now.sets n word) }
+    {
+        if n < self.first {
+            return None;
+        }
+        let at = (n - self.first) as usize;
+        if at < self.words.len() {
+            Some(self.words[at])
+        } else {
+            None
+        }
+    }
+
+    /// The words of the bodies, where no move was sure or possible.
+    fn unmarked(&self, n: u32) -> WordSets
+        requires within { n < words_below (length self.now.sets.stock) }
+        requires unmarked { IsUnmarked self.now.sets n }
+        ensures { IsWordAt self.now.sets n result }
+    {
+        WordSets {
+            stock: word_of(&self.stock, n),
+            part: word_of(&self.part, n),
+            fixture: word_of(&self.fixture, n),
+            sure: 0,
+            possible: 0,
+        }
+    }
+
+    /// The words from one on and below another, as they are.
+    fn words_from(&self, first: u32, end: u32) -> Result<Vec<WordSets>, NoMemory>
+        requires ordered { first ≤ end }
+        requires within { end ≤ words_below (length self.now.sets.stock) }
+        ensures count { IfOk result (λ words. length words.items ≡ end - first) }
+        ensures bits { IfOk result (λ words. AreWordsFrom self.now.sets first words.items) }
+    {
+        let mut words = Vec::with_capacity(*self.words.allocator(), (end - first) as usize)?;
+        for n in first..end {
+            words.push(self.word(n))?;
+        }
+        Ok(words)
+    }
+
+    /// The least stretch with the words from `lo` on and below `hi`, and with those that are kept.
+    fn stretch(&self, lo: u32, hi: u32) -> (u32, u32)
+        requires some { lo < hi }
+        requires within { hi ≤ words_below (length self.now.sets.stock) }
+        ensures { IsStretch self.now lo hi result }
+    {
+        if self.words.is_empty() {
+            (lo, hi)
+        } else {
+            (lo.min(self.first), hi.max(self.end()))
+        }
+    }
+
+    /// The first word past those that are kept.
+    fn end(&self) -> u32
+        ensures end { result ≡ self.now.first + self.now.count }
+        ensures within { result ≤ words_below (length self.now.sets.stock) }
+    {
+        // The bound fits.
+        let _bound = self.stock.bound();
+        self.first + self.words.len() as u32
     }
 }
