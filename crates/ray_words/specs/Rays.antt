@@ -4,7 +4,7 @@ use Rattle.vf_spans.specs.Members.{has}
 use Rattle.vf_spans.specs.Words.{has_bit, in_word}
 use Rattle.dexel_rays.specs.declared.word_sets.WordDelta.{WordDelta}
 use Rattle.dexel_rays.specs.declared.word_sets.WordSets.{WordSets}
-use Rattle.dexel_rays.specs.Sets.{HaveBound, Sets}
+use Rattle.dexel_rays.specs.Sets.{Sets}
 
 -- the sets, and of which words the stretch consists: so many from the first on
 pub record KeptSets : Type 0 where

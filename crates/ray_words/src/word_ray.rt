@@ -46,6 +46,7 @@ impl WordRay {
         ensures fixture { result.sets.fixture ≡ fixture }
         ensures sure { (i : ℕ) → has result.sets.sure i ≡ false }
         ensures possible { (i : ℕ) → has result.sets.possible i ≡ false }
+        ensures none { result.count ≡ 0 }
         ensures bound { HaveBound (length stock) result.sets }
     {
         WordRay {

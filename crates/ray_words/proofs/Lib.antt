@@ -1,0 +1,4 @@
+pub mod Marks
+pub mod Changes
+pub mod Keeping
+pub mod Ranges
