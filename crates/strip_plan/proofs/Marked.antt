@@ -1,5 +1,5 @@
 -- What marks by a move of a plan.
-use Rattle.std.proofs.Common.{◌≡◌, ◌∙◌, ℕ, ◌<◌, List, Some, length, slice_get, slice_index, get_or, arith, ap, refl}
+use Rattle.std.proofs.Common.{◌≡◌, ◌∙◌, ℕ, ◌<◌, List, Some, length, slice_get, slice_index, get_or, arith, ap, refl, subst, sym}
 use Rattle.std.proofs.lemmas.Grind.{get_or_default_zero}
 use Rattle.std.proofs.lemmas.Option.{get_or_from_slice_get, slice_get_read}
 use Rattle.space.specs.Motion.{Motion}
@@ -36,3 +36,13 @@ stacks_are moves slabs stacks places number place next found has lt read_place r
     let is = has.each number next lt (slice_get_read moves (length moves) number next refl lt read_next) in
     let there : place ≡ slice_index places number = read_place ∙ get_or_default_zero places number place (omega (arith, lt, many)) in
     read_found ∙ ap (λ k. get_or stacks k found) there ∙ is.there found
+
+-- the place of a move is one of the stacks
+pub stacks_within : (moves : List JobMove) (slabs : ℕ) (stacks : List StacksOf) (places : List ℕ) (number place : ℕ) (next : JobMove)
+    → HasStacks slabs moves stacks places (length moves) → number < length moves → place ≡ get_or places number place → next ≡ get_or moves number next
+    → place < length stacks
+stacks_within moves slabs stacks places number place next has lt read_place read_next =
+    let many = has.many in
+    let is = has.each number next lt (slice_get_read moves (length moves) number next refl lt read_next) in
+    let there : place ≡ slice_index places number = read_place ∙ get_or_default_zero places number place (omega (arith, lt, many)) in
+    subst (λ k. k < length stacks) (sym there) is.within

@@ -1,5 +1,6 @@
 ghost use Rattle.std.specs.Prelude.{◌≡◌, ◌≤◌, IsTrue, IfOk, OnOk, All, length, take};
 ghost use Rattle.std.specs.Option.{IfSome};
+ghost use Rattle.job_model.specs.Tasks.{IsJobMove};
 ghost use Rattle.strip_plan.specs.Cutters.{HasSlabs, HasStacks, IsStackPlace};
 
 use crate::plan_move::PlanMove;
@@ -88,12 +89,14 @@ fn place_of(
     Ok(place)
 }
 
-/// The stacks of moves, with `slabs` for each cutter. Fails only for want of memory.
+/// The stacks of moves, with `slabs` for each cutter; the moves are valid by their types, each seen here. Fails only for want of
+/// memory.
 pub(crate) fn cutters_of(alloc: Global, moves: &[PlanMove], slabs: u32) -> Result<Cutters, NoMemory>
     requires some { 1 ≤ slabs }
     requires few { slabs ≤ 256 }
     ensures slabs { IfOk result (λ cutters. cutters.slabs ≡ slabs) }
     ensures stacks { IfOk result (λ cutters. HasStacks slabs moves.now cutters.stacks.items cutters.places.items (length moves.now)) }
+    ensures valid { OnOk result (All IsJobMove moves.now) }
 {
     let mut known = BTreeMap::new(alloc);
     let mut stacks = Vec::new(alloc);

@@ -10,3 +10,6 @@ mod windows;
 
 pub use plan::Plan;
 pub use plan_move::PlanMove;
+
+#[cfg(test)]
+mod tests;

@@ -3,7 +3,7 @@ ghost use Rattle.edit_plan.specs.Edits.{AppliesBelow};
 ghost use Rattle.edit_plan.specs.Limits.{most_edits, most_script_moves};
 ghost use Rattle.ray_grid.specs.Lattice.{IsRay, points_of};
 ghost use Rattle.ray_grid.specs.Strips.{strip_at, strips_of};
-ghost use Rattle.job_model.specs.Tasks.{JobMove};
+ghost use Rattle.job_model.specs.Tasks.{IsPlan, JobMove};
 ghost use Rattle.strip_plan.specs.Plans.{HasNumber, move_in};
 ghost use Rattle.strip_plan.specs.Windows.{HoldsEntered, HoldsPossible};
 
@@ -33,7 +33,7 @@ impl Model for Plan {
     ghost use Rattle.std.specs.Prelude.{◌≤◌, All, length};
     ghost use Rattle.edit_plan.specs.Edits.{AppliesBelow};
     ghost use Rattle.edit_plan.specs.Limits.{most_edits, most_script_moves};
-    ghost use Rattle.job_model.specs.Tasks.{PlanOf};
+    ghost use Rattle.job_model.specs.Tasks.{IsPlan, PlanOf};
     ghost use Rattle.strip_plan.specs.Boxed.{HasBoxes};
     ghost use Rattle.strip_plan.specs.Cutters.{HasStacks};
 
@@ -44,7 +44,8 @@ impl Model for Plan {
     ghost invariant = { λ p. (p.depth ≤ 10) × (length p.moves.items ≤ most_script_moves) × (length p.edits ≤ most_edits)
         × All (AppliesBelow (length p.moves.items)) p.edits
         × HasStacks p.cutters.slabs p.moves.items p.cutters.stacks.items p.cutters.places.items (length p.moves.items)
-        × HasBoxes p.grid p.cutters.slabs p.depth p.moves.items p.boxes.boxes.items p.boxes.starts.items (length p.moves.items) };
+        × HasBoxes p.grid p.cutters.slabs p.depth p.moves.items p.boxes.boxes.items p.boxes.starts.items (length p.moves.items)
+        × IsPlan record { grid = p.grid; slabs = p.cutters.slabs; depth = p.depth; moves = p.moves.items; edits = p.edits } };
 }
 
 impl Plan {
@@ -84,10 +85,12 @@ impl Plan {
         &self.grid
     }
 
-    /// How many moves the program has.
+    /// How many moves the program has. The plan is valid and its depth is at most 10.
     pub fn moves(&self) -> u32
         ensures count { result ≡ length self.now.moves }
         ensures few { result ≤ most_script_moves }
+        ensures valid { IsPlan self.now }
+        ensures shallow { self.now.depth ≤ 10 }
     {
         self.moves.len() as u32
     }
@@ -120,7 +123,8 @@ impl Plan {
     /// What marks the points of rays by a move.
     pub fn marker(&self, number: u32) -> MoveMarker<'_>
         requires { number < length self.now.moves }
-        ensures { (move : JobMove) → HasNumber self.now number move → result ≡ move_in self.now move }
+        ensures marker { (move : JobMove) → HasNumber self.now number move → result ≡ move_in self.now move }
+        ensures valid { IsPlan self.now }
     {
         let place = self.cutters.places[number as usize];
         MoveMarker::new(

@@ -2,7 +2,8 @@ use axis_cells::Sweep;
 use cutter_slabs::Cutter;
 use std::marker::Model;
 
-/// A move of the program with its cutter, whether it is in rapid motion, and the line where its record begins.
+/// A move of the program with its cutter, whether it is in rapid motion, and the line where its record begins. It is valid by its
+/// type, as its motion and its cutter are.
 #[derive(Clone, Copy, Debug, PartialEq, Eq)]
 pub struct PlanMove {
     pub sweep: Sweep,
@@ -12,11 +13,31 @@ pub struct PlanMove {
 }
 
 impl Model for PlanMove {
-    ghost use Rattle.job_model.specs.Tasks.{JobMove};
+    ghost use Rattle.job_model.specs.Tasks.{IsJobMove, JobMove};
 
     ghost Value = { JobMove };
 
     ghost view = { λ m. record { motion = m.sweep; cutter = m.cutter; rapid = m.rapid; line = m.line } };
 
+    ghost invariant = { λ m. IsJobMove record { motion = m.sweep; cutter = m.cutter; rapid = m.rapid; line = m.line } };
+
     ghost inverse = { λ m. record { sweep = m.motion; cutter = m.cutter; rapid = m.rapid; line = m.line } };
+}
+
+impl PlanMove {
+    ghost use Rattle.std.specs.Prelude.{◌≡◌};
+
+    pub fn new(sweep: Sweep, cutter: Cutter, rapid: bool, line: u32) -> PlanMove
+        ensures { result ≡ record { motion = sweep; cutter = cutter; rapid = rapid; line = line } }
+    {
+        // A sweep and a cutter are valid by their types, which is known where a field of theirs is seen.
+        let _sweep = &sweep.from;
+        let _cutter = &cutter.d;
+        PlanMove {
+            sweep,
+            cutter,
+            rapid,
+            line,
+        }
+    }
 }

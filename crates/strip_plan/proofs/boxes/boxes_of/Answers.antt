@@ -4,7 +4,7 @@ use Rattle.cutter_slabs.specs.Stacks.{StacksOf}
 use Rattle.job_model.specs.Tasks.{JobMove}
 use Rattle.strip_plan.specs.Boxed.{Covers, HasBoxes}
 use Rattle.strip_plan.proofs.Boxed.{more_boxes}
-use Rattle.strip_plan.proofs.Marked.{stacks_are}
+use Rattle.strip_plan.proofs.Marked.{stacks_are, stacks_within}
 use Rattle.strip_plan.proofs.boxes.boxes_of.Goals as goal
 
 pub loop-n-preserved : goal.loop-n-preserved
@@ -23,3 +23,9 @@ loop-n-preserved c =
     let more = more_boxes c.args.grid.now slabs c.args.depth c.args.moves.now old new c.loop-n.starts.items c.loop-n.n next c.bounds-region.result c.len.result c.loop-n.invariant
     c.in_ok-push_move.ensures.kept ends c.index-moves-n.is c.bounds-region.ensures.holds covers in
     subst (λ (starts : List ℕ). HasBoxes c.args.grid.now slabs c.args.depth c.args.moves.now new starts (c.loop-n.n + 1)) (sym c.in_ok-push-2.ensures.items) more
+
+pub index-requires : goal.index-requires
+index-requires c =
+    let lt : c.loop-n.n < length c.args.moves.now = search rules in
+    let within = stacks_within c.args.moves.now c.args.cutters.now.slabs c.args.cutters.now.stacks.items c.args.cutters.now.places.items c.loop-n.n c.index-place.result.now c.index-moves-n.result
+    c.requires.stacks lt c.index-place.ensures c.index-moves-n.is in search (rules, within)

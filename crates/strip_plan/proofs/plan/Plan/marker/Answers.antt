@@ -3,8 +3,8 @@ use Rattle.job_model.specs.Tasks.{JobMove, PlanOf}
 use Rattle.strip_plan.proofs.Marked.{marker_is}
 use Rattle.strip_plan.proofs.plan.Plan.marker.Goals as goal
 
-pub returns : goal.returns
-returns c move named =
+pub returns-clause-marker : goal.returns-clause-marker
+returns-clause-marker c move named =
     let moves = ap (λ (p : PlanOf). p.moves) c.self.view_is in
     c.new.ensures
     ∙ marker_is c.args.self.now c.self.inside.moves.items c.self.inside.cutters.slabs c.self.inside.depth c.self.inside.cutters.stacks.items c.self.inside.cutters.places.items c.args.number
