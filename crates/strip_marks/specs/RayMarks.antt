@@ -1,9 +1,10 @@
 -- What a move changes on a ray, and what it finds there.
-use Rattle.std.specs.Prelude.{◌≡◌, ℕ, ◌+◌, ◌-◌, ◌*◌, ◌<◌, ◌≤◌, ◌^◌, true, Bool, not, ◌&&◌, List, ◌++◌, length, All}
+use Rattle.std.specs.Prelude.{◌≡◌, ℕ, ◌-◌, ◌*◌, ◌<◌, ◌≤◌, ◌^◌, ◌==◌, true, Bool, not, ◌&&◌, if◌then◌else◌, List, [], ◌∷◌, ◌++◌, length, slice_index_or, All}
 use Rattle.std.specs.List.{range_with_len}
 use Rattle.vf_spans.specs.Members.{has}
 use Rattle.ray_grid.specs.Lattice.{points_of}
 use Rattle.job_facts.specs.declared.counts.Counts.{Counts}
+use Rattle.dexel_rays.specs.declared.word_sets.WordDelta.{WordDelta}
 use Rattle.dexel_rays.specs.Findings.{findings}
 use Rattle.dexel_rays.specs.Sets.{Sets}
 use Rattle.ray_words.specs.Rays.{IsBelow, IsKept, KeptSets}
@@ -17,6 +18,11 @@ pub record Adds (before after : List WordChange) (fact : List WordChange → Typ
   pub added : List WordChange
   pub joined : after ≡ before ++ added
   pub holds : fact added
+
+-- what is noted of word k of ray n: a change, if anything changes
+abbrev pub noted : ℕ → ℕ → WordDelta → List WordChange
+noted n k delta =
+    if delta.sure == 0 && delta.possible == 0 then [] else record { ray = n; word = k; sure = delta.sure; possible = delta.possible } ∷ []
 
 -- a change of ray n, which has so many points, at one of the words from the one on and below the other; it has only points of the ray
 pub record IsChangeIn (bound n lo hi : ℕ) (change : WordChange) : Type 0 where
@@ -36,6 +42,15 @@ pub record AreWordsMarked (d : Sets) (sure possible : ℕ → Bool) (rapid : Boo
   pub each : All (IsChangeIn (length d.stock) n lo hi) changes
   pub order : AreInOrder changes
   pub found : counts ≡ findings (seen_on d sure possible rapid) (range_with_len (64 * lo) (64 * (hi - lo)))
+
+-- changes of one ray: their words are below a number, and none is at a word before one that stands ahead of it
+pub record HaveWordsBelow (most : ℕ) (changes : List WordChange) : Type 0 where
+  pub below : (i : ℕ) (d : WordChange) → i < length changes → (slice_index_or changes i d).word < most
+  pub order : (i k : ℕ) (d : WordChange) → i ≤ k → k < length changes → (slice_index_or changes i d).word ≤ (slice_index_or changes k d).word
+
+-- the change's word is kept
+abbrev pub IsAtKept : KeptSets → WordChange → Type 0
+IsAtKept ray change = IsKept ray change.word
 
 -- from the one index of the ray to the other lie all at which the move is possible; where it is sure it is possible
 pub record IsWindow (r : RayOf) (lo hi : ℕ) : Type 0 where

@@ -1,9 +1,11 @@
 -- What a move changes on neighbouring rays of a strip, and what it finds there.
-use Rattle.std.specs.Prelude.{◌≡◌, ℕ, ◌-◌, ◌<◌, ◌≤◌, ◌^◌, not, ◌&&◌, List, length, map, All}
+use Rattle.std.specs.Prelude.{◌≡◌, ℕ, ◌-◌, ◌<◌, ◌≤◌, true, not, ◌&&◌, List, length, map, All}
 use Rattle.std.specs.List.{range_with_len}
 use Rattle.vf_spans.specs.Members.{has}
+use Rattle.ray_grid.specs.Grids.{GridSize}
 use Rattle.ray_grid.specs.Strips.{strip_at, strip_of}
 use Rattle.job_facts.specs.declared.counts.Counts.{Counts}
+use Rattle.dexel_rays.specs.Sets.{HaveBound, Sets}
 use Rattle.ray_words.specs.Rays.{KeptSets}
 use Rattle.wanted_marks.specs.Strips.{StripOf}
 use Rattle.job_model.specs.Sums.{sum_counts}
@@ -11,6 +13,11 @@ use Rattle.job_model.specs.Tasks.{JobMove, PlanOf}
 use Rattle.strip_plan.specs.Plans.{HasNumber, move_in}
 use Rattle.strip_marks.specs.declared.change.WordChange.{WordChange}
 use Rattle.strip_marks.specs.Marks.{AreInOrder, IsChangeOn, among, points_at, possible_of, possible_there, ray_found, sets_of, sure_of, sure_there}
+
+-- the sets are those of ray n of the strip, and no point is sure that isn't possible
+pub record AreSetsAt (grid : GridSize) (strip n : ℕ) (d : Sets) : Type 0 where
+  pub bound : HaveBound (points_at grid strip n) d
+  pub ordered : (l : ℕ) → has d.sure l ≡ true → has d.possible l ≡ true
 
 -- it marks by the move of the plan with a number, on the rays of a strip
 pub record IsMarkerOf (plan : PlanOf) (number strip : ℕ) (s : StripOf) : Type 0 where
