@@ -1,1 +1,4 @@
 pub mod Marks
+pub mod Words
+pub mod RayMarks
+pub mod RowMarks

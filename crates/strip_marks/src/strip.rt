@@ -1,8 +1,11 @@
-ghost use Rattle.std.specs.Prelude.{◌≡◌, ◌<◌, IfOk, length};
-ghost use Rattle.ray_grid.specs.Strips.{strips_of};
-ghost use Rattle.job_model.specs.Tasks.{JobMove};
+ghost use Rattle.std.specs.Prelude.{◌≡◌, ◌<◌, ◌≤◌, ◌-◌, ◌^◌, IfOk, length};
+ghost use Rattle.ray_grid.specs.Strips.{strip_at, strips_of};
+ghost use Rattle.job_facts.specs.Counts.{AreWithin};
+ghost use Rattle.job_model.specs.Tasks.{IsPlan, JobMove};
 ghost use Rattle.strip_plan.specs.Plans.{HasNumber};
-ghost use Rattle.strip_marks.specs.Marks.{AreRays, HaveSameSets, IsMarkedStrip};
+ghost use Rattle.strip_marks.specs.Marks.{AreRays, HaveSameSets, IsMarkedStrip, possible_there, sure_there};
+ghost use Rattle.strip_marks.specs.RayMarks.{Adds, HasSameSets, IsRayMarked};
+ghost use Rattle.strip_marks.specs.RowMarks.{AreRaysMarked, AreSetsAt, IsMarkerOf};
 
 use crate::change::WordChange;
 use crate::marked::Marked;
@@ -14,34 +17,74 @@ use strip_plan::Plan;
 use vf_io::NoMemory;
 use wanted_marks::StripMarker;
 
-/// Marks the rays from the one number on and below the other.
-fn mark_rays(
-    marker: &StripMarker<'_>,
+/// What the move changes on ray n of the strip, and what it finds there.
+fn mark_at<'x>(
+    marker: &'x StripMarker<'x>,
+    ray: &mut WordRay,
+    plan: &Plan,
+    number: u32,
+    strip: u32,
+    n: u32,
+    changes: &mut Vec<WordChange>,
+) -> Result<Counts, NoMemory>
+    requires plan { IsPlan plan.now }
+    requires number { number < length plan.now.moves }
+    requires strip { strip < length (strips_of plan.now.grid) }
+    requires n { n < length (strip_at plan.now.grid strip) }
+    requires ray { AreSetsAt plan.now.grid strip n ray.old.sets }
+    requires marker { IsMarkerOf plan.now number strip marker.now }
+    ensures same { HasSameSets ray.old ray.new }
+    ensures few { IfOk result (AreWithin (2 ^ 32 - 1)) }
+    ensures marked { IfOk result (λ counts. (move : JobMove) → HasNumber plan.now number move
+        → Adds changes.old.items changes.new.items (λ added.
+            IsRayMarked ray.new (sure_there plan.now move strip n) (possible_there plan.now move strip n) move.rapid n added counts)) }
+{
+    // The bound fits.
+    let _bound = ray.bound();
+    let window = plan.ray_window(number, &plan.grid().strip_ray(strip, n));
+    if window.0 >= window.1 {
+        return Ok(Counts::none());
+    }
+    let on_ray = marker.on_ray(n);
+    mark_ray(&on_ray, ray, n, window, plan.is_rapid(number), changes)
+}
+
+/// What the move changes on the rays of the strip from the one number on and below the other, and what it finds there.
+fn mark_rays<'x>(
+    alloc: Global,
+    marker: &'x StripMarker<'x>,
     rays: &mut [WordRay],
     plan: &Plan,
     number: u32,
     strip: u32,
     window: (u32, u32),
-    changes: &mut Vec<WordChange>,
-) -> Result<Counts, NoMemory> {
-    let rapid = plan.is_rapid(number);
+) -> Result<Marked, NoMemory>
+    requires plan { IsPlan plan.now }
+    requires number { number < length plan.now.moves }
+    requires strip { strip < length (strips_of plan.now.grid) }
+    requires rays { AreRays plan.now.grid strip rays.old }
+    requires order { window.0 ≤ window.1 }
+    requires within { window.1 ≤ length rays.old }
+    requires marker { IsMarkerOf plan.now number strip marker.now }
+    ensures same { HaveSameSets rays.old rays.new }
+    ensures marked { IfOk result (λ m. (move : JobMove) → HasNumber plan.now number move
+        → AreRaysMarked plan.now move strip rays.old rays.new window.0 window.1 m.changes.items m.counts) }
+{
+    let mut changes = Vec::new(alloc);
     let mut counts = Counts::none();
     for n in window.0..window.1 {
-        let points = plan.ray_window(number, &plan.grid().strip_ray(strip, n));
-        if points.0 < points.1 {
-            let on_ray = marker.on_ray(n);
-            let found = mark_ray(
-                &on_ray,
-                &mut rays[n as usize],
-                n,
-                points,
-                rapid,
-                changes,
-            )?;
-            counts = counts.plus(&found);
-        }
+        let found = mark_at(
+            marker,
+            &mut rays[n as usize],
+            plan,
+            number,
+            strip,
+            n,
+            &mut changes,
+        )?;
+        counts = counts.plus(&found);
     }
-    Ok(counts)
+    Ok(Marked { changes, counts })
 }
 
 /// What a move of the plan changes on a strip, by the sets of the strip's rays, and what it finds there. Only the points of the
@@ -60,16 +103,18 @@ pub fn mark_strip(
     ensures marked { IfOk result (λ m. (move : JobMove) → HasNumber plan.now number move
         → IsMarkedStrip plan.now move strip rays.old rays.new m.changes.items m.counts) }
 {
-    let mut changes = Vec::new(alloc);
+    // A plan is valid by its type.
+    let _valid = plan.moves();
     let window = plan.strip_window(number, strip);
     if window.0 == window.1 {
-        let counts = Counts::none();
-        return Ok(Marked { changes, counts });
+        return Ok(Marked {
+            changes: Vec::new(alloc),
+            counts: Counts::none(),
+        });
     }
     let grid = plan.grid();
     let first = grid.strip_ray(strip, 0);
     let mover = plan.marker(number);
     let marker = mover.on_strip(grid, first.family, first.i);
-    let counts = mark_rays(&marker, rays, plan, number, strip, window, &mut changes)?;
-    Ok(Marked { changes, counts })
+    mark_rays(alloc, &marker, rays, plan, number, strip, window)
 }

@@ -1,18 +1,29 @@
-use dexel_rays::{WordDelta, WordSets};
+ghost use Rattle.std.specs.Prelude.{◌<◌, length};
+ghost use Rattle.vf_spans.specs.Words.{words_below};
+ghost use Rattle.wanted_marks.specs.Rays.{is_possible_at, is_sure_at};
+ghost use Rattle.strip_marks.specs.Words.{AreSetsOf, IsWordMarked};
+
+use dexel_rays::WordDelta;
 use job_facts::Counts;
+use ray_words::WordRay;
 use vf_spans::bits::bits_below;
 use wanted_marks::RayMarker;
 
-/// What a move changes at the points of word n of a ray of so many points, and what it finds there. Only points that the move has to
-/// be asked about are marked.
+/// What a move changes at the points of word n of a ray, and what it finds there. Only points that the move has to be asked about
+/// are marked.
 pub fn mark_word(
     marker: &RayMarker<'_>,
-    sets: &WordSets,
+    ray: &WordRay,
     n: u32,
-    points: u32,
     rapid: bool,
-) -> (WordDelta, Counts) {
+) -> (WordDelta, Counts)
+    requires ray { AreSetsOf marker.now ray.now.sets }
+    requires word { n < words_below (length ray.now.sets.stock) }
+    ensures { IsWordMarked ray.now.sets (is_sure_at marker.now) (is_possible_at marker.now) rapid n result.0 result.1 }
+{
+    let points = ray.bound();
     let first = 64 * n;
+    let sets = ray.word(n);
     let wanted = bits_below(sets.wanted(), points - first);
     let marks = marker.mark(first, wanted, sets.sure_only(rapid));
     sets.add(marks.sure, marks.possible, rapid)

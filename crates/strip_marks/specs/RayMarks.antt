@@ -1,0 +1,83 @@
+-- What a move changes on a ray, and what it finds there.
+use Rattle.std.specs.Prelude.{◌≡◌, ℕ, ◌-◌, ◌*◌, ◌<◌, ◌≤◌, ◌^◌, ◌==◌, true, Bool, not, ◌&&◌, if◌then◌else◌, List, [], ◌∷◌, ◌++◌, length, slice_index_or, All}
+use Rattle.std.specs.List.{range_with_len}
+use Rattle.vf_spans.specs.Members.{has}
+use Rattle.ray_grid.specs.Lattice.{points_of}
+use Rattle.job_facts.specs.declared.counts.Counts.{Counts}
+use Rattle.dexel_rays.specs.declared.word_sets.WordDelta.{WordDelta}
+use Rattle.dexel_rays.specs.Findings.{findings}
+use Rattle.dexel_rays.specs.Sets.{Sets}
+use Rattle.ray_words.specs.Rays.{IsBelow, IsKept, KeptSets}
+use Rattle.wanted_marks.specs.Rays.{RayOf, is_possible_at, is_sure_at}
+use Rattle.strip_plan.specs.Windows.{IsFrom}
+use Rattle.strip_marks.specs.declared.change.WordChange.{WordChange}
+use Rattle.strip_marks.specs.Marks.{AreInOrder, among, possible_of, seen_on, sure_of}
+
+-- the list goes on with further changes, of which a fact holds
+pub record Adds (before after : List WordChange) (fact : List WordChange → Type 0) : Type 0 where
+  pub added : List WordChange
+  pub joined : after ≡ before ++ added
+  pub holds : fact added
+
+-- what is noted of word k of ray n: a change, if anything changes
+abbrev pub noted : ℕ → ℕ → WordDelta → List WordChange
+noted n k delta =
+    if delta.sure == 0 && delta.possible == 0 then [] else record { ray = n; word = k; sure = delta.sure; possible = delta.possible } ∷ []
+
+-- a change of ray n, which has so many points, at one of the words from the one on and below the other; it has only points of the ray
+pub record IsChangeIn (bound n lo hi : ℕ) (change : WordChange) : Type 0 where
+  pub ray : change.ray ≡ n
+  pub from : lo ≤ change.word
+  pub below : change.word < hi
+  pub sure : IsBelow bound change.word change.sure
+  pub possible : IsBelow bound change.word change.possible
+
+-- what a move that is sure and possible by these tests changes in the words of ray n from the one on and below the other, by the
+-- ray's sets, and what it finds there
+pub record AreWordsMarked (d : Sets) (sure possible : ℕ → Bool) (rapid : Bool) (n lo hi : ℕ) (changes : List WordChange)
+    (counts : Counts) : Type 0 where
+  pub new_sure : (l : ℕ) → 64 * lo ≤ l → l < 64 * hi → l < length d.stock → among sure_of changes n l ≡ (sure l && not (has d.sure l))
+  pub new_possible : (l : ℕ) → 64 * lo ≤ l → l < 64 * hi → l < length d.stock
+      → among possible_of changes n l ≡ (possible l && not (has d.possible l))
+  pub each : All (IsChangeIn (length d.stock) n lo hi) changes
+  pub order : AreInOrder changes
+  pub found : counts ≡ findings (seen_on d sure possible rapid) (range_with_len (64 * lo) (64 * (hi - lo)))
+
+-- changes of one ray: their words are below a number, and none is at a word before one that stands ahead of it
+pub record HaveWordsBelow (most : ℕ) (changes : List WordChange) : Type 0 where
+  pub below : (i : ℕ) (d : WordChange) → i < length changes → (slice_index_or changes i d).word < most
+  pub order : (i k : ℕ) (d : WordChange) → i ≤ k → k < length changes → (slice_index_or changes i d).word ≤ (slice_index_or changes k d).word
+
+-- the change's word is kept
+abbrev pub IsAtKept : KeptSets → WordChange → Type 0
+IsAtKept ray change = IsKept ray change.word
+
+-- from the one index of the ray to the other lie all at which the move is possible; where it is sure it is possible
+pub record IsWindow (r : RayOf) (lo hi : ℕ) : Type 0 where
+  pub order : lo ≤ hi
+  pub within : hi ≤ points_of r.grid r.ray.family
+  pub holds : (l : ℕ) → l < points_of r.grid r.ray.family → is_possible_at r l ≡ true → IsFrom lo hi l
+  pub both : (l : ℕ) → is_sure_at r l ≡ true → is_possible_at r l ≡ true
+
+-- the sets are the same, and the words that were kept are kept still
+pub record HasSameSets (before after : KeptSets) : Type 0 where
+  pub sets : after.sets ≡ before.sets
+  pub kept : (k : ℕ) → IsKept before k → IsKept after k
+
+-- a change of ray n at a word that is kept; it has only points of the ray
+pub record IsChangeOf (ray : KeptSets) (n : ℕ) (change : WordChange) : Type 0 where
+  pub number : change.ray ≡ n
+  pub kept : IsKept ray change.word
+  pub sure : IsBelow (length ray.sets.stock) change.word change.sure
+  pub possible : IsBelow (length ray.sets.stock) change.word change.possible
+
+-- what a move that is sure and possible by these tests changes on ray n, by the ray's sets, and what it finds there
+pub record IsRayMarked (after : KeptSets) (sure possible : ℕ → Bool) (rapid : Bool) (n : ℕ) (changes : List WordChange)
+    (counts : Counts) : Type 0 where
+  pub new_sure : (l : ℕ) → l < length after.sets.stock → among sure_of changes n l ≡ (sure l && not (has after.sets.sure l))
+  pub new_possible : (l : ℕ) → l < length after.sets.stock
+      → among possible_of changes n l ≡ (possible l && not (has after.sets.possible l))
+  pub each : All (IsChangeOf after n) changes
+  pub order : AreInOrder changes
+  pub found : counts ≡ findings (seen_on after.sets sure possible rapid) (range_with_len 0 (length after.sets.stock))
+  pub few : length after.sets.stock < 2 ^ 32
