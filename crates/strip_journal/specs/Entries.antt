@@ -53,9 +53,19 @@ possible_ahead entries place = if place == 0 then 0 else (entry_at entries (plac
 abbrev pub HasNo : List Entry → ℕ → Type 0
 HasNo entries edit = (place : ℕ) → place < length entries → edit_at entries place ≡ edit → ⊥
 
--- the entries stand in order of their edits, all of which are done
+-- the entries stand in order of their edits
+pub record AreAscending (entries : List Entry) : Type 0 where
+  pub each : (i k : ℕ) → i < k → k < length entries → edit_at entries i < edit_at entries k
+
+-- the place of the first entry of an edit at or behind a version
+pub record IsPlace (entries : List Entry) (version place : ℕ) : Type 0 where
+  pub within : place ≤ length entries
+  pub ahead : (i : ℕ) → i < place → edit_at entries i < version
+  pub behind : (i : ℕ) → place ≤ i → i < length entries → version ≤ edit_at entries i
+
+-- they are in order, all their edits are done, and their changes are among so many
 pub record AreEntries (entries : List Entry) (changes done : ℕ) : Type 0 where
-  pub ascend : (i k : ℕ) → i < k → k < length entries → edit_at entries i < edit_at entries k
+  pub ascend : AreAscending entries
   pub early : (i : ℕ) → i < length entries → edit_at entries i < done
   pub order : (i : ℕ) → i < length entries → (entry_at entries i).from ≤ (entry_at entries i).to
   pub within : (i : ℕ) → i < length entries → (entry_at entries i).to ≤ changes

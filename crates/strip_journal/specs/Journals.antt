@@ -1,6 +1,7 @@
 -- What a strip keeps of a job.
 use Rattle.std.specs.Prelude.{◌≡◌, ℕ, ◌+◌, ◌^◌, ◌<◌, ◌≤◌, false, Bool, All, List, length, slice_index}
 use Rattle.vf_spans.specs.Members.{has}
+use Rattle.ray_grid.specs.Ranges.{IsGrid}
 use Rattle.ray_grid.specs.Strips.{strips_of}
 use Rattle.edit_plan.specs.Limits.{most_edits}
 use Rattle.edit_lines.specs.Lines.{Line, line_at, move_of}
@@ -71,6 +72,10 @@ pub record AreRaysAt (job : Job) (strip done : ℕ) (j : Journal) : Type 0 where
   pub possible : (n l : ℕ) → n < length j.rays.items → l < points_at job.plan.grid strip n
       → has (sets_of j.rays.items n).possible l ≡ possible_at job strip done n l
 
+-- the job that a journal is of
+abbrev pub job_of : Journal → Job
+job_of j = record { plan = j.plan.value; stock = j.stock.value; part = j.part.value; fixture = j.fixture.value }
+
 -- the line of edits that is kept
 abbrev pub line_of : Journal → Line
 line_of j = record { numbers = j.line.items; at = j.at }
@@ -78,12 +83,13 @@ line_of j = record { numbers = j.line.items; at = j.at }
 -- the journal is that of a strip of the job after some of its edits
 pub record IsJournal (job : Job) (j : Journal) : Type 0 where
   pub valid : IsPlan job.plan
+  pub grid : IsGrid job.plan.grid
   pub strip : j.number < length (strips_of job.plan.grid)
   pub few : length job.plan.edits ≤ most_edits
   pub within : j.done ≤ length job.plan.edits
   pub line : line_of j ≡ line_at job.plan.edits j.done
   pub newest : AreRaysAt job j.number j.done j
-  pub stock : j.stock ≡ (totals_over job (strip_points job.plan.grid j.number) (left_moves job.plan 0)).of
+  pub of : j.of ≡ (totals_over job (strip_points job.plan.grid j.number) (left_moves job.plan 0)).of
   pub kept : AreEntries j.entries.items (length j.changes.items) j.done
   pub sorted : (i : ℕ) → i < length j.entries.items → AreInOrder (changes_of j.changes.items (entry_at j.entries.items i))
   pub on : All (IsChangeOn j.rays.items) j.changes.items
@@ -94,3 +100,10 @@ pub record IsJournal (job : Job) (j : Journal) : Type 0 where
       j.changes.items j.entries.items j.done
   pub totals : HaveTotals job j.number j.entries.items
   pub found : AreFound job j.number j.line.items j.entries.items
+
+-- a journal of the same strip after so many edits
+pub record IsAt (j k : Journal) (done : ℕ) : Type 0 where
+  pub journal : IsJournal (job_of k) k
+  pub job : job_of k ≡ job_of j
+  pub number : k.number ≡ j.number
+  pub done_is : k.done ≡ done

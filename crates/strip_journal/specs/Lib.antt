@@ -1,3 +1,6 @@
 pub mod Entries
+pub mod Fresh
+pub mod Found
 pub mod Journals
+pub mod Steps
 pub mod Strips

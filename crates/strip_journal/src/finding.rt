@@ -1,3 +1,13 @@
+ghost use Rattle.std.specs.Prelude.{◌≡◌, ℕ, ◌+◌, ◌-◌, ◌<◌, ◌≤◌, All, if◌then◌else◌, not, MatchOption, length};
+ghost use Rattle.job_facts.specs.declared.totals.PointState.TheVariants.{Absent, Kept, Possible, Removed};
+ghost use Rattle.job_facts.specs.Counts.{AreWithin};
+ghost use Rattle.job_model.specs.Points.{left_moves, state_after, strip_points, totals_over};
+ghost use Rattle.strip_marks.specs.Marks.{AreInOrder, among, point_at, points_at, possible_of, sure_of};
+ghost use Rattle.strip_journal.specs.Entries.{AreAscending, HasNo, IsPlace, changes_of, counts_of_hits, edit_at, entry_at, possible_ahead, removed_ahead, was};
+ghost use Rattle.strip_journal.specs.Journals.{IsJournal, job_of};
+ghost use Rattle.strip_journal.specs.Strips.{most_before};
+ghost use Rattle.strip_journal.specs.Found.{AddsEntry, AddsLeft, IsFoundBy};
+
 use crate::entry::Entry;
 use crate::journal::Journal;
 use job_facts::{Counts, PointState, Totals};
@@ -7,12 +17,19 @@ use vf_spans::bits::has_bit;
 use vf_steps::Steps;
 
 /// The place of the first entry of an edit at or behind a version.
-pub fn place_of(entries: &[Entry], version: u32) -> usize {
+pub fn place_of(entries: &[Entry], version: u32) -> usize
+    requires { AreAscending entries.now }
+    ensures { IsPlace entries.now version result }
+{
     entries.partition_point(|entry| entry.edit < version)
 }
 
 /// Whether the changes make index l of ray n sure, and possible.
-pub fn changed_at(changes: &[WordChange], n: u32, l: u32) -> (bool, bool) {
+pub fn changed_at(changes: &[WordChange], n: u32, l: u32) -> (bool, bool)
+    requires { AreInOrder changes.now }
+    ensures sure { result.0 ≡ among sure_of changes.now n l }
+    ensures possible { result.1 ≡ among possible_of changes.now n l }
+{
     let word = l / 64;
     let place = changes.partition_point(|change| {
         change.ray < n || (change.ray == n && change.word < word)
@@ -31,7 +48,9 @@ pub fn changed_at(changes: &[WordChange], n: u32, l: u32) -> (bool, bool) {
 }
 
 /// Whether an index was in a set before an edit that changed it there or not, by whether it is there after it.
-fn was(is_undo: bool, changed: bool, after: bool) -> bool {
+fn was(is_undo: bool, changed: bool, after: bool) -> bool
+    ensures { result ≡ was is_undo changed after }
+{
     if is_undo {
         after || changed
     } else {
@@ -39,7 +58,9 @@ fn was(is_undo: bool, changed: bool, after: bool) -> bool {
     }
 }
 
-fn state_of(stock: bool, sure: bool, possible: bool) -> PointState {
+fn state_of(stock: bool, sure: bool, possible: bool) -> PointState
+    ensures { result ≡ (if not stock then Absent else (if sure then Removed else (if possible then Possible else Kept))) }
+{
     if !stock {
         PointState::Absent
     } else if sure {
@@ -53,7 +74,11 @@ fn state_of(stock: bool, sure: bool, possible: bool) -> PointState {
 
 impl Journal {
     /// The place of an edit's entry, if it had an effect.
-    pub fn entry_of(&self, edit: u32) -> Option<usize> {
+    pub fn entry_of(&self, edit: u32) -> Option<usize>
+        requires { AreAscending self.now.entries.items }
+        ensures { MatchOption result (HasNo self.now.entries.items edit)
+            (λ place. (place < length self.now.entries.items) × (edit_at self.now.entries.items place ≡ edit)) }
+    {
         let place = place_of(self.entries.as_slice(), edit);
         if place < self.entries.len() && self.entries[place].edit == edit {
             Some(place)
@@ -63,7 +88,11 @@ impl Journal {
     }
 
     /// How many stock points are removed, and at how many a move is possible, ahead of the entry at a place.
-    pub fn totals_ahead(&self, place: usize) -> (u32, u32) {
+    pub fn totals_ahead(&self, place: usize) -> (u32, u32)
+        requires { place ≤ length self.now.entries.items }
+        ensures removed { result.0 ≡ removed_ahead self.now.entries.items place }
+        ensures possible { result.1 ≡ possible_ahead self.now.entries.items place }
+    {
         if place == 0 {
             return (0, 0);
         }
@@ -72,18 +101,30 @@ impl Journal {
     }
 
     /// The totals at a version.
-    pub fn totals_at(&self, version: u32) -> Totals {
+    pub fn totals_at(&self, version: u32) -> Totals
+        requires journal { IsJournal (job_of self.now) self.now }
+        requires version { version ≤ self.now.done }
+        ensures { result ≡ totals_over (job_of self.now) (strip_points self.now.plan.value.grid self.now.number)
+            (left_moves self.now.plan.value version) }
+    {
         let place = place_of(self.entries.as_slice(), version);
         let (removed, possible) = self.totals_ahead(place);
         Totals {
             removed: u64::from(removed),
             possible: u64::from(possible),
-            of: u64::from(self.stock),
+            of: u64::from(self.of),
         }
     }
 
-    /// What the edit of the entry at a place found: the stock is what the totals rose by.
-    pub fn counts_at(&self, place: usize) -> Counts {
+    /// What the edit of the entry at a place found: new stock is what the totals rose by.
+    fn counts_at(&self, place: usize) -> Counts
+        requires place { place < length self.now.entries.items }
+        requires removed { removed_ahead self.now.entries.items place ≤ (entry_at self.now.entries.items place).removed }
+        requires possible { possible_ahead self.now.entries.items place ≤ (entry_at self.now.entries.items place).possible }
+        ensures { result ≡ counts_of_hits (entry_at self.now.entries.items place).hits
+            ((entry_at self.now.entries.items place).removed - removed_ahead self.now.entries.items place)
+            ((entry_at self.now.entries.items place).possible - possible_ahead self.now.entries.items place) }
+    {
         let (removed, possible) = self.totals_ahead(place);
         let entry = &self.entries[place];
         entry
@@ -91,21 +132,35 @@ impl Journal {
             .with_stock(entry.removed - removed, entry.possible - possible)
     }
 
-    /// What an edit's move found.
-    pub fn counts_of(&self, edit: u32) -> Counts {
-        match self.entry_of(edit) {
+    /// What the k-th edit of the line found, left or dropped.
+    pub fn found(&self, k: u32) -> Counts
+        requires journal { IsJournal (job_of self.now) self.now }
+        requires stands { k < length self.now.line.items }
+        ensures { IsFoundBy self.now k result }
+    {
+        match self.entry_of(self.line[k as usize]) {
             None => Counts::none(),
             Some(place) => self.counts_at(place),
         }
     }
 
     /// The changes that an entry made, took back or gave again.
-    fn changes_of(&self, entry: &Entry) -> &[WordChange] {
+    fn changes_of(&self, entry: &Entry) -> &[WordChange]
+        requires order { entry.now.from ≤ entry.now.to }
+        requires within { entry.now.to ≤ length self.now.changes.items }
+        ensures { result.now ≡ changes_of self.now.changes.items entry.now }
+    {
         &self.changes.as_slice()[entry.from as usize..entry.to as usize]
     }
 
     /// Whether a point was sure, and possible, before an entry's edit, by whether it is after it.
-    fn look_back(&self, entry: &Entry, n: u32, l: u32, after: (bool, bool)) -> (bool, bool) {
+    fn look_back(&self, entry: &Entry, n: u32, l: u32, after: (bool, bool)) -> (bool, bool)
+        requires order { entry.now.from ≤ entry.now.to }
+        requires within { entry.now.to ≤ length self.now.changes.items }
+        requires sorted { AreInOrder (changes_of self.now.changes.items entry.now) }
+        ensures sure { result.0 ≡ was entry.now.is_undo (among sure_of (changes_of self.now.changes.items entry.now) n l) after.0 }
+        ensures possible { result.1 ≡ was entry.now.is_undo (among possible_of (changes_of self.now.changes.items entry.now) n l) after.1 }
+    {
         let (sure, possible) = changed_at(self.changes_of(entry), n, l);
         (
             was(entry.is_undo, sure, after.0),
@@ -121,7 +176,15 @@ impl Journal {
         n: u32,
         l: u32,
         steps: &mut Steps<L>,
-    ) -> PointState {
+    ) -> PointState
+        requires journal { IsJournal (job_of self.now) self.now }
+        requires version { version ≤ self.now.done }
+        requires ray { n < length self.now.rays.items }
+        requires point { l < points_at self.now.plan.value.grid self.now.number n }
+        ensures state { result ≡ state_after (job_of self.now) (left_moves self.now.plan.value version)
+            (point_at self.now.plan.value.grid self.now.number n l) }
+        ensures cost { steps.new ≤ steps.old + (self.now.done - version) }
+    {
         let ray = &self.rays[n as usize];
         let mut marks = (ray.has_sure(l), ray.has_possible(l));
         let mut place = self.entries.len();
@@ -134,7 +197,13 @@ impl Journal {
     }
 
     /// Adds what the edit of the entry at a place found to the counts of its move, if that is left.
-    fn add_entry(&self, place: usize, counts: &mut [Counts]) {
+    fn add_entry(&self, place: usize, counts: &mut [Counts])
+        requires journal { IsJournal (job_of self.now) self.now }
+        requires place { place < length self.now.entries.items }
+        requires many { length counts.old ≡ self.now.at }
+        requires room { All (AreWithin most_before) counts.old }
+        ensures { AddsEntry self.now place counts.old counts.new }
+    {
         let edit = self.entries[place].edit;
         let left = &self.line.as_slice()[..self.at as usize];
         let j = left.partition_point(|number| *number < edit);
@@ -144,7 +213,12 @@ impl Journal {
     }
 
     /// Adds what each of the moves that are left found to the counts at its place: one walk over what is kept.
-    pub fn add_found(&self, counts: &mut [Counts]) {
+    pub fn add_found(&self, counts: &mut [Counts])
+        requires journal { IsJournal (job_of self.now) self.now }
+        requires many { length counts.old ≡ self.now.at }
+        requires room { All (AreWithin most_before) counts.old }
+        ensures { AddsLeft self.now counts.old counts.new }
+    {
         for place in 0..self.entries.len() {
             self.add_entry(place, counts);
         }

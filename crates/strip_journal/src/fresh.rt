@@ -1,3 +1,10 @@
+ghost use Rattle.std.specs.Prelude.{◌≡◌, ◌<◌, IfOk, length};
+ghost use Rattle.std.specs.Fn.{FnReturnsAt};
+ghost use Rattle.ray_grid.specs.Lattice.{IsRay};
+ghost use Rattle.ray_grid.specs.Strips.{strip_at, strips_of};
+ghost use Rattle.ray_shapes.specs.Sets.{Gives};
+ghost use Rattle.strip_journal.specs.Fresh.{AreFreshRays, IsFreshRay, stock_points};
+
 use ray_grid::{Grid, Ray};
 use ray_shapes::RayShape;
 use ray_words::WordRay;
@@ -16,7 +23,18 @@ fn fresh_ray<
     stock: &RayShape<A>,
     part: &RayShape<B>,
     fixture: &RayShape<C>,
-) -> Result<WordRay, NoMemory> {
+) -> Result<WordRay, NoMemory>
+    requires ray { IsRay stock.now.grid ray.now }
+    requires part_grid { part.now.grid ≡ stock.now.grid }
+    requires fixture_grid { fixture.now.grid ≡ stock.now.grid }
+    requires stock_callable { (ray : _) → IsRay stock.now.grid ray.now → A.pre stock.now.source ray }
+    requires part_callable { (ray : _) → IsRay part.now.grid ray.now → B.pre part.now.source ray }
+    requires fixture_callable { (ray : _) → IsRay fixture.now.grid ray.now → C.pre fixture.now.source ray }
+    requires stock_gives { Gives (FnReturnsAt A.Fn stock.now.source) stock.now.grid stock.now.solid }
+    requires part_gives { Gives (FnReturnsAt B.Fn part.now.source) part.now.grid part.now.solid }
+    requires fixture_gives { Gives (FnReturnsAt C.Fn fixture.now.source) fixture.now.grid fixture.now.solid }
+    ensures { IfOk result (IsFreshRay stock.now.grid ray.now stock.now.solid part.now.solid fixture.now.solid) }
+{
     let stock = stock.fill(ray)?;
     let part = part.fill(ray)?;
     let fixture = fixture.fill(ray)?;
@@ -35,7 +53,21 @@ pub fn fresh_rays<
     stock: &RayShape<A>,
     part: &RayShape<B>,
     fixture: &RayShape<C>,
-) -> Result<(Vec<WordRay>, u32), NoMemory> {
+) -> Result<(Vec<WordRay>, u32), NoMemory>
+    requires strip { strip < length (strips_of grid.now) }
+    requires stock_grid { stock.now.grid ≡ grid.now }
+    requires part_grid { part.now.grid ≡ grid.now }
+    requires fixture_grid { fixture.now.grid ≡ grid.now }
+    requires stock_callable { (ray : _) → IsRay stock.now.grid ray.now → A.pre stock.now.source ray }
+    requires part_callable { (ray : _) → IsRay part.now.grid ray.now → B.pre part.now.source ray }
+    requires fixture_callable { (ray : _) → IsRay fixture.now.grid ray.now → C.pre fixture.now.source ray }
+    requires stock_gives { Gives (FnReturnsAt A.Fn stock.now.source) stock.now.grid stock.now.solid }
+    requires part_gives { Gives (FnReturnsAt B.Fn part.now.source) part.now.grid part.now.solid }
+    requires fixture_gives { Gives (FnReturnsAt C.Fn fixture.now.source) fixture.now.grid fixture.now.solid }
+    ensures rays { IfOk result (λ r. AreFreshRays grid.now strip (length (strip_at grid.now strip)) stock.now.solid part.now.solid
+        fixture.now.solid r.0.items) }
+    ensures stock { IfOk result (λ r. r.1 ≡ stock_points r.0.items) }
+{
     let count = grid.strip_len(strip);
     let mut rays = Vec::with_capacity(alloc, count as usize)?;
     let mut points = 0;

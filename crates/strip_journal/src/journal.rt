@@ -1,13 +1,24 @@
 use crate::entry::Entry;
+use ray_shapes::Solid;
 use ray_words::WordRay;
+use std::alloc::Global;
+use std::snapshot::Snapshot;
 use strip_marks::WordChange;
+use strip_plan::Plan;
 
-/// A strip's newest sets, and what is needed to look back.
+/// What a strip keeps: its newest sets, and what is needed to look back.
 #[derive(Drop)]
 pub struct Journal {
+    pub alloc: Global,
+    /// What the strip is of: for contracts alone, without a byte.
+    pub plan: Snapshot<Plan>,
+    pub stock: Snapshot<Solid>,
+    pub part: Snapshot<Solid>,
+    pub fixture: Snapshot<Solid>,
+    /// The strip's number.
     pub number: u32,
-    /// How many stock points the strip has.
-    pub stock: u32,
+    /// How many stock points it has.
+    pub of: u32,
     pub rays: Vec<WordRay>,
     /// What edits changed, those of one edit together.
     pub changes: Vec<WordChange>,

@@ -11,10 +11,9 @@ ghost use Rattle.strip_journal.specs.Strips.{AddsFound, IsFoundAt, most_before};
 
 use crate::fresh::fresh_rays;
 use crate::journal::Journal;
-use edit_plan::Edit;
 use job_facts::{Counts, PointState, Totals};
 use ray_grid::Ray;
-use ray_shapes::{RayShape, Solid};
+use ray_shapes::RayShape;
 use std::alloc::Global;
 use std::marker::Model;
 use std::snapshot::Snapshot;
@@ -28,28 +27,18 @@ use vf_steps::Steps;
 /// that it tells is so of these.
 #[derive(Drop)]
 pub struct Strip {
-    alloc: Global,
-    plan: Snapshot<Plan>,
-    stock: Snapshot<Solid>,
-    part: Snapshot<Solid>,
-    fixture: Snapshot<Solid>,
     journal: Journal,
 }
 
 impl Model for Strip {
-    ghost use Rattle.strip_journal.specs.Journals.{IsJournal};
+    ghost use Rattle.strip_journal.specs.Journals.{IsJournal, job_of};
     ghost use Rattle.strip_journal.specs.Strips.{StripOf};
 
     ghost Value = { StripOf };
 
-    ghost view = { λ s. record {
-      job = record { plan = s.plan.value; stock = s.stock.value; part = s.part.value; fixture = s.fixture.value };
-      number = s.journal.number;
-      done = s.journal.done;
-    } };
+    ghost view = { λ s. record { job = job_of s.journal; number = s.journal.number; done = s.journal.done } };
 
-    ghost invariant = { λ s.
-        IsJournal record { plan = s.plan.value; stock = s.stock.value; part = s.part.value; fixture = s.fixture.value } s.journal };
+    ghost invariant = { λ s. IsJournal (job_of s.journal) s.journal };
 }
 
 impl Strip {
@@ -82,10 +71,15 @@ impl Strip {
           done = 0;
         }) }
     {
-        let (rays, points) = fresh_rays(alloc, plan.grid(), number, stock, part, fixture)?;
+        let (rays, of) = fresh_rays(alloc, plan.grid(), number, stock, part, fixture)?;
         let journal = Journal {
+            alloc,
+            plan: Snapshot::of(plan),
+            stock: Snapshot::of(&stock.solid),
+            part: Snapshot::of(&part.solid),
+            fixture: Snapshot::of(&fixture.solid),
             number,
-            stock: points,
+            of,
             rays,
             changes: Vec::new(alloc),
             entries: Vec::new(alloc),
@@ -93,14 +87,7 @@ impl Strip {
             at: 0,
             done: 0,
         };
-        Ok(Strip {
-            alloc,
-            plan: Snapshot::of(plan),
-            stock: Snapshot::of(&stock.solid),
-            part: Snapshot::of(&part.solid),
-            fixture: Snapshot::of(&fixture.solid),
-            journal,
-        })
+        Ok(Strip { journal })
     }
 
     /// The strip's number.
@@ -126,11 +113,7 @@ impl Strip {
         ensures ok { OnOk result (self.new ≡ record self.old { done = self.old.done + 1 }) }
         ensures unchanged { OnErr result (self.new ≡ self.old) }
     {
-        match plan.edit(self.journal.done) {
-            Edit::Apply(number) => self.journal.apply(self.alloc, plan, number),
-            Edit::Undo => self.journal.undo(),
-            Edit::Redo => self.journal.redo(),
-        }
+        self.journal.advance(plan)
     }
 
     /// The state of point l of ray n at a version, in at most one step for each edit since.
@@ -173,7 +156,7 @@ impl Strip {
         requires { j < length (left_at self.now.job.plan.edits self.now.done) }
         ensures { IsFoundAt self.now j result }
     {
-        self.journal.counts_of(self.journal.line[j as usize])
+        self.journal.found(j)
     }
 
     /// Adds what each of the moves that are left finds on the strip to the counts at its place.

@@ -1,12 +1,24 @@
+ghost use Rattle.std.specs.Prelude.{◌≡◌, ◌+◌, ◌-◌, ◌<◌, ◌≤◌, true, false, All, Bool, Some, IsTrue, OnOk, OnErr, if◌then◌else◌, length, slice_get, slice_index};
+ghost use Rattle.edit_plan.specs.declared.edit.Edit.TheVariants.{Redo, Undo};
+ghost use Rattle.strip_marks.specs.Marks.{IsChangeOn};
+ghost use Rattle.strip_journal.specs.Entries.{HasNo, edit_at, possible_ahead, removed_ahead};
+ghost use Rattle.strip_journal.specs.Journals.{IsAt, IsJournal, job_of};
+ghost use Rattle.strip_journal.specs.Steps.{AreRaysTurned, HasSameEdits, IsTurnedBy, IsTurnedFrom};
+
 use crate::applying::{give_all, take_all};
 use crate::entry::{Entry, Hits};
 use crate::journal::Journal;
+use edit_plan::Edit;
 use ray_words::WordRay;
 use strip_marks::WordChange;
+use strip_plan::Plan;
 use vf_io::NoMemory;
 
 /// Takes the points of the changes away, or gives them again. It takes no memory.
-fn turn_all(rays: &mut [WordRay], changes: &[WordChange], is_undo: bool) {
+fn turn_all(rays: &mut [WordRay], changes: &[WordChange], is_undo: bool)
+    requires { All (IsChangeOn rays.old) changes.now }
+    ensures { AreRaysTurned rays.old rays.new changes.now is_undo }
+{
     if is_undo {
         take_all(rays, changes);
     } else {
@@ -16,7 +28,13 @@ fn turn_all(rays: &mut [WordRay], changes: &[WordChange], is_undo: bool) {
 
 impl Journal {
     /// The totals from which an Undo of the edit of an entry, or a Redo, starts again.
-    fn totals_again(&self, place: usize, is_undo: bool) -> (u32, u32) {
+    fn totals_again(&self, place: usize, is_undo: bool) -> (u32, u32)
+        requires { place < length self.now.entries.items }
+        ensures removed { result.0 ≡ (if is_undo then removed_ahead self.now.entries.items place
+            else removed_ahead self.now.entries.items (place + 1)) }
+        ensures possible { result.1 ≡ (if is_undo then possible_ahead self.now.entries.items place
+            else possible_ahead self.now.entries.items (place + 1)) }
+    {
         if is_undo {
             self.totals_ahead(place)
         } else {
@@ -25,7 +43,13 @@ impl Journal {
     }
 
     /// Takes back the changes of an edit's entry, or gives them again.
-    fn turn_entry(&mut self, place: usize, is_undo: bool) -> Result<(), NoMemory> {
+    fn turn_entry(&mut self, place: usize, is_undo: bool) -> Result<(), NoMemory>
+        requires journal { IsJournal (job_of self.old) self.old }
+        requires place { place < length self.old.entries.items }
+        ensures ok { OnOk result (IsTurnedBy self.old self.new place is_undo) }
+        ensures edits { OnErr result (HasSameEdits self.old self.new) }
+        ensures rays { OnErr result (self.new.rays.items ≡ self.old.rays.items) }
+    {
         self.entries.reserve(1)?;
         let (removed, possible) = self.totals_again(place, is_undo);
         let source = self.entries[place];
@@ -47,7 +71,12 @@ impl Journal {
     }
 
     /// Takes back what an edit changed, or gives it again, where it had an effect.
-    fn turn(&mut self, source: u32, is_undo: bool) -> Result<(), NoMemory> {
+    fn turn(&mut self, source: u32, is_undo: bool) -> Result<(), NoMemory>
+        requires journal { IsJournal (job_of self.old) self.old }
+        ensures ok { OnOk result (IsTurnedFrom self.old self.new source is_undo) }
+        ensures edits { OnErr result (HasSameEdits self.old self.new) }
+        ensures rays { OnErr result (self.new.rays.items ≡ self.old.rays.items) }
+    {
         match self.entry_of(source) {
             None => Ok(()),
             Some(place) => self.turn_entry(place, is_undo),
@@ -55,7 +84,12 @@ impl Journal {
     }
 
     /// Takes back the last move that is left, if one is.
-    pub fn undo(&mut self) -> Result<(), NoMemory> {
+    pub fn undo(&mut self) -> Result<(), NoMemory>
+        requires journal { IsJournal (job_of self.old) self.old }
+        requires edit { slice_get self.old.plan.value.edits self.old.done ≡ Some Undo }
+        ensures ok { OnOk result (IsAt self.old self.new (self.old.done + 1)) }
+        ensures unchanged { OnErr result (IsAt self.old self.new self.old.done) }
+    {
         if self.at > 0 {
             let source = self.line[self.at as usize - 1];
             self.turn(source, true)?;
@@ -66,7 +100,12 @@ impl Journal {
     }
 
     /// Takes the last dropped move again, if there is one.
-    pub fn redo(&mut self) -> Result<(), NoMemory> {
+    pub fn redo(&mut self) -> Result<(), NoMemory>
+        requires journal { IsJournal (job_of self.old) self.old }
+        requires edit { slice_get self.old.plan.value.edits self.old.done ≡ Some Redo }
+        ensures ok { OnOk result (IsAt self.old self.new (self.old.done + 1)) }
+        ensures unchanged { OnErr result (IsAt self.old self.new self.old.done) }
+    {
         if (self.at as usize) < self.line.len() {
             let source = self.line[self.at as usize];
             self.turn(source, false)?;
@@ -74,5 +113,20 @@ impl Journal {
         }
         self.done += 1;
         Ok(())
+    }
+
+    /// Does the edit of the plan that comes next.
+    pub fn advance(&mut self, plan: &Plan) -> Result<(), NoMemory>
+        requires journal { IsJournal (job_of self.old) self.old }
+        requires plan { self.old.plan.value ≡ plan.now }
+        requires next { self.old.done < length plan.now.edits }
+        ensures ok { OnOk result (IsAt self.old self.new (self.old.done + 1)) }
+        ensures unchanged { OnErr result (IsAt self.old self.new self.old.done) }
+    {
+        match plan.edit(self.done) {
+            Edit::Apply(number) => self.apply(plan, number),
+            Edit::Undo => self.undo(),
+            Edit::Redo => self.redo(),
+        }
     }
 }

@@ -1,0 +1,32 @@
+-- What is added to counts that are kept for the moves that are left.
+use Rattle.std.specs.Prelude.{◌≡◌, ℕ, ◌<◌, List, length, slice_index, slice_index_or}
+use Rattle.edit_lines.specs.Lines.{move_of}
+use Rattle.job_facts.specs.declared.counts.Counts.{Counts}
+use Rattle.job_facts.specs.Counts.{no_counts, plus}
+use Rattle.job_model.specs.Tasks.{JobMove}
+use Rattle.strip_plan.specs.Plans.{HasNumber}
+use Rattle.strip_journal.specs.declared.journal.Journal.{Journal}
+use Rattle.strip_journal.specs.Entries.{edit_at}
+use Rattle.strip_journal.specs.Journals.{found_at, job_of}
+
+-- the count at a place of a list
+abbrev pub count_at : List Counts → ℕ → Counts
+count_at counts j = slice_index_or counts j no_counts
+
+-- the counts are what the k-th edit of the line found
+pub record IsFoundBy (j : Journal) (k : ℕ) (counts : Counts) : Type 0 where
+  pub is : (move : JobMove) → HasNumber j.plan.value (move_of j.plan.value.edits (slice_index j.line.items k)) move
+      → counts ≡ found_at (job_of j) j.number (slice_index j.line.items k) move
+
+-- the count of the move whose edit is that of the entry at a place is what it was and what was found; the others are as they were
+pub record AddsEntry (j : Journal) (place : ℕ) (before after : List Counts) : Type 0 where
+  pub many : length after ≡ length before
+  pub its : (k : ℕ) (found : Counts) → k < length before → slice_index j.line.items k ≡ edit_at j.entries.items place → IsFoundBy j k found
+      → count_at after k ≡ plus (count_at before k) found
+  pub others : (k : ℕ) → k < length before → (slice_index j.line.items k ≡ edit_at j.entries.items place → ⊥)
+      → count_at after k ≡ count_at before k
+
+-- each count is what it was and what its move found
+pub record AddsLeft (j : Journal) (before after : List Counts) : Type 0 where
+  pub many : length after ≡ length before
+  pub each : (k : ℕ) (found : Counts) → k < length before → IsFoundBy j k found → count_at after k ≡ plus (count_at before k) found

@@ -1,0 +1,137 @@
+-- What one edit makes of what a strip keeps.
+use Rattle.std.specs.Prelude.{◌≡◌, ℕ, ◌+◌, ◌-◌, ◌^◌, ◌<◌, ◌≤◌, ◌&&◌, ◌==◌, not, Bool, false, if◌then◌else◌, List, [], ◌∷◌, ◌++◌, length, nat_lt, take, vec_capacity, vec_len}
+use Rattle.vf_spans.specs.Members.{has}
+use Rattle.job_facts.specs.declared.counts.Counts.{Counts}
+use Rattle.ray_words.specs.Rays.{KeptSets}
+use Rattle.strip_marks.specs.declared.change.WordChange.{WordChange}
+use Rattle.strip_marks.specs.Marks.{among, kept_of, possible_of, sure_of}
+use Rattle.strip_journal.specs.declared.entry.Entry.{Entry}
+use Rattle.strip_journal.specs.declared.journal.Journal.{Journal}
+use Rattle.strip_journal.specs.Journals.{job_of}
+use Rattle.strip_journal.specs.Entries.{HasNo, changes_of, edit_at, entry_at, hits_of, no_hits, possible_ahead, removed_ahead, was}
+
+-- The sets of a ray with changes, or without them: of each set the members are by `was`, and the bodies and the words that are kept
+-- stay.
+pub record IsRayTurned (before after : KeptSets) (changes : List WordChange) (n : ℕ) (is_undo : Bool) : Type 0 where
+  pub stock : after.sets.stock ≡ before.sets.stock
+  pub part : after.sets.part ≡ before.sets.part
+  pub fixture : after.sets.fixture ≡ before.sets.fixture
+  pub sure_bound : length after.sets.sure ≡ length before.sets.sure
+  pub possible_bound : length after.sets.possible ≡ length before.sets.possible
+  pub sure : (l : ℕ) → has after.sets.sure l ≡ was (not is_undo) (among sure_of changes n l) (has before.sets.sure l)
+  pub possible : (l : ℕ) → has after.sets.possible l ≡ was (not is_undo) (among possible_of changes n l) (has before.sets.possible l)
+  pub first : after.first ≡ before.first
+  pub count : after.count ≡ before.count
+
+-- each ray so
+pub record AreRaysTurned (before after : List KeptSets) (changes : List WordChange) (is_undo : Bool) : Type 0 where
+  pub many : length after ≡ length before
+  pub each : (n : ℕ) → n < length before → IsRayTurned (kept_of before n) (kept_of after n) changes n is_undo
+
+-- nothing changed, and nothing was found
+abbrev pub is_nothing : Entry → Bool
+is_nothing entry =
+    not (nat_lt entry.from entry.to)
+    && (entry.hits.part_sure == 0
+    && (entry.hits.part_possible == 0
+    && (entry.hits.fix_sure == 0 && (entry.hits.fix_possible == 0 && (entry.hits.rapid_sure == 0 && entry.hits.rapid_possible == 0)))))
+
+-- the entries with one more, unless it tells nothing
+abbrev pub noted : List Entry → Entry → List Entry
+noted entries entry = if is_nothing entry then entries else entries ++ entry ∷ []
+
+-- the entry of an edit that applies a move with these changes and counts
+abbrev pub applied_entry : Journal → List WordChange → Counts → Entry
+applied_entry j changes counts = record {
+  edit = j.done;
+  from = length j.changes.items;
+  to = length j.changes.items + length changes;
+  is_undo = false;
+  hits = hits_of counts;
+  removed = removed_ahead j.entries.items (length j.entries.items) + counts.removed;
+  possible = possible_ahead j.entries.items (length j.entries.items) + counts.possible;
+}
+
+-- the same strip of the same job
+pub record IsSameStrip (j k : Journal) : Type 0 where
+  pub job : job_of k ≡ job_of j
+  pub number : k.number ≡ j.number
+  pub of : k.of ≡ j.of
+
+-- what is kept of the edits stays, and their number
+pub record HasSameEdits (j k : Journal) : Type 0 where
+  pub strip : IsSameStrip j k
+  pub changes : k.changes.items ≡ j.changes.items
+  pub entries : k.entries.items ≡ j.entries.items
+  pub line : k.line.items ≡ j.line.items
+  pub at : k.at ≡ j.at
+  pub done : k.done ≡ j.done
+
+-- there is room for so many changes, for an entry and for an edit in the line; a place among the changes has 32 bits
+pub record HasRoom (j : Journal) (changes : ℕ) : Type 0 where
+  pub changes_fit : vec_len j.changes + changes ≤ vec_capacity j.changes
+  pub few : length j.changes.items + changes < 2 ^ 32
+  pub entry : vec_len j.entries < vec_capacity j.entries
+  pub line : vec_len j.line < vec_capacity j.line
+
+-- the line and the number of edits done stay, and so does the room in the line
+pub record HasSameLine (j k : Journal) : Type 0 where
+  pub line : k.line.items ≡ j.line.items
+  pub len : vec_len k.line ≡ vec_len j.line
+  pub capacity : vec_capacity k.line ≡ vec_capacity j.line
+  pub at : k.at ≡ j.at
+  pub done : k.done ≡ j.done
+
+-- a journal after a move with these changes and counts was entered, but for the line and the number of edits done
+pub record IsEntered (j k : Journal) (changes : List WordChange) (counts : Counts) : Type 0 where
+  pub strip : IsSameStrip j k
+  pub rays : AreRaysTurned j.rays.items k.rays.items changes false
+  pub changes_are : k.changes.items ≡ j.changes.items ++ changes
+  pub entries : k.entries.items ≡ noted j.entries.items (applied_entry j changes counts)
+  pub line : HasSameLine j k
+
+-- a journal after this edit was added to those that are left
+pub record IsStood (j k : Journal) : Type 0 where
+  pub strip : IsSameStrip j k
+  pub rays : k.rays.items ≡ j.rays.items
+  pub changes : k.changes.items ≡ j.changes.items
+  pub entries : k.entries.items ≡ j.entries.items
+  pub line : k.line.items ≡ take j.at j.line.items ++ j.done ∷ []
+  pub at : k.at ≡ j.at + 1
+  pub done : k.done ≡ j.done + 1
+
+-- the entry of an edit that takes back what the entry at a place did, or gives it again
+abbrev pub turned_entry : Journal → ℕ → Bool → Entry
+turned_entry j place is_undo = record {
+  edit = j.done;
+  from = (entry_at j.entries.items place).from;
+  to = (entry_at j.entries.items place).to;
+  is_undo = is_undo;
+  hits = no_hits;
+  removed = if is_undo then removed_ahead j.entries.items place else removed_ahead j.entries.items (place + 1);
+  possible = if is_undo then possible_ahead j.entries.items place else possible_ahead j.entries.items (place + 1);
+}
+
+-- a journal after the changes of the entry at a place were taken back, or given again, but for the line and the number of edits done
+pub record IsTurnedBy (j k : Journal) (place : ℕ) (is_undo : Bool) : Type 0 where
+  pub strip : IsSameStrip j k
+  pub rays : AreRaysTurned j.rays.items k.rays.items (changes_of j.changes.items (entry_at j.entries.items place)) is_undo
+  pub changes : k.changes.items ≡ j.changes.items
+  pub entries : k.entries.items ≡ j.entries.items ++ turned_entry j place is_undo ∷ []
+  pub line : HasSameLine j k
+
+-- The changes of an edit were taken back, or given again: where it has an entry those of the entry; where it has none there are none,
+-- and nothing is kept of it.
+pub record IsTurnedFrom (j k : Journal) (source : ℕ) (is_undo : Bool) : Type 0 where
+  pub by : (place : ℕ) → place < length j.entries.items → edit_at j.entries.items place ≡ source → IsTurnedBy j k place is_undo
+  pub none : HasNo j.entries.items source → HasSameEdits j k × (k.rays.items ≡ j.rays.items)
+
+-- a journal that stands at another place of its line, after so many edits
+pub record IsMovedTo (j k : Journal) (at done : ℕ) : Type 0 where
+  pub strip : IsSameStrip j k
+  pub rays : k.rays.items ≡ j.rays.items
+  pub changes : k.changes.items ≡ j.changes.items
+  pub entries : k.entries.items ≡ j.entries.items
+  pub line : k.line.items ≡ j.line.items
+  pub at_is : k.at ≡ at
+  pub done_is : k.done ≡ done
