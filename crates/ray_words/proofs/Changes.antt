@@ -1,24 +1,13 @@
 -- One word of a stretch is written: what it makes of the sets.
-use Rattle.std.proofs.Common.{◌≡◌, ◌≢◌, ℕ, ◌+◌, ◌-◌, ◌*◌, ◌/◌, ◌%◌, ◌<◌, ◌≤◌, List, length, get_or, set, Bool, true, false, not, ◌&&◌, ◌||◌, ⊎_elim, arith, refl, sym, ap, ap₂, ◌∙◌, subst}
-use Rattle.std.proofs.lemmas.Bool.{cases_eq, cases_lt, eq-eqb, ne_eqb, false_from_ne_true}
-use Rattle.std.proofs.lemmas.List.{get_or_read, get_or-set_same, get_or-set_other}
+use Rattle.std.proofs.Common.{◌≡◌, ◌≢◌, ℕ, ◌+◌, ◌-◌, ◌*◌, ◌/◌, ◌%◌, ◌<◌, ◌≤◌, List, length, set, Bool, false, ◌&&◌, ⊎_elim, arith, sym, ap, ap₂, ◌∙◌}
+use Rattle.std.proofs.lemmas.Bool.{cases_eq, cases_lt, eq-eqb, ne_eqb}
+use Rattle.std.proofs.lemmas.List.{get_or-set_same, get_or-set_other}
 use Rattle.std.proofs.Math.ListN.{length-set}
 use Rattle.vf_spans.specs.Members.{has}
-use Rattle.vf_spans.specs.Words.{has_bit, in_word, words_below}
-use Rattle.dexel_rays.specs.declared.word_sets.WordDelta.{WordDelta}
+use Rattle.vf_spans.specs.Words.{has_bit, in_word}
 use Rattle.dexel_rays.specs.declared.word_sets.WordSets.{WordSets}
-use Rattle.dexel_rays.specs.WordSets.{IsWordWith, IsWordWithout}
-use Rattle.ray_words.specs.Rays.{IsBelow, IsGiven, IsKept, IsTaken, KeptSets}
-use Rattle.ray_words.specs.Kept.{no_bits, word_at, marks_of, sets_of, kept_of, IsWordRay}
+use Rattle.ray_words.specs.Kept.{no_bits, word_at, marks_of}
 use Rattle.ray_words.proofs.Marks.{InStretch, AreBits, word_at-in, word_at-before, in_some_word, length-marks, has-marks, has-marks-past}
-
-or_false : (x : Bool) → (x || false) ≡ x
-or_false true = refl
-or_false false = refl
-
-and_not_false : (x : Bool) → (x && not false) ≡ x
-and_not_false true = refl
-and_not_false false = refl
 
 -- the stretch has as many words as before
 pub still_in : (first : ℕ) (ws : List WordSets) (k : ℕ) (w : WordSets) (m : ℕ) → InStretch first (set ws k w) m → InStretch first ws m
@@ -49,13 +38,14 @@ pub record IsWritten (change : Bool → Bool → Bool) (pick : WordSets → ℕ)
   pub beyond : (b : ℕ) → b < 64 → bound ≤ 64 * n + b → change false (has_bit delta b) ≡ false
   pub bits : (b : ℕ) → b < 64 → has_bit (pick w) b ≡ change (has_bit (pick (word_at first ws n)) b) (has_bit delta b)
 
--- a bit of word n, and one of another
+-- a bit of word n is one of the delta
 in_word-here : (n delta b : ℕ) → b < 64 → in_word n delta (64 * n + b) ≡ has_bit delta b
 in_word-here n delta b lt =
     let word : (64 * n + b) / 64 ≡ n = omega arith in
     let bit : (64 * n + b) % 64 ≡ b = omega arith in
     ap₂ (λ t k. t && has_bit delta k) (eq-eqb ((64 * n + b) / 64) n word) bit
 
+-- one of another word is not
 in_word-other : (n delta m b : ℕ) → b < 64 → m ≢ n → in_word n delta (64 * m + b) ≡ false
 in_word-other n delta m b lt other =
     ap (λ t. t && has_bit delta ((64 * m + b) % 64)) (ne_eqb ((64 * m + b) / 64) n (λ e. other (omega arith)))
@@ -105,11 +95,12 @@ written_marks change pick bound first ws n k w delta i h =
     ∙ sym (written_past change pick bound first ws n k w delta i h le)
     ∙ ap (λ t. change t (in_word n delta i)) (sym (has-marks-past pick bound first ws i le))) (cases_lt i bound)
 
-same_bound : (pick : WordSets → ℕ) (bound first : ℕ) (ws : List WordSets) (k : ℕ) (w : WordSets)
+-- its bound is the one from before
+pub same_bound : (pick : WordSets → ℕ) (bound first : ℕ) (ws : List WordSets) (k : ℕ) (w : WordSets)
     → length (marks_of pick bound first (set ws k w)) ≡ length (marks_of pick bound first ws)
 same_bound pick bound first ws k w = length-marks pick bound first (set ws k w) ∙ sym (length-marks pick bound first ws)
 
--- and the words have its bits
+-- the words have the bits of that set
 pub written_bits : (change : Bool → Bool → Bool) (pick : WordSets → ℕ) (bound first : ℕ) (ws : List WordSets) (n k : ℕ) (w : WordSets)
     (delta : ℕ)
     → IsWritten change pick bound first ws n k w delta → AreBits pick (marks_of pick bound first ws) first ws
@@ -132,180 +123,3 @@ body_bits pick flags first ws n k w at there same bits =
     ∙ ap (λ j. has_bit (pick (word_at first ws j)) b) (sym e))
     (λ (other : m ≢ n). ap (λ v. has_bit (pick v) b) (written_other first ws k w n m at other)) (cases_eq m n)
     ∙ bits m (still_in first ws k w m here) b lt
-
--- a ray from the bits of its five sets
-pub ray_from_bits : (stock part fixture : List Bool) (first : ℕ) (ws : List WordSets) → length part ≡ length stock
-    → length fixture ≡ length stock
-    → first + length ws ≤ words_below (length stock) → AreBits (λ w. w.stock) stock first ws → AreBits (λ w. w.part) part first ws
-    → AreBits (λ w. w.fixture) fixture first ws → AreBits (λ w. w.sure) (marks_of (λ w. w.sure) (length stock) first ws) first ws
-    → AreBits (λ w. w.possible) (marks_of (λ w. w.possible) (length stock) first ws) first ws → IsWordRay stock part fixture first ws
-ray_from_bits stock part fixture first ws p f within s0 p0 f0 u0 q0 = record {
-  part_bound = p;
-  fixture_bound = f;
-  within = within;
-  bits = λ n from below. let here : InStretch first ws n = record { from = from; below = below } in
-      record { stock = s0 n here; part = p0 n here; fixture = f0 n here; sure = u0 n here; possible = q0 n here };
-}
-
--- and back
-pub stock_bits : (stock part fixture : List Bool) (first : ℕ) (ws : List WordSets) → IsWordRay stock part fixture first ws
-    → AreBits (λ w. w.stock) stock first ws
-stock_bits stock part fixture first ws h = λ n here. (h.bits n here.from here.below).stock
-
-pub part_bits : (stock part fixture : List Bool) (first : ℕ) (ws : List WordSets) → IsWordRay stock part fixture first ws
-    → AreBits (λ w. w.part) part first ws
-part_bits stock part fixture first ws h = λ n here. (h.bits n here.from here.below).part
-
-pub fixture_bits : (stock part fixture : List Bool) (first : ℕ) (ws : List WordSets) → IsWordRay stock part fixture first ws
-    → AreBits (λ w. w.fixture) fixture first ws
-fixture_bits stock part fixture first ws h = λ n here. (h.bits n here.from here.below).fixture
-
-pub sure_bits : (stock part fixture : List Bool) (first : ℕ) (ws : List WordSets) → IsWordRay stock part fixture first ws
-    → AreBits (λ w. w.sure) (marks_of (λ w. w.sure) (length stock) first ws) first ws
-sure_bits stock part fixture first ws h = λ n here. (h.bits n here.from here.below).sure
-
-pub possible_bits : (stock part fixture : List Bool) (first : ℕ) (ws : List WordSets) → IsWordRay stock part fixture first ws
-    → AreBits (λ w. w.possible) (marks_of (λ w. w.possible) (length stock) first ws) first ws
-possible_bits stock part fixture first ws h = λ n here. (h.bits n here.from here.below).possible
-
--- a ray with one word written
-pub record IsWordWritten (change : Bool → Bool → Bool) (bound first : ℕ) (ws : List WordSets) (n k : ℕ) (w : WordSets)
-    (delta : WordDelta) : Type 0 where
-  pub stock : w.stock ≡ (word_at first ws n).stock
-  pub part : w.part ≡ (word_at first ws n).part
-  pub fixture : w.fixture ≡ (word_at first ws n).fixture
-  pub sure : IsWritten change (λ w. w.sure) bound first ws n k w delta.sure
-  pub possible : IsWritten change (λ w. w.possible) bound first ws n k w delta.possible
-
--- is one again
-pub written_ray : (change : Bool → Bool → Bool) (stock part fixture : List Bool) (first : ℕ) (ws : List WordSets) (n k : ℕ) (w : WordSets)
-    (delta : WordDelta)
-    → IsWordRay stock part fixture first ws → IsWordWritten change (length stock) first ws n k w delta
-    → IsWordRay stock part fixture first (set ws k w)
-written_ray change stock part fixture first ws n k w delta h d =
-    let at = d.sure.at in
-    let there = d.sure.there in
-    let within = h.within in
-    let size = length-set ws k w in
-    ray_from_bits stock part fixture first (set ws k w) h.part_bound h.fixture_bound (omega arith)
-    (body_bits (λ w. w.stock) stock first ws n k w at there d.stock (stock_bits stock part fixture first ws h))
-    (body_bits (λ w. w.part) part first ws n k w at there d.part (part_bits stock part fixture first ws h))
-    (body_bits (λ w. w.fixture) fixture first ws n k w at there d.fixture (fixture_bits stock part fixture first ws h))
-    (written_bits change (λ w. w.sure) (length stock) first ws n k w delta.sure d.sure (sure_bits stock part fixture first ws h))
-    (written_bits change (λ w. w.possible) (length stock) first ws n k w delta.possible d.possible
-    (possible_bits stock part fixture first ws h))
-
--- a ray that is kept so is seen as r
-abbrev pub IsSeenAs : List Bool → List Bool → List Bool → ℕ → List WordSets → KeptSets → Type 0
-IsSeenAs stock part fixture first ws r = kept_of stock part fixture first ws ≡ r
-
--- a kept word has a place in the stretch
-kept_place : (r : KeptSets) (stock part fixture : List Bool) (first : ℕ) (ws : List WordSets) (n : ℕ)
-    → IsSeenAs stock part fixture first ws r → IsKept r n → InStretch first ws n
-kept_place r stock part fixture first ws n is kept =
-    let from = kept.from in
-    let below = kept.below in
-    let same_first : first ≡ r.first = ap (λ (v : KeptSets). v.first) is in
-    let same_count : length ws ≡ r.count = ap (λ (v : KeptSets). v.count) is in
-    record { from = omega arith; below = omega arith }
-
--- what was read at that place
-read_word : (first : ℕ) (ws : List WordSets) (n k : ℕ) (x : WordSets) → first + k ≡ n → k < length ws → x ≡ get_or ws k x
-    → word_at first ws n ≡ x
-read_word first ws n k x at there e = word_at-in first ws n k at ∙ sym (get_or_read ws k x there e no_bits)
-
--- a delta is given
-pub given_word : (r : KeptSets) (stock part fixture : List Bool) (first : ℕ) (ws : List WordSets) (n : ℕ) (x w : WordSets)
-    (delta : WordDelta)
-    → IsSeenAs stock part fixture first ws r → IsKept r n → x ≡ get_or ws (n - first) x
-    → IsBelow (length r.sets.stock) n delta.sure → IsBelow (length r.sets.stock) n delta.possible → IsWordWith x delta w
-    → IsWordWritten (λ p q. p || q) (length stock) first ws n (n - first) w delta
-given_word r stock part fixture first ws n x w delta is kept e sure possible u =
-    let here = kept_place r stock part fixture first ws n is kept in
-    let from = here.from in
-    let below = here.below in
-    let at : first + (n - first) ≡ n = omega arith in
-    let there : n - first < length ws = omega arith in
-    let was = read_word first ws n (n - first) x at there e in
-    let bound : length r.sets.stock ≡ length stock = ap (λ (v : KeptSets). length v.sets.stock) (sym is) in
-    record {
-      stock = u.stock ∙ ap (λ (v : WordSets). v.stock) (sym was);
-      part = u.part ∙ ap (λ (v : WordSets). v.part) (sym was);
-      fixture = u.fixture ∙ ap (λ (v : WordSets). v.fixture) (sym was);
-      sure = record {
-        at = at;
-        there = there;
-        stays = or_false;
-        beyond = λ b lt le. false_from_ne_true (has_bit delta.sure b) (λ t. let low = sure b lt t in omega arith);
-        bits = λ b lt. u.all_sure b lt ∙ ap (λ (v : WordSets). has_bit v.sure b || has_bit delta.sure b) (sym was);
-      };
-      possible = record {
-        at = at;
-        there = there;
-        stays = or_false;
-        beyond = λ b lt le. false_from_ne_true (has_bit delta.possible b) (λ t. let low = possible b lt t in omega arith);
-        bits = λ b lt. u.all_possible b lt ∙ ap (λ (v : WordSets). has_bit v.possible b || has_bit delta.possible b) (sym was);
-      };
-    }
-
-pub given_sets : (r : KeptSets) (stock part fixture : List Bool) (first : ℕ) (ws : List WordSets) (n k : ℕ) (w : WordSets)
-    (delta : WordDelta)
-    → IsSeenAs stock part fixture first ws r → IsWordWritten (λ p q. p || q) (length stock) first ws n k w delta
-    → IsGiven r.sets n delta (sets_of stock part fixture first (set ws k w))
-given_sets r stock part fixture first ws n k w delta is d =
-    subst (λ (v : KeptSets). IsGiven v.sets n delta (sets_of stock part fixture first (set ws k w))) is (record {
-      stock = refl;
-      part = refl;
-      fixture = refl;
-      sure_bound = same_bound (λ w. w.sure) (length stock) first ws k w;
-      possible_bound = same_bound (λ w. w.possible) (length stock) first ws k w;
-      sure = λ i. written_marks (λ p q. p || q) (λ w. w.sure) (length stock) first ws n k w delta.sure i d.sure;
-      possible = λ i. written_marks (λ p q. p || q) (λ w. w.possible) (length stock) first ws n k w delta.possible i d.possible;
-    })
-
--- a delta is taken away
-pub taken_word : (r : KeptSets) (stock part fixture : List Bool) (first : ℕ) (ws : List WordSets) (n : ℕ) (x w : WordSets)
-    (delta : WordDelta)
-    → IsSeenAs stock part fixture first ws r → IsKept r n → x ≡ get_or ws (n - first) x → IsWordWithout x delta w
-    → IsWordWritten (λ p q. p && not q) (length stock) first ws n (n - first) w delta
-taken_word r stock part fixture first ws n x w delta is kept e u =
-    let here = kept_place r stock part fixture first ws n is kept in
-    let from = here.from in
-    let below = here.below in
-    let at : first + (n - first) ≡ n = omega arith in
-    let there : n - first < length ws = omega arith in
-    let was = read_word first ws n (n - first) x at there e in
-    record {
-      stock = u.stock ∙ ap (λ (v : WordSets). v.stock) (sym was);
-      part = u.part ∙ ap (λ (v : WordSets). v.part) (sym was);
-      fixture = u.fixture ∙ ap (λ (v : WordSets). v.fixture) (sym was);
-      sure = record {
-        at = at;
-        there = there;
-        stays = and_not_false;
-        beyond = λ b lt le. refl;
-        bits = λ b lt. u.left_sure b lt ∙ ap (λ (v : WordSets). has_bit v.sure b && not (has_bit delta.sure b)) (sym was);
-      };
-      possible = record {
-        at = at;
-        there = there;
-        stays = and_not_false;
-        beyond = λ b lt le. refl;
-        bits = λ b lt. u.left_possible b lt ∙ ap (λ (v : WordSets). has_bit v.possible b && not (has_bit delta.possible b)) (sym was);
-      };
-    }
-
-pub taken_sets : (r : KeptSets) (stock part fixture : List Bool) (first : ℕ) (ws : List WordSets) (n k : ℕ) (w : WordSets)
-    (delta : WordDelta)
-    → IsSeenAs stock part fixture first ws r → IsWordWritten (λ p q. p && not q) (length stock) first ws n k w delta
-    → IsTaken r.sets n delta (sets_of stock part fixture first (set ws k w))
-taken_sets r stock part fixture first ws n k w delta is d =
-    subst (λ (v : KeptSets). IsTaken v.sets n delta (sets_of stock part fixture first (set ws k w))) is (record {
-      stock = refl;
-      part = refl;
-      fixture = refl;
-      sure_bound = same_bound (λ w. w.sure) (length stock) first ws k w;
-      possible_bound = same_bound (λ w. w.possible) (length stock) first ws k w;
-      sure = λ i. written_marks (λ p q. p && not q) (λ w. w.sure) (length stock) first ws n k w delta.sure i d.sure;
-      possible = λ i. written_marks (λ p q. p && not q) (λ w. w.possible) (length stock) first ws n k w delta.possible i d.possible;
-    })

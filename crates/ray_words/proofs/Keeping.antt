@@ -9,7 +9,7 @@ use Rattle.dexel_rays.specs.declared.word_sets.WordSets.{WordSets}
 use Rattle.dexel_rays.specs.Sets.{Sets}
 use Rattle.ray_words.specs.Rays.{IsWordAt, KeptSets}
 use Rattle.ray_words.specs.Kept.{no_bits, word_at, marks_of, sets_of, AreWordsFrom, IsStretch, IsUnmarked, IsWordRay}
-use Rattle.ray_words.proofs.Changes.{IsSeenAs}
+use Rattle.ray_words.proofs.WrittenRays.{IsSeenAs}
 use Rattle.ray_words.proofs.Marks.{InStretch, word_at-in, same_marks}
 
 -- one word more
@@ -43,6 +43,7 @@ pub record IsLonger (stock part fixture : List Bool) (first : ℕ) (ws : List Wo
   pub to : 0 < length ws → first + length ws ≤ first' + length ws'
   pub words : AreWordsFrom (sets_of stock part fixture first ws) first' ws'
 
+-- so a word that was kept still is
 still_has : (first : ℕ) (ws : List WordSets) (first' : ℕ) (ws' : List WordSets) → (0 < length ws → first' ≤ first)
     → (0 < length ws → first + length ws ≤ first' + length ws')
     → (n : ℕ) → InStretch first ws n → InStretch first' ws' n
@@ -54,12 +55,13 @@ still_has first ws first' ws' from to n here =
     let e = to some in
     record { from = omega arith; below = omega arith }
 
+-- five sets of the same bodies and the same marks
 same_sets_of : (stock part fixture : List Bool) (u u' q q' : List Bool) → u ≡ u' → q ≡ q'
     → let a : Sets = record { stock = stock; part = part; fixture = fixture; sure = u; possible = q } in
     let b : Sets = record { stock = stock; part = part; fixture = fixture; sure = u'; possible = q' } in a ≡ b
 same_sets_of stock part fixture u u' q q' eu eq = cc
 
--- leaves the five sets as they are
+-- the longer stretch leaves the five sets as they are
 pub longer_sets : (stock part fixture : List Bool) (first : ℕ) (ws : List WordSets) (first' : ℕ) (ws' : List WordSets)
     → IsLonger stock part fixture first ws first' ws'
     → sets_of stock part fixture first' ws' ≡ sets_of stock part fixture first ws
@@ -71,7 +73,7 @@ longer_sets stock part fixture first ws first' ws' h =
     (same_marks (λ w. w.sure) (length stock) first first' ws ws' refl (λ n here. (all n here).sure) more)
     (same_marks (λ w. w.possible) (length stock) first first' ws ws' refl (λ n here. (all n here).possible) more)
 
--- and is one of a ray
+-- and with it the ray is a ray
 pub longer_ray : (stock part fixture : List Bool) (first : ℕ) (ws : List WordSets) (first' : ℕ) (ws' : List WordSets)
     → IsWordRay stock part fixture first ws
     → IsLonger stock part fixture first ws first' ws' → IsWordRay stock part fixture first' ws'

@@ -42,6 +42,7 @@ word_cases first ws n =
 pub in_some_word : (i : ℕ) → 64 * (i / 64) + i % 64 ≡ i
 in_some_word i = omega arith
 
+-- the set has its bound
 pub length-marks : (pick : WordSets → ℕ) (bound first : ℕ) (ws : List WordSets) → length (marks_of pick bound first ws) ≡ bound
 length-marks pick bound first ws = length-map-range_with_len (mark_at pick first ws) 0 bound
 
@@ -109,6 +110,7 @@ bits_mark : (pick : WordSets → ℕ) (flags : List Bool) (first : ℕ) (ws : Li
     → InStretch first ws (i / 64) → mark_at pick first ws i ≡ has flags i
 bits_mark pick flags first ws i bits here = bits (i / 64) here (i % 64) (omega arith) ∙ ap (λ m. has flags m) (in_some_word i)
 
+-- the flag of a longer stretch, at a word that it has and at one that it has not
 same_mark : (pick : WordSets → ℕ) (bound first first' : ℕ) (ws ws' : List WordSets) (i : ℕ) → pick no_bits ≡ 0 → i < bound
     → AreBits pick (marks_of pick bound first ws) first' ws' → ((n : ℕ) → InStretch first ws n → InStretch first' ws' n)
     → mark_at pick first' ws' i ≡ has (marks_of pick bound first ws) i

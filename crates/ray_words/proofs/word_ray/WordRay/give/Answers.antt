@@ -1,5 +1,5 @@
 use Rattle.std.proofs.Common.{◌-◌, ◌||◌}
-use Rattle.ray_words.proofs.Changes.{written_ray, given_word, given_sets}
+use Rattle.ray_words.proofs.WrittenRays.{written_ray, given_word, given_sets}
 use Rattle.ray_words.proofs.word_ray.WordRay.give.Goals as goal
 
 pub invariant_of-self : goal.invariant_of-self

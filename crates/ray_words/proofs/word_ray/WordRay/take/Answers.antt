@@ -1,5 +1,5 @@
 use Rattle.std.proofs.Common.{◌-◌, ◌&&◌, not}
-use Rattle.ray_words.proofs.Changes.{written_ray, taken_word, taken_sets}
+use Rattle.ray_words.proofs.WrittenRays.{written_ray, taken_word, taken_sets}
 use Rattle.ray_words.proofs.word_ray.WordRay.take.Goals as goal
 
 pub invariant_of-self : goal.invariant_of-self
