@@ -195,7 +195,7 @@ impl WordRay {
         Ok(words)
     }
 
-    /// The least stretch with the words from `lo` on and below `hi`, and with those that are kept.
+    /// A stretch with the words from `lo` on and below `hi`, and with those that are kept.
     fn stretch(&self, lo: u32, hi: u32) -> (u32, u32)
         requires some { lo < hi }
         requires within { hi ≤ words_below (length self.now.sets.stock) }
