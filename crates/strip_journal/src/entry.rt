@@ -1,4 +1,4 @@
-ghost use Rattle.std.specs.Prelude.{◌≡◌, ◌-◌, ◌^◌};
+ghost use Rattle.std.specs.Prelude.{◌≡◌, ◌-◌, ◌^◌, true};
 ghost use Rattle.job_facts.specs.Counts.{AreWithin};
 ghost use Rattle.strip_journal.specs.Entries.{counts_of_hits, hits_of, no_hits};
 
