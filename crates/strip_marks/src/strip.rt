@@ -46,7 +46,8 @@ fn mark_at<'x>(
         return Ok(Counts::none());
     }
     let on_ray = marker.on_ray(n);
-    mark_ray(&on_ray, ray, n, window, plan.is_rapid(number), changes)
+    let counts = mark_ray(&on_ray, ray, n, window, plan.is_rapid(number), changes)?;
+    Ok(counts)
 }
 
 /// What the move changes on the rays of the strip from the one number on and below the other, and what it finds there.
