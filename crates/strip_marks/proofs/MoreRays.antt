@@ -24,7 +24,7 @@ or_false true = refl
 or_false false = refl
 
 -- a ray that is not in the list
-abbrev no_sets : KeptSets
+abbrev pub no_sets : KeptSets
 no_sets = record { sets = record { stock = []; part = []; fixture = []; sure = []; possible = [] }; first = 0; count = 0 }
 
 -- rays are the same as themselves, and as rays that are the same as those
@@ -73,15 +73,15 @@ pub sets_at : (grid : GridSize) (strip : ℕ) (before mid : List KeptSets) (n : 
 sets_at grid strip before mid n h same lt =
     subst (λ (d : Sets). AreSetsAt grid strip n d) (sym (same.sets n lt)) (record { bound = h.bounds n lt; ordered = λ l. h.possible n l lt })
 
--- no ray is marked before the first
-pub no_rays : (plan : PlanOf) (move : JobMove) (strip lo : ℕ) (rays after : List KeptSets) (changes : List WordChange) (counts : Counts) → changes ≡ [] → counts ≡ no_counts
-    → AreRaysMarked plan move strip rays after lo lo changes counts
-no_rays plan move strip lo rays after changes counts e z = record {
+-- no ray is marked in an empty window
+pub no_rays_to : (plan : PlanOf) (move : JobMove) (strip lo hi : ℕ) (rays after : List KeptSets) (changes : List WordChange) (counts : Counts) → lo ≡ hi → changes ≡ [] → counts ≡ no_counts
+    → AreRaysMarked plan move strip rays after lo hi changes counts
+no_rays_to plan move strip lo hi rays after changes counts same e z = record {
   new_sure = λ n l ge lt below. absurd (omega arith);
   new_possible = λ n l ge lt below. absurd (omega arith);
-  each = subst (λ (c : List WordChange). All (IsChangeFrom after lo lo) c) (sym e) (All-nil (IsChangeFrom after lo lo));
+  each = subst (λ (c : List WordChange). All (IsChangeFrom after lo hi) c) (sym e) (All-nil (IsChangeFrom after lo hi));
   order = order_few changes (let none : length changes ≡ 0 = ap length e in omega arith);
-  found = z ∙ ap (sum_over (ray_found plan move strip rays) lo) (let q : 0 ≡ lo - lo = omega arith in q);
+  found = z ∙ ap (sum_over (ray_found plan move strip rays) lo) (let q : 0 ≡ hi - lo = omega arith in q);
 }
 
 module _ (plan : PlanOf) (move : JobMove) (strip lo n : ℕ) (before mid : List KeptSets) (ray : KeptSets) (changes added : List WordChange) (counts found : Counts)

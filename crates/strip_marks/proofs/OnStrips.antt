@@ -14,7 +14,7 @@ use Rattle.ray_grid.specs.Lattice.{IsRay, nodes_of, point_of, points_of}
 use Rattle.ray_grid.specs.Points.{LatticePoint}
 use Rattle.ray_grid.specs.Strips.{strip_at, strip_of, strips_of}
 use Rattle.ray_grid.proofs.Rows.{length-strip, length-strips, only_place, ray_in, row_x, row_y, row_z, strip_there}
-use Rattle.wanted_marks.specs.Rays.{RayOf}
+use Rattle.wanted_marks.specs.Rays.{MoveOf, RayOf}
 use Rattle.wanted_marks.specs.Strips.{StripOf, ray_at}
 use Rattle.job_model.specs.Points.{is_sure, may_meet}
 use Rattle.job_model.specs.Tasks.{IsJobMove, IsPlan, JobMove, PlanOf}
@@ -146,3 +146,11 @@ pub nowhere_beyond : (plan : PlanOf) (move : JobMove) (strip lo hi n l : ℕ) �
 nowhere_beyond plan move strip lo hi n l within holds lt out below =
     false_from_ne_true (possible_there plan move strip n l)
     (λ t. out (holds n (ray_of plan.grid strip n) l (ray_stands plan.grid strip n lt) record { on_grid = on_grid plan.grid strip n within lt; index = below; possible = t }))
+
+-- what is made ready for the rays of the strip's first one marks by the move on the strip
+pub marker_of : (plan : PlanOf) (number strip : ℕ) (s : StripOf) (sweep : MoveOf) (grid : GridSize) (first : Ray) → s ≡ record { sweep = sweep; grid = grid; family = first.family; i = first.i }
+    → grid ≡ plan.grid → slice_get (strip_at grid strip) 0 ≡ Some first → IsRay grid first → ((move : JobMove) → HasNumber plan number move → sweep ≡ move_in plan move)
+    → IsMarkerOf plan number strip s
+marker_of plan number strip s sweep grid first e g there on by =
+    let rays = row_of_ray plan.grid strip 0 first (subst (λ (x : GridSize). IsRay x first) g on) (subst (λ (x : GridSize). slice_get (strip_at x strip) 0 ≡ Some first) g there) in
+    subst (λ (x : StripOf). IsMarkerOf plan number strip x) (sym e) (record { grid = g; rays = rays; sweep = by })

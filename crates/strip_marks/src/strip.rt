@@ -117,5 +117,6 @@ pub fn mark_strip(
     let first = grid.strip_ray(strip, 0);
     let mover = plan.marker(number);
     let marker = mover.on_strip(grid, first.family, first.i);
-    mark_rays(alloc, &marker, rays, plan, number, strip, window)
+    let marked = mark_rays(alloc, &marker, rays, plan, number, strip, window)?;
+    Ok(marked)
 }
