@@ -1,27 +1,23 @@
 -- What a move changes on the rays of a strip, with one ray more.
-use Rattle.std.proofs.Common.{◌≡◌, ◌≢◌, ℕ, ◌+◌, ◌-◌, ◌*◌, ◌^◌, ◌<◌, ◌≤◌, Bool, true, false, not, ◌&&◌, ◌||◌, List, [], ◌++◌, length, get_or, set, arith, refl, sym, ap, ap₂, ◌∙◌, subst, ⊎_elim}
+use Rattle.std.proofs.Common.{◌≡◌, ◌≢◌, ℕ, ◌+◌, ◌-◌, ◌^◌, ◌<◌, ◌≤◌, Bool, not, ◌&&◌, ◌||◌, List, [], ◌++◌, length, get_or, set, arith, refl, sym, ap, ap₂, ◌∙◌, subst, ⊎_elim}
 use Rattle.std.specs.List.{All, range_with_len}
 use Rattle.std.proofs.lemmas.Bool.{cases_eq, cases_lt}
 use Rattle.std.proofs.lemmas.List.{get_or-set_other, get_or-set_same, length-set}
 use Rattle.std.proofs.lemmas.List.Elements.{All-append, All-nil}
 use Rattle.vf_spans.specs.Members.{has}
 use Rattle.job_facts.specs.declared.counts.Counts.{Counts}
-use Rattle.job_facts.specs.Counts.{AreWithin, most_count, no_counts, plus}
+use Rattle.job_facts.specs.Counts.{AreWithin, no_counts, plus}
 use Rattle.dexel_rays.specs.Findings.{findings}
-use Rattle.dexel_rays.specs.Sets.{HaveBound, Sets}
+use Rattle.dexel_rays.specs.Sets.{Sets}
 use Rattle.ray_grid.specs.Grids.{GridSize}
 use Rattle.ray_words.specs.Rays.{IsBelow, IsKept, KeptSets}
 use Rattle.job_model.specs.Tasks.{JobMove, PlanOf}
 use Rattle.strip_marks.specs.declared.change.WordChange.{WordChange}
-use Rattle.strip_marks.specs.Marks.{AreInOrder, AreRays, HaveSameSets, IsChangeOn, among, kept_of, points_at, possible_of, possible_there, ray_found, seen_on, sets_of, sure_of, sure_there}
-use Rattle.strip_marks.specs.RayMarks.{Adds, HasSameSets, IsChangeOf, IsRayMarked}
+use Rattle.strip_marks.specs.Marks.{AreRays, HaveSameSets, IsChangeOn, among, kept_of, points_at, possible_of, possible_there, ray_found, seen_on, sets_of, sure_of, sure_there}
+use Rattle.strip_marks.specs.RayMarks.{HasSameSets, IsRayMarked}
 use Rattle.strip_marks.specs.RowMarks.{AreRaysMarked, AreSetsAt, IsChangeFrom}
-use Rattle.strip_marks.proofs.Counting.{found_within, plus_none, sum_more, sum_over, within_both, within_more}
-use Rattle.strip_marks.proofs.Lists.{ahead_by_ray, among_append, among_none, order_append, order_few, other_ray}
-
-or_false : (a : Bool) → (a || false) ≡ a
-or_false true = refl
-or_false false = refl
+use Rattle.strip_marks.proofs.Counting.{found_within, sum_more, sum_over}
+use Rattle.strip_marks.proofs.Lists.{ahead_by_ray, among_append, among_none, or_false, order_append, order_few, other_ray}
 
 -- a ray that is not in the list
 abbrev pub no_sets : KeptSets
@@ -39,12 +35,14 @@ same_again a b c h k = record {
 }
 
 -- one ray of them has the same sets
-pub same_with : (rays : List KeptSets) (n : ℕ) (ray : KeptSets) → n < length rays → HasSameSets (kept_of rays n) ray → HaveSameSets rays (set rays n ray)
+pub same_with : (rays : List KeptSets) (n : ℕ) (ray : KeptSets) → n < length rays → HasSameSets (kept_of rays n) ray
+    → HaveSameSets rays (set rays n ray)
 same_with rays n ray lt h = record {
   many = length-set rays n ray;
   sets = λ m within.
       ⊎_elim
-      (λ (e : m ≡ n). ap (λ k. sets_of (set rays n ray) k) e ∙ ap (λ (r : KeptSets). r.sets) (get_or-set_same rays n ray no_sets lt) ∙ h.sets ∙ ap (sets_of rays) (sym e))
+      (λ (e : m ≡ n). ap (λ k. sets_of (set rays n ray) k) e ∙ ap (λ (r : KeptSets). r.sets) (get_or-set_same rays n ray no_sets lt)
+      ∙ h.sets ∙ ap (sets_of rays) (sym e))
       (λ (ne : m ≢ n). ap (λ (r : KeptSets). r.sets) (get_or-set_other rays n m ray no_sets ne))
       (cases_eq m n);
   kept = λ m k within kept.
@@ -57,9 +55,11 @@ same_with rays n ray lt h = record {
 }
 
 -- a change on one of the rays is one on the same rays later
-pub change_stays : (before after : List KeptSets) (change : WordChange) → HaveSameSets before after → IsChangeOn before change → IsChangeOn after change
+pub change_stays : (before after : List KeptSets) (change : WordChange) → HaveSameSets before after → IsChangeOn before change
+    → IsChangeOn after change
 change_stays before after change h on =
-    let bound : length (sets_of before change.ray).stock ≡ length (sets_of after change.ray).stock = sym (ap (λ (d : Sets). length d.stock) (h.sets change.ray on.ray)) in
+    let bound : length (sets_of before change.ray).stock ≡ length (sets_of after change.ray).stock = sym
+    (ap (λ (d : Sets). length d.stock) (h.sets change.ray on.ray)) in
     record {
       ray = omega (arith, h.many, on.ray);
       kept = h.kept change.ray change.word on.ray on.kept;
@@ -68,13 +68,16 @@ change_stays before after change h on =
     }
 
 -- what is known of the rays of a strip is known of each
-pub sets_at : (grid : GridSize) (strip : ℕ) (before mid : List KeptSets) (n : ℕ) → AreRays grid strip before → HaveSameSets before mid → n < length before
+pub sets_at : (grid : GridSize) (strip : ℕ) (before mid : List KeptSets) (n : ℕ) → AreRays grid strip before → HaveSameSets before mid
+    → n < length before
     → AreSetsAt grid strip n (sets_of mid n)
 sets_at grid strip before mid n h same lt =
-    subst (λ (d : Sets). AreSetsAt grid strip n d) (sym (same.sets n lt)) (record { bound = h.bounds n lt; ordered = λ l. h.possible n l lt })
+    subst (λ (d : Sets). AreSetsAt grid strip n d) (sym (same.sets n lt))
+    (record { bound = h.bounds n lt; ordered = λ l. h.possible n l lt })
 
 -- no ray is marked in an empty window
-pub no_rays_to : (plan : PlanOf) (move : JobMove) (strip lo hi : ℕ) (rays after : List KeptSets) (changes : List WordChange) (counts : Counts) → lo ≡ hi → changes ≡ [] → counts ≡ no_counts
+pub no_rays_to : (plan : PlanOf) (move : JobMove) (strip lo hi : ℕ) (rays after : List KeptSets) (changes : List WordChange)
+    (counts : Counts) → lo ≡ hi → changes ≡ [] → counts ≡ no_counts
     → AreRaysMarked plan move strip rays after lo hi changes counts
 no_rays_to plan move strip lo hi rays after changes counts same e z = record {
   new_sure = λ n l ge lt below. absurd (omega arith);
@@ -84,11 +87,12 @@ no_rays_to plan move strip lo hi rays after changes counts same e z = record {
   found = z ∙ ap (sum_over (ray_found plan move strip rays) lo) (let q : 0 ≡ hi - lo = omega arith in q);
 }
 
-module _ (plan : PlanOf) (move : JobMove) (strip lo n : ℕ) (before mid : List KeptSets) (ray : KeptSets) (changes added : List WordChange) (counts found : Counts)
-    (rays : AreRays plan.grid strip before) (same : HaveSameSets before mid) (own : HasSameSets (kept_of mid n) ray) (from : lo ≤ n) (within : n < length before)
+module _ (plan : PlanOf) (move : JobMove) (strip lo n : ℕ) (before mid : List KeptSets) (ray : KeptSets) (changes added : List WordChange)
+    (counts found : Counts)
+    (rays : AreRays plan.grid strip before) (same : HaveSameSets before mid) (own : HasSameSets (kept_of mid n) ray) (from : lo ≤ n)
+    (within : n < length before)
     (h : AreRaysMarked plan move strip before mid lo n changes counts)
     (next : IsRayMarked ray (sure_there plan move strip n) (possible_there plan move strip n) move.rapid n added found) where
-
   sets_are : ray.sets ≡ sets_of before n
   sets_are = own.sets ∙ same.sets n within
 
@@ -115,7 +119,12 @@ module _ (plan : PlanOf) (move : JobMove) (strip lo n : ℕ) (before mid : List 
   old_stays : (i : ℕ) (d : WordChange) → i < length changes → IsChangeFrom (set mid n ray) lo (n + 1) (get_or changes i d)
   old_stays i d lt =
       let here = h.each i d lt in
-      record { on = change_stays mid (set mid n ray) (get_or changes i d) after_mid here.on; from = here.from; below = omega (arith, here.below) }
+      record {
+        on = change_stays mid (set mid n ray) (get_or changes i d) after_mid here.on;
+        from = here.from;
+        below = omega
+            (arith, here.below);
+      }
 
   kept_here : (m : ℕ) → m ≡ n → kept_of (set mid n ray) m ≡ ray
   kept_here m e = ap (kept_of (set mid n ray)) e ∙ get_or-set_same mid n ray no_sets (omega (arith, same.many))
@@ -140,7 +149,8 @@ module _ (plan : PlanOf) (move : JobMove) (strip lo n : ℕ) (before mid : List 
   found_here : found ≡ ray_found plan move strip before n
   found_here =
       next.found
-      ∙ ap₂ (λ (d : Sets) (k : ℕ). findings (seen_on d (sure_there plan move strip n) (possible_there plan move strip n) move.rapid) (range_with_len 0 k)) sets_are points_are
+      ∙ ap₂ (λ (d : Sets) (k : ℕ). findings (seen_on d (sure_there plan move strip n) (possible_there plan move strip n) move.rapid)
+      (range_with_len 0 k)) sets_are points_are
 
   pub rays_more : (total : Counts) (after : List WordChange) → total ≡ plus counts found → after ≡ changes ++ added
       → AreRaysMarked plan move strip before (set mid n ray) lo (n + 1) after total
@@ -152,20 +162,25 @@ module _ (plan : PlanOf) (move : JobMove) (strip lo n : ℕ) (before mid : List 
             (λ (less : m < n). new_elsewhere sure_of m l less ∙ h.new_sure m l ge less below)
             (λ (more : n ≤ m).
             let e : n ≡ m = omega arith in
-            subst (λ (k : ℕ). l < points_at plan.grid strip k → among sure_of (changes ++ added) k l ≡ (sure_there plan move strip k l && not (has (sets_of before k).sure l))) e
-            (λ here. new_here sure_of l ∙ next.new_sure l (omega (arith, points_are, here)) ∙ ap (λ (d : Sets). sure_there plan move strip n l && not (has d.sure l)) sets_are) below)
+            subst (λ (k : ℕ). l < points_at plan.grid strip k → among sure_of (changes ++ added) k l ≡
+            (sure_there plan move strip k l && not (has (sets_of before k).sure l))) e
+            (λ here. new_here sure_of l ∙ next.new_sure l (omega (arith, points_are, here)) ∙ ap
+            (λ (d : Sets). sure_there plan move strip n l && not (has d.sure l)) sets_are) below)
             (cases_lt m n);
         new_possible = λ m l ge lt below.
             ⊎_elim
             (λ (less : m < n). new_elsewhere possible_of m l less ∙ h.new_possible m l ge less below)
             (λ (more : n ≤ m).
             let e : n ≡ m = omega arith in
-            subst (λ (k : ℕ). l < points_at plan.grid strip k → among possible_of (changes ++ added) k l ≡ (possible_there plan move strip k l && not (has (sets_of before k).possible l))) e
-            (λ here. new_here possible_of l ∙ next.new_possible l (omega (arith, points_are, here)) ∙ ap (λ (d : Sets). possible_there plan move strip n l && not (has d.possible l)) sets_are) below)
+            subst (λ (k : ℕ). l < points_at plan.grid strip k → among possible_of (changes ++ added) k l ≡
+            (possible_there plan move strip k l && not (has (sets_of before k).possible l))) e
+            (λ here. new_here possible_of l ∙ next.new_possible l (omega (arith, points_are, here)) ∙ ap
+            (λ (d : Sets). possible_there plan move strip n l && not (has d.possible l)) sets_are) below)
             (cases_lt m n);
         each = All-append (IsChangeFrom (set mid n ray) lo (n + 1)) changes added old_stays new_stays;
         order = order_append changes added h.order next.order
-            (λ i k d lt lt'. ahead_by_ray (get_or changes i d) (get_or added k d) (omega (arith, (h.each i d lt).below, (next.each k d lt').number)));
+            (λ i k d lt lt'. ahead_by_ray (get_or changes i d) (get_or added k d)
+            (omega (arith, (h.each i d lt).below, (next.each k d lt').number)));
         found =
             is_total ∙ ap₂ plus h.found found_here
             ∙ sym (sum_more (ray_found plan move strip before) lo (n - lo) n (omega arith))
@@ -176,4 +191,5 @@ module _ (plan : PlanOf) (move : JobMove) (strip lo n : ℕ) (before mid : List 
 pub ray_within : (ray : KeptSets) (sure possible : ℕ → Bool) (rapid : Bool) (n : ℕ) (changes : List WordChange) (counts : Counts)
     → IsRayMarked ray sure possible rapid n changes counts → AreWithin (2 ^ 32 - 1) counts
 ray_within ray sure possible rapid n changes counts h =
-    subst (λ (c : Counts). AreWithin (2 ^ 32 - 1) c) (sym h.found) (found_within (seen_on ray.sets sure possible rapid) 0 (length ray.sets.stock) (2 ^ 32 - 1) (omega (arith, h.few)))
+    subst (λ (c : Counts). AreWithin (2 ^ 32 - 1) c) (sym h.found)
+    (found_within (seen_on ray.sets sure possible rapid) 0 (length ray.sets.stock) (2 ^ 32 - 1) (omega (arith, h.few)))

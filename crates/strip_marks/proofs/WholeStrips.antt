@@ -1,7 +1,5 @@
 -- What a move changes on a strip: its rays in the window are enough.
-use Rattle.std.proofs.Common.{◌≡◌, ℕ, ◌+◌, ◌-◌, ◌<◌, ◌≤◌, Bool, true, false, not, ◌&&◌, List, length, get_or, arith, refl, sym, ap, ◌∙◌, ◌⊎◌, inl, inr, ⊎_elim}
-use Rattle.std.specs.List.{range_with_len}
-use Rattle.std.proofs.lemmas.Bool.{cases_lt}
+use Rattle.std.proofs.Common.{◌≡◌, ℕ, ◌-◌, ◌<◌, ◌≤◌, false, not, ◌&&◌, List, length, get_or, arith, sym, ap, ◌∙◌, ◌⊎◌, inl, inr, ⊎_elim}
 use Rattle.vf_spans.specs.Members.{has}
 use Rattle.job_facts.specs.declared.counts.Counts.{Counts}
 use Rattle.job_facts.specs.Counts.{no_counts}
@@ -13,17 +11,20 @@ use Rattle.strip_plan.specs.Windows.{HoldsEntered}
 use Rattle.strip_marks.specs.declared.change.WordChange.{WordChange}
 use Rattle.strip_marks.specs.Marks.{AreRays, IsMarkedStrip, among, points_at, possible_of, possible_there, ray_found, seen_on, sets_of, sure_of, sure_there}
 use Rattle.strip_marks.specs.RowMarks.{AreRaysMarked}
-use Rattle.strip_marks.proofs.Counting.{found_none, sum_over, sum_window}
+use Rattle.strip_marks.proofs.Counting.{found_none, inside_or, sum_window}
 use Rattle.strip_marks.proofs.Lists.{among_none, other_ray}
 use Rattle.strip_marks.proofs.OnStrips.{not_sure_there, nowhere_beyond}
 use Rattle.strip_marks.proofs.WholeRays.{unmarked_meets_none}
 
-module _ (plan : PlanOf) (number : ℕ) (move : JobMove) (strip lo hi : ℕ) (before after : List KeptSets) (changes : List WordChange) (counts : Counts)
-    (valid : IsPlan plan) (has_number : HasNumber plan number move) (there : strip < length (strips_of plan.grid)) (rays : AreRays plan.grid strip before)
-    (order : lo ≤ hi) (within : hi ≤ length before) (window : HoldsEntered plan move strip lo hi) (h : AreRaysMarked plan move strip before after lo hi changes counts) where
-
+module _ (plan : PlanOf) (number : ℕ) (move : JobMove) (strip lo hi : ℕ) (before after : List KeptSets) (changes : List WordChange)
+    (counts : Counts)
+    (valid : IsPlan plan) (has_number : HasNumber plan number move) (there : strip < length (strips_of plan.grid))
+    (rays : AreRays plan.grid strip before)
+    (order : lo ≤ hi) (within : hi ≤ length before) (window : HoldsEntered plan move strip lo hi)
+    (h : AreRaysMarked plan move strip before after lo hi changes counts) where
   -- beyond the rays of the window the move is possible at no point, and so sure of none
-  not_possible : (n l : ℕ) → (n < lo) ⊎ (hi ≤ n) → n < length before → l < points_at plan.grid strip n → possible_there plan move strip n l ≡ false
+  not_possible : (n l : ℕ) → (n < lo) ⊎ (hi ≤ n) → n < length before → l < points_at plan.grid strip n
+      → possible_there plan move strip n l ≡ false
   not_possible n l out lt below =
       nowhere_beyond plan move strip lo hi n l there window (omega (arith, rays.many))
       (λ inside. ⊎_elim (λ (low : n < lo). omega (arith, inside.0)) (λ (high : hi ≤ n). omega (arith, inside.1)) out) below
@@ -43,29 +44,26 @@ module _ (plan : PlanOf) (number : ℕ) (move : JobMove) (strip lo hi : ℕ) (be
   none_found n out lt =
       let d = sets_of before n in
       found_none (seen_on d (sure_there plan move strip n) (possible_there plan move strip n) move.rapid) 0 (points_at plan.grid strip n)
-      (λ l ge less. unmarked_meets_none (has d.stock l) (has d.part l) (has d.fixture l) (has d.sure l) (has d.possible l) (sure_there plan move strip n l) (possible_there plan move strip n l) move.rapid
+      (λ l ge less. unmarked_meets_none (has d.stock l) (has d.part l) (has d.fixture l) (has d.sure l) (has d.possible l)
+      (sure_there plan move strip n l) (possible_there plan move strip n l) move.rapid
       (not_sure n l out lt (omega arith)) (not_possible n l out lt (omega arith)))
-
-  inside_or : (n : ℕ) (P : Type 0) → (lo ≤ n → n < hi → P) → ((n < lo) ⊎ (hi ≤ n) → P) → P
-  inside_or n P inside out =
-      ⊎_elim (λ (low : n < lo). out (inl low))
-      (λ (ge : lo ≤ n). ⊎_elim (λ (less : n < hi). inside ge less) (λ (high : hi ≤ n). out (inr high)) (cases_lt n hi))
-      (cases_lt n lo)
 
   -- what is marked on the rays of the window is what the move marks on the strip
   pub strip_marked : IsMarkedStrip plan move strip before after changes counts
   strip_marked = record {
     sure = λ n l lt below.
-        inside_or n (among sure_of changes n l ≡ (sure_there plan move strip n l && not (has (sets_of before n).sure l)))
+        inside_or lo hi n (among sure_of changes n l ≡ (sure_there plan move strip n l && not (has (sets_of before n).sure l)))
         (λ ge less. h.new_sure n l ge less below)
         (λ out. none_beside sure_of n l out ∙ sym (ap (λ t. t && not (has (sets_of before n).sure l)) (not_sure n l out lt below)));
     possible = λ n l lt below.
-        inside_or n (among possible_of changes n l ≡ (possible_there plan move strip n l && not (has (sets_of before n).possible l)))
+        inside_or lo hi n (among possible_of changes n l ≡ (possible_there plan move strip n l && not (has (sets_of before n).possible l)))
         (λ ge less. h.new_possible n l ge less below)
-        (λ out. none_beside possible_of n l out ∙ sym (ap (λ t. t && not (has (sets_of before n).possible l)) (not_possible n l out lt below)));
+        (λ out. none_beside possible_of n l out ∙ sym
+        (ap (λ t. t && not (has (sets_of before n).possible l)) (not_possible n l out lt below)));
     on = λ i d lt. (h.each i d lt).on;
     order = h.order;
     found =
         h.found
-        ∙ sym (sum_window (ray_found plan move strip before) lo (hi - lo) (length before) (omega arith) (λ n lt. none_found n (inl lt) (omega arith)) (λ n ge lt. none_found n (inr (omega arith)) lt));
+        ∙ sym (sum_window (ray_found plan move strip before) lo (hi - lo) (length before) (omega arith)
+        (λ n lt. none_found n (inl lt) (omega arith)) (λ n ge lt. none_found n (inr (omega arith)) lt));
   }

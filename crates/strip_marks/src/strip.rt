@@ -37,7 +37,7 @@ fn mark_at<'x>(
     ensures few { IfOk result (AreWithin (2 ^ 32 - 1)) }
     ensures marked { IfOk result (λ counts. (move : JobMove) → HasNumber plan.now number move
         → Adds changes.old.items changes.new.items (λ added.
-            IsRayMarked ray.new (sure_there plan.now move strip n) (possible_there plan.now move strip n) move.rapid n added counts)) }
+        IsRayMarked ray.new (sure_there plan.now move strip n) (possible_there plan.now move strip n) move.rapid n added counts)) }
 {
     // The bound fits.
     let _bound = ray.bound();

@@ -11,12 +11,7 @@ use wanted_marks::RayMarker;
 
 /// What a move changes at the points of word n of a ray, and what it finds there. Only points that the move has to be asked about
 /// are marked.
-pub fn mark_word(
-    marker: &RayMarker<'_>,
-    ray: &WordRay,
-    n: u32,
-    rapid: bool,
-) -> (WordDelta, Counts)
+pub fn mark_word(marker: &RayMarker<'_>, ray: &WordRay, n: u32, rapid: bool) -> (WordDelta, Counts)
     requires ray { AreSetsOf marker.now ray.now.sets }
     requires word { n < words_below (length ray.now.sets.stock) }
     ensures { IsWordMarked ray.now.sets (is_sure_at marker.now) (is_possible_at marker.now) rapid n result.0 result.1 }
