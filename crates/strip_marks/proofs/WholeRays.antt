@@ -15,27 +15,12 @@ use Rattle.strip_marks.specs.declared.change.WordChange.{WordChange}
 use Rattle.strip_marks.specs.Marks.{among, possible_of, seen_on, sure_of}
 use Rattle.strip_marks.specs.RayMarks.{AreWordsMarked, IsAtKept, IsChangeOf, IsRayMarked, IsWindow}
 use Rattle.strip_marks.specs.Words.{AreSetsOf}
-use Rattle.strip_marks.proofs.AtWords.{none_of_three, past}
+use Rattle.strip_marks.proofs.AtWords.{none_of_three, past, unmarked_meets_none}
 use Rattle.strip_marks.proofs.Counting.{found_none, found_window, inside_or}
 use Rattle.strip_marks.proofs.Growing.{beside}
 use Rattle.strip_marks.proofs.Lists.{order_few}
 
--- a point of which the move is neither sure nor possible meets none of the rules
-pub unmarked_meets_none : (a b c S P s p rapid : Bool) → s ≡ false → p ≡ false → met (point a b c S P s p rapid) ≡ none_met
-unmarked_meets_none a b c S P s p rapid es ep =
-    ap₂ (λ x y. met (point a b c S P x y rapid)) es ep
-    ∙ (λ i. record {
-      removed = and_right a false refl i;
-      possible = and_right a false refl i;
-      part_sure = and_right b false refl i;
-      part_possible = and_right b false refl i;
-      fix_sure = and_right c false refl i;
-      fix_possible = and_right c false refl i;
-      rapid_sure = and_right rapid (a && false) (and_right a false refl) i;
-      rapid_possible = and_right rapid (a && false) (and_right a false refl) i;
-    })
-
--- and so does one beyond the ray's end
+-- a point beyond the ray's end meets none of the rules
 past_meets_none : (d : Sets) (sure possible : ℕ → Bool) (rapid : Bool) (l : ℕ) → HaveBound (length d.stock) d → length d.stock ≤ l
     → met (seen_on d sure possible rapid l) ≡ none_met
 past_meets_none d sure possible rapid l h le =

@@ -13,4 +13,4 @@ returns c =
     c.bits_below-wanted.result c.sure_only.result
     c.mark-marks.result.sure c.mark-marks.result.possible a.rapid c.wanted.ensures asked c.sure_only.ensures c.mark-marks.ensures.sure
     c.mark-marks.ensures.possible
-    c.add.result.0 c.add.result.1 c.add.ensures.delta c.add.ensures.counts
+    c.add_marks.result.0 c.add_marks.result.1 c.add_marks.ensures.delta c.add_marks.ensures.counts
