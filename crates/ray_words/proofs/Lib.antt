@@ -1,4 +1,5 @@
 pub mod Marks
 pub mod Changes
+pub mod WrittenRays
 pub mod Keeping
 pub mod Ranges

@@ -42,61 +42,75 @@ word_cases first ws n =
 pub in_some_word : (i : ℕ) → 64 * (i / 64) + i % 64 ≡ i
 in_some_word i = omega arith
 
+-- the set has its bound
 pub length-marks : (pick : WordSets → ℕ) (bound first : ℕ) (ws : List WordSets) → length (marks_of pick bound first ws) ≡ bound
 length-marks pick bound first ws = length-map-range_with_len (mark_at pick first ws) 0 bound
 
 -- below the bound a flag is that of its word
-pub has-marks : (pick : WordSets → ℕ) (bound first : ℕ) (ws : List WordSets) (i : ℕ) → i < bound → has (marks_of pick bound first ws) i ≡ mark_at pick first ws i
+pub has-marks : (pick : WordSets → ℕ) (bound first : ℕ) (ws : List WordSets) (i : ℕ) → i < bound
+    → has (marks_of pick bound first ws) i ≡ mark_at pick first ws i
 has-marks pick bound first ws i lt = get_or-map-range_with_len (mark_at pick first ws) 0 bound i i false lt (omega arith)
 
 -- at and beyond the bound none is set
-pub has-marks-past : (pick : WordSets → ℕ) (bound first : ℕ) (ws : List WordSets) (i : ℕ) → bound ≤ i → has (marks_of pick bound first ws) i ≡ false
+pub has-marks-past : (pick : WordSets → ℕ) (bound first : ℕ) (ws : List WordSets) (i : ℕ) → bound ≤ i
+    → has (marks_of pick bound first ws) i ≡ false
 has-marks-past pick bound first ws i le =
     get_or_past (marks_of pick bound first ws) i false (let size = length-marks pick bound first ws in omega arith)
 
 -- the flag of a bit of word n
-pub mark_at-bit : (pick : WordSets → ℕ) (first : ℕ) (ws : List WordSets) (n b : ℕ) → b < 64 → mark_at pick first ws (64 * n + b) ≡ has_bit (pick (word_at first ws n)) b
+pub mark_at-bit : (pick : WordSets → ℕ) (first : ℕ) (ws : List WordSets) (n b : ℕ) → b < 64
+    → mark_at pick first ws (64 * n + b) ≡ has_bit (pick (word_at first ws n)) b
 mark_at-bit pick first ws n b lt =
     let word : (64 * n + b) / 64 ≡ n = omega arith in
     let bit : (64 * n + b) % 64 ≡ b = omega arith in
     ap₂ (λ m k. has_bit (pick (word_at first ws m)) k) word bit
 
 -- no flag is set in a word that has no bits
-pub none_marked : (pick : WordSets → ℕ) (first : ℕ) (ws : List WordSets) (i : ℕ) → pick no_bits ≡ 0 → word_at first ws (i / 64) ≡ no_bits → mark_at pick first ws i ≡ false
+pub none_marked : (pick : WordSets → ℕ) (first : ℕ) (ws : List WordSets) (i : ℕ) → pick no_bits ≡ 0 → word_at first ws (i / 64) ≡ no_bits
+    → mark_at pick first ws i ≡ false
 none_marked pick first ws i zero none =
     ap (λ w. has_bit (pick w) (i % 64)) none ∙ ap (λ m. has_bit m (i % 64)) zero ∙ has_bit-zero (i % 64)
 
 -- and so none of such a word is in the set
-pub has_none : (pick : WordSets → ℕ) (bound first : ℕ) (ws : List WordSets) (n b : ℕ) → pick no_bits ≡ 0 → word_at first ws n ≡ no_bits → b < 64
+pub has_none : (pick : WordSets → ℕ) (bound first : ℕ) (ws : List WordSets) (n b : ℕ) → pick no_bits ≡ 0 → word_at first ws n ≡ no_bits
+    → b < 64
     → has (marks_of pick bound first ws) (64 * n + b) ≡ false
 has_none pick bound first ws n b zero none lt =
     let word : (64 * n + b) / 64 ≡ n = omega arith in
     ⊎_elim (λ (below : 64 * n + b < bound).
-    has-marks pick bound first ws (64 * n + b) below ∙ none_marked pick first ws (64 * n + b) zero (ap (λ m. word_at first ws m) word ∙ none))
+    has-marks pick bound first ws (64 * n + b) below
+    ∙ none_marked pick first ws (64 * n + b) zero (ap (λ m. word_at first ws m) word ∙ none))
     (λ (past : bound ≤ 64 * n + b). has-marks-past pick bound first ws (64 * n + b) past) (cases_lt (64 * n + b) bound)
 
 -- at a word that the stretch hasn't, no move was sure or possible
-pub is_unmarked : (stock part fixture : List Bool) (first : ℕ) (ws : List WordSets) (n : ℕ) → word_at first ws n ≡ no_bits → IsUnmarked (sets_of stock part fixture first ws) n
+pub is_unmarked : (stock part fixture : List Bool) (first : ℕ) (ws : List WordSets) (n : ℕ) → word_at first ws n ≡ no_bits
+    → IsUnmarked (sets_of stock part fixture first ws) n
 is_unmarked stock part fixture first ws n none = record {
   sure = λ b lt. has_none (λ w. w.sure) (length stock) first ws n b refl none lt;
   possible = λ b lt. has_none (λ w. w.possible) (length stock) first ws n b refl none lt;
 }
 
 -- a stretch of no words is the empty set
-pub no_marks : (pick : WordSets → ℕ) (bound first : ℕ) (ws : List WordSets) (i : ℕ) → pick no_bits ≡ 0 → length ws ≡ 0 → has (marks_of pick bound first ws) i ≡ false
+pub no_marks : (pick : WordSets → ℕ) (bound first : ℕ) (ws : List WordSets) (i : ℕ) → pick no_bits ≡ 0 → length ws ≡ 0
+    → has (marks_of pick bound first ws) i ≡ false
 no_marks pick bound first ws i zero none =
     let empty : word_at first ws (i / 64) ≡ no_bits =
-    ⊎_elim (λ (lt : i / 64 < first). word_at-before first ws (i / 64) lt) (λ (le : first ≤ i / 64). word_at-past first ws (i / 64) (omega arith)) (cases_lt (i / 64) first) in
-    ap (λ m. has (marks_of pick bound first ws) m) (sym (in_some_word i)) ∙ has_none pick bound first ws (i / 64) (i % 64) zero empty (omega arith)
+    ⊎_elim (λ (lt : i / 64 < first). word_at-before first ws (i / 64) lt)
+    (λ (le : first ≤ i / 64). word_at-past first ws (i / 64) (omega arith)) (cases_lt (i / 64) first) in
+    ap (λ m. has (marks_of pick bound first ws) m) (sym (in_some_word i))
+    ∙ has_none pick bound first ws (i / 64) (i % 64) zero empty (omega arith)
 
 -- the bits that are picked from each word of the stretch are the flags of the set
 abbrev pub AreBits : (WordSets → ℕ) → List Bool → ℕ → List WordSets → Type 0
-AreBits pick flags first ws = (n : ℕ) → InStretch first ws n → (b : ℕ) → b < 64 → has_bit (pick (word_at first ws n)) b ≡ has flags (64 * n + b)
+AreBits pick flags first ws =
+    (n : ℕ) → InStretch first ws n → (b : ℕ) → b < 64 → has_bit (pick (word_at first ws n)) b ≡ has flags (64 * n + b)
 
 -- at an index the flag of such a stretch is that of the set
-bits_mark : (pick : WordSets → ℕ) (flags : List Bool) (first : ℕ) (ws : List WordSets) (i : ℕ) → AreBits pick flags first ws → InStretch first ws (i / 64) → mark_at pick first ws i ≡ has flags i
+bits_mark : (pick : WordSets → ℕ) (flags : List Bool) (first : ℕ) (ws : List WordSets) (i : ℕ) → AreBits pick flags first ws
+    → InStretch first ws (i / 64) → mark_at pick first ws i ≡ has flags i
 bits_mark pick flags first ws i bits here = bits (i / 64) here (i % 64) (omega arith) ∙ ap (λ m. has flags m) (in_some_word i)
 
+-- the flag of a longer stretch, at a word that it has and at one that it has not
 same_mark : (pick : WordSets → ℕ) (bound first first' : ℕ) (ws ws' : List WordSets) (i : ℕ) → pick no_bits ≡ 0 → i < bound
     → AreBits pick (marks_of pick bound first ws) first' ws' → ((n : ℕ) → InStretch first ws n → InStretch first' ws' n)
     → mark_at pick first' ws' i ≡ has (marks_of pick bound first ws) i
@@ -117,11 +131,13 @@ same_marks pick bound first first' ws ws' zero bits more =
       bound = length-marks pick bound first' ws' ∙ sym (length-marks pick bound first ws);
       indices = λ i. ⊎_elim
           (λ (lt : i < bound). has-marks pick bound first' ws' i lt ∙ same_mark pick bound first first' ws ws' i zero lt bits more)
-          (λ (le : bound ≤ i). has-marks-past pick bound first' ws' i le ∙ sym (has-marks-past pick bound first ws i le)) (cases_lt i bound);
+          (λ (le : bound ≤ i). has-marks-past pick bound first' ws' i le ∙ sym (has-marks-past pick bound first ws i le))
+          (cases_lt i bound);
     })
 
 -- the five sets have the bound of the stock
-pub have_bound : (stock part fixture : List Bool) (first : ℕ) (ws : List WordSets) (bound : ℕ) → length stock ≡ bound → length part ≡ length stock → length fixture ≡ length stock
+pub have_bound : (stock part fixture : List Bool) (first : ℕ) (ws : List WordSets) (bound : ℕ) → length stock ≡ bound
+    → length part ≡ length stock → length fixture ≡ length stock
     → HaveBound bound (sets_of stock part fixture first ws)
 have_bound stock part fixture first ws bound s p f = record {
   stock = s;

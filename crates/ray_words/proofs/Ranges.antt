@@ -9,4 +9,5 @@ not_entered n lo hi b outside lt =
     (λ (later : n < lo / 64). and_left (leb lo (64 * n + b)) (ltb (64 * n + b) hi) (lt-leb lo (64 * n + b) (omega arith)))
     (λ (begun : lo / 64 ≤ n).
     ⊎_elim (λ (goes_on : 64 * n < hi). absurd (outside (begun, goes_on)))
-    (λ (over : hi ≤ 64 * n). and_right (leb lo (64 * n + b)) (ltb (64 * n + b) hi) (le-ltb (64 * n + b) hi (omega arith))) (cases_lt (64 * n) hi)) (cases_lt n (lo / 64))
+    (λ (over : hi ≤ 64 * n). and_right (leb lo (64 * n + b)) (ltb (64 * n + b) hi) (le-ltb (64 * n + b) hi (omega arith)))
+    (cases_lt (64 * n) hi)) (cases_lt n (lo / 64))

@@ -33,6 +33,14 @@ sets_of stock part fixture first words = record {
   possible = marks_of (λ w. w.possible) (length stock) first words;
 }
 
+-- and what callers see of a ray that is kept so
+abbrev pub kept_of : List Bool → List Bool → List Bool → ℕ → List WordSets → KeptSets
+kept_of stock part fixture first words = record {
+  sets = sets_of stock part fixture first words;
+  first = first;
+  count = length words;
+}
+
 -- the bodies have one bound, the stretch is among the words below it, and each of its words has the bits of the five sets; so beyond
 -- the bound none of its bits is set
 pub record IsWordRay (stock part fixture : List Bool) (first : ℕ) (words : List WordSets) : Type 0 where

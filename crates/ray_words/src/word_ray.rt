@@ -25,13 +25,12 @@ pub struct WordRay {
 }
 
 impl Model for WordRay {
-    ghost use Rattle.std.specs.Prelude.{length};
     ghost use Rattle.ray_words.specs.Rays.{KeptSets};
-    ghost use Rattle.ray_words.specs.Kept.{IsWordRay, sets_of};
+    ghost use Rattle.ray_words.specs.Kept.{IsWordRay, kept_of};
 
     ghost Value = { KeptSets };
 
-    ghost view = { λ r. record { sets = sets_of r.stock r.part r.fixture r.first r.words.items; first = r.first; count = length r.words.items } };
+    ghost view = { λ r. kept_of r.stock r.part r.fixture r.first r.words.items };
 
     ghost invariant = { λ r. IsWordRay r.stock r.part r.fixture r.first r.words.items };
 }
@@ -46,8 +45,8 @@ impl WordRay {
         ensures fixture { result.sets.fixture ≡ fixture }
         ensures sure { (i : ℕ) → has result.sets.sure i ≡ false }
         ensures possible { (i : ℕ) → has result.sets.possible i ≡ false }
-        ensures none { result.count ≡ 0 }
         ensures bound { HaveBound (length stock) result.sets }
+        ensures none { result.count ≡ 0 }
     {
         WordRay {
             stock,
@@ -196,7 +195,7 @@ impl WordRay {
         Ok(words)
     }
 
-    /// The least stretch with the words from `lo` on and below `hi`, and with those that are kept.
+    /// A stretch with the words from `lo` on and below `hi`, and with those that are kept.
     fn stretch(&self, lo: u32, hi: u32) -> (u32, u32)
         requires some { lo < hi }
         requires within { hi ≤ words_below (length self.now.sets.stock) }
