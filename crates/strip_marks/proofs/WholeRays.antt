@@ -1,14 +1,14 @@
 -- What a move changes on a ray: its words in the window are enough.
-use Rattle.std.proofs.Common.{◌≡◌, ℕ, ◌+◌, ◌-◌, ◌*◌, ◌^◌, ◌<◌, ◌≤◌, Bool, false, not, ◌&&◌, List, [], length, arith, refl, sym, ap, ap₂, ◌∙◌, subst, ◌⊎◌, inl, inr, ⊎_elim}
+use Rattle.std.proofs.Common.{◌≡◌, ℕ, ◌+◌, ◌-◌, ◌*◌, ◌^◌, ◌<◌, ◌≤◌, Bool, false, not, ◌&&◌, List, [], length, arith, refl, sym, ap, ◌∙◌, subst, ◌⊎◌, inl, inr, ⊎_elim}
 use Rattle.std.specs.List.{All, range_with_len}
-use Rattle.std.proofs.lemmas.Bool.{and_right, cases_lt, false_from_ne_true}
+use Rattle.std.proofs.lemmas.Bool.{cases_lt, false_from_ne_true}
 use Rattle.std.proofs.lemmas.List.Elements.{All-nil}
 use Rattle.vf_spans.specs.Members.{has}
 use Rattle.job_facts.specs.declared.counts.Counts.{Counts}
 use Rattle.job_facts.specs.Counts.{no_counts}
 use Rattle.dexel_rays.specs.Findings.{findings, met, none_met}
 use Rattle.dexel_rays.specs.Sets.{HaveBound, Sets}
-use Rattle.dexel_rays.proofs.Laws.{outside_meets_none, point}
+use Rattle.dexel_rays.proofs.Laws.{outside_meets_none}
 use Rattle.ray_words.specs.Rays.{KeptSets}
 use Rattle.wanted_marks.specs.Rays.{RayOf, is_possible_at, is_sure_at}
 use Rattle.strip_marks.specs.declared.change.WordChange.{WordChange}
