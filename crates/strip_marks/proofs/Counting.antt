@@ -1,6 +1,7 @@
 -- What is found over ranges of indices, part by part, and sums of counts.
-use Rattle.std.proofs.Common.{◌≡◌, ℕ, zero, suc, ◌+◌, ◌-◌, ◌*◌, ◌<◌, ◌≤◌, Bool, false, cond, List, [], ◌∷◌, ◌++◌, map, length, arith, refl, sym, ap, ap₂, ◌∙◌, subst, zero-add, add-zero, add_assoc}
+use Rattle.std.proofs.Common.{◌≡◌, ℕ, zero, suc, ◌+◌, ◌-◌, ◌<◌, ◌≤◌, Bool, false, cond, List, [], ◌∷◌, ◌++◌, map, length, arith, refl, sym, ap, ap₂, ◌∙◌, ◌⊎◌, inl, inr, ⊎_elim, zero-add, add-zero, add_assoc}
 use Rattle.std.specs.List.{count_by, range_with_len}
+use Rattle.std.proofs.lemmas.Bool.{cases_lt}
 use Rattle.std.proofs.lemmas.List.FromFn.{length-range_with_len}
 use Rattle.std.proofs.lemmas.List.Sums.{sum_by-append, sum_by-cons}
 use Rattle.job_facts.specs.declared.counts.Counts.{Counts}
@@ -46,6 +47,13 @@ plus_apart a b c = λ i. record {
   rapid_possible = add_assoc a.rapid_possible b.rapid_possible c.rapid_possible i;
 }
 
+-- a number is one from the one on and below the other, or beside these
+pub inside_or : (lo hi n : ℕ) (P : Type 0) → (lo ≤ n → n < hi → P) → ((n < lo) ⊎ (hi ≤ n) → P) → P
+inside_or lo hi n P inside out =
+    ⊎_elim (λ (low : n < lo). out (inl low))
+    (λ (ge : lo ≤ n). ⊎_elim (λ (less : n < hi). inside ge less) (λ (high : hi ≤ n). out (inr high)) (cases_lt n hi))
+    (cases_lt n lo)
+
 -- a range is its first part and the rest
 pub range_parts : (a m n b : ℕ) → a + m ≡ b → range_with_len a (m + n) ≡ range_with_len a m ++ range_with_len b n
 range_parts a zero n b e = ap₂ range_with_len (let q : a ≡ b = omega arith in q) (zero-add n)
@@ -74,12 +82,14 @@ pub found_split : (see : ℕ → Seen) (a m n b : ℕ) → a + m ≡ b
 found_split see a m n b e = ap (findings see) (range_parts a m n b e) ∙ found_parts see (range_with_len a m) (range_with_len b n)
 
 -- tests that say the same in two ranges, one index after the other, give one count
-count_as : (p q : ℕ → Bool) (a c n : ℕ) → ((b : ℕ) → b < n → p (a + b) ≡ q (c + b)) → count_by p (range_with_len a n) ≡ count_by q (range_with_len c n)
+count_as : (p q : ℕ → Bool) (a c n : ℕ) → ((b : ℕ) → b < n → p (a + b) ≡ q (c + b))
+    → count_by p (range_with_len a n) ≡ count_by q (range_with_len c n)
 count_as p q a c zero same = refl
 count_as p q a c (suc n) same =
     let here : p a ≡ q c = ap p (sym (add-zero a)) ∙ same 0 (omega arith) ∙ ap q (add-zero c) in
     let rest = count_as p q (a + 1) (c + 1) n
-        (λ b lt. ap p (let e : a + 1 + b ≡ a + (b + 1) = omega arith in e) ∙ same (b + 1) (omega arith) ∙ ap q (let e : c + (b + 1) ≡ c + 1 + b = omega arith in e)) in
+    (λ b lt. ap p (let e : a + 1 + b ≡ a + (b + 1) = omega arith in e) ∙ same (b + 1) (omega arith) ∙ ap q
+    (let e : c + (b + 1) ≡ c + 1 + b = omega arith in e)) in
     sum_by-cons (λ k. cond (p k) 1 0) a (range_with_len (a + 1) n)
     ∙ ap₂ (λ x y. x + y) (ap (λ t. cond t 1 0) here) rest
     ∙ sym (sum_by-cons (λ k. cond (q k) 1 0) c (range_with_len (c + 1) n))
@@ -91,21 +101,26 @@ found_as see see' a c n same = λ i. record {
   removed = count_as (λ p. is_removed (see p)) (λ p. is_removed (see' p)) a c n (λ b lt. ap (λ m. m.removed) (same b lt)) i;
   possible = count_as (λ p. is_new_possible (see p)) (λ p. is_new_possible (see' p)) a c n (λ b lt. ap (λ m. m.possible) (same b lt)) i;
   part_sure = count_as (λ p. is_part_sure (see p)) (λ p. is_part_sure (see' p)) a c n (λ b lt. ap (λ m. m.part_sure) (same b lt)) i;
-  part_possible = count_as (λ p. is_part_possible (see p)) (λ p. is_part_possible (see' p)) a c n (λ b lt. ap (λ m. m.part_possible) (same b lt)) i;
+  part_possible = count_as (λ p. is_part_possible (see p)) (λ p. is_part_possible (see' p)) a c n
+      (λ b lt. ap (λ m. m.part_possible) (same b lt)) i;
   fix_sure = count_as (λ p. is_fixture_sure (see p)) (λ p. is_fixture_sure (see' p)) a c n (λ b lt. ap (λ m. m.fix_sure) (same b lt)) i;
-  fix_possible = count_as (λ p. is_fixture_possible (see p)) (λ p. is_fixture_possible (see' p)) a c n (λ b lt. ap (λ m. m.fix_possible) (same b lt)) i;
+  fix_possible = count_as (λ p. is_fixture_possible (see p)) (λ p. is_fixture_possible (see' p)) a c n
+      (λ b lt. ap (λ m. m.fix_possible) (same b lt)) i;
   rapid_sure = count_as (λ p. is_rapid_sure (see p)) (λ p. is_rapid_sure (see' p)) a c n (λ b lt. ap (λ m. m.rapid_sure) (same b lt)) i;
-  rapid_possible = count_as (λ p. is_rapid_possible (see p)) (λ p. is_rapid_possible (see' p)) a c n (λ b lt. ap (λ m. m.rapid_possible) (same b lt)) i;
+  rapid_possible = count_as (λ p. is_rapid_possible (see p)) (λ p. is_rapid_possible (see' p)) a c n
+      (λ b lt. ap (λ m. m.rapid_possible) (same b lt)) i;
 }
 
 count_none : (p : ℕ → Bool) (a n : ℕ) → ((k : ℕ) → a ≤ k → k < a + n → p k ≡ false) → count_by p (range_with_len a n) ≡ 0
 count_none p a zero none = refl
 count_none p a (suc n) none =
     sum_by-cons (λ k. cond (p k) 1 0) a (range_with_len (a + 1) n)
-    ∙ ap₂ (λ x y. x + y) (ap (λ t. cond t 1 0) (none a (omega arith) (omega arith))) (count_none p (a + 1) n (λ k le lt. none k (omega arith) (omega arith)))
+    ∙ ap₂ (λ x y. x + y) (ap (λ t. cond t 1 0) (none a (omega arith) (omega arith)))
+    (count_none p (a + 1) n (λ k le lt. none k (omega arith) (omega arith)))
 
 -- points of which each meets none of the rules give no counts
-pub found_none : (see : ℕ → Seen) (a n : ℕ) → ((k : ℕ) → a ≤ k → k < a + n → met (see k) ≡ none_met) → findings see (range_with_len a n) ≡ no_counts
+pub found_none : (see : ℕ → Seen) (a n : ℕ) → ((k : ℕ) → a ≤ k → k < a + n → met (see k) ≡ none_met)
+    → findings see (range_with_len a n) ≡ no_counts
 found_none see a n none = λ i. record {
   removed = count_none (λ p. is_removed (see p)) a n (λ k le lt. ap (λ m. m.removed) (none k le lt)) i;
   possible = count_none (λ p. is_new_possible (see p)) a n (λ k le lt. ap (λ m. m.possible) (none k le lt)) i;
@@ -157,7 +172,8 @@ within_both m n c d h k = record {
 -- what is found in a range is within the number of its indices
 pub found_within : (see : ℕ → Seen) (a n most : ℕ) → n ≤ most → AreWithin most (findings see (range_with_len a n))
 found_within see a n most le =
-    within_more (length (range_with_len a n)) most (findings see (range_with_len a n)) (omega (arith, length-range_with_len a n)) (findings_within see (range_with_len a n))
+    within_more (length (range_with_len a n)) most (findings see (range_with_len a n)) (omega (arith, length-range_with_len a n))
+    (findings_within see (range_with_len a n))
 
 -- a sum of counts is that of its first part and of the rest
 pub sum_parts : (xs ys : List Counts) → sum_counts (xs ++ ys) ≡ plus (sum_counts xs) (sum_counts ys)
@@ -167,9 +183,6 @@ sum_parts (x ∷ xs) ys = ap (plus x) (sum_parts xs ys) ∙ sym (plus_apart x (s
 -- the counts of so many numbers from one on
 abbrev pub sum_over : (ℕ → Counts) → ℕ → ℕ → Counts
 sum_over f a n = sum_counts (map f (range_with_len a n))
-
-sum_step : (f : ℕ → Counts) (a n : ℕ) → sum_over f a (suc n) ≡ plus (f a) (sum_over f (a + 1) n)
-sum_step f a n = refl
 
 pub sum_split : (f : ℕ → Counts) (a m n b : ℕ) → a + m ≡ b → sum_over f a (m + n) ≡ plus (sum_over f a m) (sum_over f b n)
 sum_split f a zero n b e =
@@ -186,7 +199,8 @@ sum_more f a n j e = sum_split f a n 1 j e ∙ ap (plus (sum_over f a n)) (plus_
 pub sum_none : (f : ℕ → Counts) (a n : ℕ) → ((k : ℕ) → a ≤ k → k < a + n → f k ≡ no_counts) → sum_over f a n ≡ no_counts
 sum_none f a zero none = refl
 sum_none f a (suc n) none =
-    ap₂ plus (none a (omega arith) (omega arith)) (sum_none f (a + 1) n (λ k le lt. none k (omega arith) (omega arith))) ∙ plus_none no_counts
+    ap₂ plus (none a (omega arith) (omega arith)) (sum_none f (a + 1) n (λ k le lt. none k (omega arith) (omega arith)))
+    ∙ plus_none no_counts
 
 -- a sum over all numbers is that over a window, where the others give no counts
 pub sum_window : (f : ℕ → Counts) (lo n all : ℕ) → lo + n ≤ all → ((k : ℕ) → k < lo → f k ≡ no_counts)

@@ -1,48 +1,32 @@
 -- What a move changes on a ray: its words in the window are enough.
-use Rattle.std.proofs.Common.{◌≡◌, ◌≢◌, ℕ, ◌+◌, ◌-◌, ◌*◌, ◌/◌, ◌%◌, ◌^◌, ◌<◌, ◌≤◌, Bool, true, false, not, ◌&&◌, ◌||◌, IsTrue, List, [], ◌∷◌, ◌++◌, length, get_or, arith, refl, sym, ap, ap₂, ◌∙◌, subst, ◌⊎◌, inl, inr, ⊎_elim}
+use Rattle.std.proofs.Common.{◌≡◌, ℕ, ◌+◌, ◌-◌, ◌*◌, ◌^◌, ◌<◌, ◌≤◌, Bool, false, not, ◌&&◌, List, [], length, arith, refl, sym, ap, ◌∙◌, subst, ◌⊎◌, inl, inr, ⊎_elim}
 use Rattle.std.specs.List.{All, range_with_len}
-use Rattle.std.proofs.lemmas.Bool.{and_right, cases_Bool, cases_lt, false_from_ne_true}
+use Rattle.std.proofs.lemmas.Bool.{cases_lt, false_from_ne_true}
 use Rattle.std.proofs.lemmas.List.Elements.{All-nil}
 use Rattle.vf_spans.specs.Members.{has}
 use Rattle.job_facts.specs.declared.counts.Counts.{Counts}
 use Rattle.job_facts.specs.Counts.{no_counts}
-use Rattle.dexel_rays.specs.Findings.{findings, is_outside, met, none_met}
+use Rattle.dexel_rays.specs.Findings.{findings, met, none_met}
 use Rattle.dexel_rays.specs.Sets.{HaveBound, Sets}
-use Rattle.dexel_rays.proofs.Laws.{outside_meets_none, point}
-use Rattle.ray_grid.specs.Lattice.{points_of}
-use Rattle.ray_words.specs.Rays.{IsKept, KeptSets}
+use Rattle.dexel_rays.proofs.Laws.{outside_meets_none}
+use Rattle.ray_words.specs.Rays.{KeptSets}
 use Rattle.wanted_marks.specs.Rays.{RayOf, is_possible_at, is_sure_at}
-use Rattle.strip_plan.specs.Windows.{IsFrom}
 use Rattle.strip_marks.specs.declared.change.WordChange.{WordChange}
 use Rattle.strip_marks.specs.Marks.{among, possible_of, seen_on, sure_of}
-use Rattle.strip_marks.specs.RayMarks.{AreWordsMarked, HaveWordsBelow, IsAtKept, IsChangeIn, IsChangeOf, IsRayMarked, IsWindow}
+use Rattle.strip_marks.specs.RayMarks.{AreWordsMarked, IsAtKept, IsChangeOf, IsRayMarked, IsWindow}
 use Rattle.strip_marks.specs.Words.{AreSetsOf}
-use Rattle.strip_marks.proofs.AtWords.{none_of_three, past}
-use Rattle.strip_marks.proofs.Counting.{found_none, found_window}
+use Rattle.strip_marks.proofs.AtWords.{none_of_three, past, unmarked_meets_none}
+use Rattle.strip_marks.proofs.Counting.{found_none, found_window, inside_or}
 use Rattle.strip_marks.proofs.Growing.{beside}
 use Rattle.strip_marks.proofs.Lists.{order_few}
 
--- a point of which the move is neither sure nor possible meets none of the rules
-pub unmarked_meets_none : (a b c S P s p rapid : Bool) → s ≡ false → p ≡ false → met (point a b c S P s p rapid) ≡ none_met
-unmarked_meets_none a b c S P s p rapid es ep =
-    ap₂ (λ x y. met (point a b c S P x y rapid)) es ep
-    ∙ (λ i. record {
-      removed = and_right a false refl i;
-      possible = and_right a false refl i;
-      part_sure = and_right b false refl i;
-      part_possible = and_right b false refl i;
-      fix_sure = and_right c false refl i;
-      fix_possible = and_right c false refl i;
-      rapid_sure = and_right rapid (a && false) (and_right a false refl) i;
-      rapid_possible = and_right rapid (a && false) (and_right a false refl) i;
-    })
-
--- and so does one beyond the ray's end
+-- a point beyond the ray's end meets none of the rules
 past_meets_none : (d : Sets) (sure possible : ℕ → Bool) (rapid : Bool) (l : ℕ) → HaveBound (length d.stock) d → length d.stock ≤ l
     → met (seen_on d sure possible rapid l) ≡ none_met
 past_meets_none d sure possible rapid l h le =
     outside_meets_none (has d.stock l) (has d.part l) (has d.fixture l) (has d.sure l) (has d.possible l) (sure l) (possible l) rapid
-    (none_of_three (has d.stock l) (has d.part l) (has d.fixture l) (past d.stock (length d.stock) l refl le) (past d.part (length d.stock) l h.part le) (past d.fixture (length d.stock) l h.fixture le))
+    (none_of_three (has d.stock l) (has d.part l) (has d.fixture l) (past d.stock (length d.stock) l refl le)
+    (past d.part (length d.stock) l h.part le) (past d.fixture (length d.stock) l h.fixture le))
 
 -- a ray of whose points the move is possible at none
 pub no_ray : (after : KeptSets) (sure possible : ℕ → Bool) (rapid : Bool) (n : ℕ) → length after.sets.stock < 2 ^ 32
@@ -57,7 +41,8 @@ no_ray after sure possible rapid n few no_sure no_possible =
       order = order_few [] (omega arith);
       found =
           sym (found_none (seen_on d sure possible rapid) 0 (length d.stock)
-          (λ l ge lt. unmarked_meets_none (has d.stock l) (has d.part l) (has d.fixture l) (has d.sure l) (has d.possible l) (sure l) (possible l) rapid
+          (λ l ge lt. unmarked_meets_none (has d.stock l) (has d.part l) (has d.fixture l) (has d.sure l) (has d.possible l) (sure l)
+          (possible l) rapid
           (no_sure l (omega arith)) (no_possible l (omega arith))));
       few = few;
     }
@@ -65,7 +50,6 @@ no_ray after sure possible rapid n few no_sure no_possible =
 module _ (r : RayOf) (after : KeptSets) (rapid : Bool) (n first end lo hi : ℕ) (changes : List WordChange) (counts : Counts)
     (h : AreSetsOf r after.sets) (w : IsWindow r first end) (from : 64 * lo ≤ first) (to : end ≤ 64 * hi) (order : lo ≤ hi)
     (m : AreWordsMarked after.sets (is_sure_at r) (is_possible_at r) rapid n lo hi changes counts) where
-
   -- beyond the words of the window the move is possible at no point of the ray, and so sure of none
   not_possible : (l : ℕ) → l < length after.sets.stock → (l < 64 * lo) ⊎ (64 * hi ≤ l) → is_possible_at r l ≡ false
   not_possible l lt out =
@@ -87,12 +71,13 @@ module _ (r : RayOf) (after : KeptSets) (rapid : Bool) (n first end lo hi : ℕ)
   meets_none l out =
       let d = after.sets in
       ⊎_elim
-      (λ (lt : l < length d.stock). unmarked_meets_none (has d.stock l) (has d.part l) (has d.fixture l) (has d.sure l) (has d.possible l) (is_sure_at r l) (is_possible_at r l) rapid
+      (λ (lt : l < length d.stock). unmarked_meets_none (has d.stock l) (has d.part l) (has d.fixture l) (has d.sure l) (has d.possible l)
+      (is_sure_at r l) (is_possible_at r l) rapid
       (not_sure l lt out) (not_possible l lt out))
       (λ (le : length d.stock ≤ l). past_meets_none d (is_sure_at r) (is_possible_at r) rapid l same_bound le)
       (cases_lt l (length d.stock)) where
-    same_bound : HaveBound (length after.sets.stock) after.sets
-    same_bound = let e = sym h.bound.stock in subst (λ (b : ℕ). HaveBound b after.sets) e h.bound
+        same_bound : HaveBound (length after.sets.stock) after.sets
+        same_bound = let e = sym h.bound.stock in subst (λ (b : ℕ). HaveBound b after.sets) e h.bound
 
   same_found : findings (seen_on after.sets (is_sure_at r) (is_possible_at r) rapid) (range_with_len (64 * lo) (64 * (hi - lo)))
       ≡ findings (seen_on after.sets (is_sure_at r) (is_possible_at r) rapid) (range_with_len 0 (length after.sets.stock))
@@ -100,30 +85,29 @@ module _ (r : RayOf) (after : KeptSets) (rapid : Bool) (n first end lo hi : ℕ)
       let see = seen_on after.sets (is_sure_at r) (is_possible_at r) rapid in
       let points = length after.sets.stock in
       let all = points + 64 * hi in
-      sym (found_window see (64 * lo) (64 * (hi - lo)) all (omega arith) (λ k lt. meets_none k (inl lt)) (λ k ge lt. meets_none k (inr (omega arith))))
+      sym (found_window see (64 * lo) (64 * (hi - lo)) all (omega arith) (λ k lt. meets_none k (inl lt))
+      (λ k ge lt. meets_none k (inr (omega arith))))
       ∙ found_window see 0 points all (omega arith) (λ k lt. absurd (omega arith))
-      (λ k ge lt. past_meets_none after.sets (is_sure_at r) (is_possible_at r) rapid k (subst (λ (b : ℕ). HaveBound b after.sets) (sym h.bound.stock) h.bound) (omega arith))
+      (λ k ge lt. past_meets_none after.sets (is_sure_at r) (is_possible_at r) rapid k
+      (subst (λ (b : ℕ). HaveBound b after.sets) (sym h.bound.stock) h.bound) (omega arith))
 
   -- what is marked in the words of the window is what the move marks on the ray
-  pub ray_marked : All (IsAtKept after) changes → length after.sets.stock < 2 ^ 32 → IsRayMarked after (is_sure_at r) (is_possible_at r) rapid n changes counts
+  pub ray_marked : All (IsAtKept after) changes → length after.sets.stock < 2 ^ 32
+      → IsRayMarked after (is_sure_at r) (is_possible_at r) rapid n changes counts
   ray_marked kept few = record {
     new_sure = λ l lt.
-        beside_or l
+        inside_or (64 * lo) (64 * hi) l
         (among sure_of changes n l ≡ (is_sure_at r l && not (has after.sets.sure l)))
         (λ ge less. m.new_sure l ge less lt)
         (λ out. none_beside sure_of l out ∙ sym (ap (λ t. t && not (has after.sets.sure l)) (not_sure l lt out)));
     new_possible = λ l lt.
-        beside_or l
+        inside_or (64 * lo) (64 * hi) l
         (among possible_of changes n l ≡ (is_possible_at r l && not (has after.sets.possible l)))
         (λ ge less. m.new_possible l ge less lt)
         (λ out. none_beside possible_of l out ∙ sym (ap (λ t. t && not (has after.sets.possible l)) (not_possible l lt out)));
-    each = λ i d lt. let here = m.each i d lt in record { number = here.ray; kept = kept i d lt; sure = here.sure; possible = here.possible };
+    each = λ i d lt. let here = m.each i d lt in
+        record { number = here.ray; kept = kept i d lt; sure = here.sure; possible = here.possible };
     order = m.order;
     found = m.found ∙ same_found;
     few = few;
-  } where
-    beside_or : (l : ℕ) (P : Type 0) → (64 * lo ≤ l → l < 64 * hi → P) → ((l < 64 * lo) ⊎ (64 * hi ≤ l) → P) → P
-    beside_or l P inside out =
-        ⊎_elim (λ (low : l < 64 * lo). out (inl low))
-        (λ (ge : 64 * lo ≤ l). ⊎_elim (λ (less : l < 64 * hi). inside ge less) (λ (high : 64 * hi ≤ l). out (inr high)) (cases_lt l (64 * hi)))
-        (cases_lt l (64 * lo))
+  }

@@ -1,5 +1,5 @@
 -- What a move changes on the rays of a strip, and what it finds there, by the sets of the rays.
-use Rattle.std.specs.Prelude.{◌≡◌, ℕ, ◌+◌, ◌<◌, true, Bool, not, ◌&&◌, ◌||◌, nat_eq, nat_lt, IsTrue, List, [], length, map, slice_index_or, All}
+use Rattle.std.specs.Prelude.{◌≡◌, ℕ, ◌<◌, true, Bool, not, ◌&&◌, ◌||◌, nat_eq, nat_lt, IsTrue, List, [], length, map, slice_index_or, All}
 use Rattle.std.specs.List.{list_any, range_with_len}
 use Rattle.vf_spans.specs.Members.{has}
 use Rattle.vf_spans.specs.Words.{in_word}

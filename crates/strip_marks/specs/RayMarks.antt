@@ -46,7 +46,8 @@ pub record AreWordsMarked (d : Sets) (sure possible : ℕ → Bool) (rapid : Boo
 -- changes of one ray: their words are below a number, and none is at a word before one that stands ahead of it
 pub record HaveWordsBelow (most : ℕ) (changes : List WordChange) : Type 0 where
   pub below : (i : ℕ) (d : WordChange) → i < length changes → (slice_index_or changes i d).word < most
-  pub order : (i k : ℕ) (d : WordChange) → i ≤ k → k < length changes → (slice_index_or changes i d).word ≤ (slice_index_or changes k d).word
+  pub order : (i k : ℕ) (d : WordChange) → i ≤ k → k < length changes
+      → (slice_index_or changes i d).word ≤ (slice_index_or changes k d).word
 
 -- the change's word is kept
 abbrev pub IsAtKept : KeptSets → WordChange → Type 0

@@ -1,5 +1,5 @@
 -- What a move changes on neighbouring rays of a strip, and what it finds there.
-use Rattle.std.specs.Prelude.{◌≡◌, ℕ, ◌-◌, ◌<◌, ◌≤◌, true, not, ◌&&◌, List, length, map, All}
+use Rattle.std.specs.Prelude.{◌≡◌, ℕ, ◌-◌, ◌<◌, ◌≤◌, true, not, ◌&&◌, List, map, All}
 use Rattle.std.specs.List.{range_with_len}
 use Rattle.vf_spans.specs.Members.{has}
 use Rattle.ray_grid.specs.Grids.{GridSize}

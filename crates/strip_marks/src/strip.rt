@@ -37,7 +37,7 @@ fn mark_at<'x>(
     ensures few { IfOk result (AreWithin (2 ^ 32 - 1)) }
     ensures marked { IfOk result (λ counts. (move : JobMove) → HasNumber plan.now number move
         → Adds changes.old.items changes.new.items (λ added.
-            IsRayMarked ray.new (sure_there plan.now move strip n) (possible_there plan.now move strip n) move.rapid n added counts)) }
+        IsRayMarked ray.new (sure_there plan.now move strip n) (possible_there plan.now move strip n) move.rapid n added counts)) }
 {
     // The bound fits.
     let _bound = ray.bound();
@@ -46,7 +46,8 @@ fn mark_at<'x>(
         return Ok(Counts::none());
     }
     let on_ray = marker.on_ray(n);
-    mark_ray(&on_ray, ray, n, window, plan.is_rapid(number), changes)
+    let counts = mark_ray(&on_ray, ray, n, window, plan.is_rapid(number), changes)?;
+    Ok(counts)
 }
 
 /// What the move changes on the rays of the strip from the one number on and below the other, and what it finds there.
@@ -116,5 +117,6 @@ pub fn mark_strip(
     let first = grid.strip_ray(strip, 0);
     let mover = plan.marker(number);
     let marker = mover.on_strip(grid, first.family, first.i);
-    mark_rays(alloc, &marker, rays, plan, number, strip, window)
+    let marked = mark_rays(alloc, &marker, rays, plan, number, strip, window)?;
+    Ok(marked)
 }

@@ -5,5 +5,6 @@ use Rattle.strip_marks.proofs.ray.keep_changed.Goals as goal
 
 pub returns-in_ok-keep-clause-kept : goal.returns-in_ok-keep-clause-kept
 returns-in_ok-keep-clause-kept c =
-    kept_between c.keep.new.self c.args.changes.now (words_below (length c.args.ray.now.sets.stock)) (length c.args.changes.now) record { ray = 0; word = 0; sure = 0; possible = 0 }
+    kept_between c.keep.new.self c.args.changes.now (words_below (length c.args.ray.now.sets.stock))
+    (length c.args.changes.now) record { ray = 0; word = 0; sure = 0; possible = 0 }
     c.requires refl c.in_ok-keep.ensures.kept

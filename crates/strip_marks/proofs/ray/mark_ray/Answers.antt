@@ -1,4 +1,4 @@
-use Rattle.std.proofs.Common.{◌≡◌, ℕ, ◌*◌, ◌/◌, ◌≤◌, List, length, arith, sym, ◌∙◌, subst}
+use Rattle.std.proofs.Common.{◌*◌, ◌/◌, ◌≤◌, List, length, arith, sym, ◌∙◌, subst}
 use Rattle.std.specs.List.{All}
 use Rattle.vf_spans.specs.Words.{words_below}
 use Rattle.dexel_rays.specs.Sets.{Sets}
@@ -16,8 +16,10 @@ keep_changed-requires c =
     let h = c.in_ok-counts.ensures in
     let most = words_below (length a.ray.now.sets.stock) in
     subst (λ (l : List WordChange). HaveWordsBelow most l)
-    (sym (tail_of a.changes.now.items c.mark_words.new.changes.items h.added c.as_slice.result.now c.len-start.result h.joined c.as_slice.ensures.value (c.len-start.ensures ∙ a.changes.now.ok.0)))
-    (words_ascend (length a.ray.now.sets.stock) a.n (a.window.0 / 64) c.div_ceil.result most h.added h.holds.each h.holds.order (omega (arith, c.requires.window.within, c.requires.ray.bound.stock, c.div_ceil.ensures)))
+    (sym (tail_of a.changes.now.items c.mark_words.new.changes.items h.added c.as_slice.result.now c.len-start.result h.joined
+    c.as_slice.ensures.value (c.len-start.ensures ∙ a.changes.now.ok.0)))
+    (words_ascend (length a.ray.now.sets.stock) a.n (a.window.0 / 64) c.div_ceil.result most h.added h.holds.each h.holds.order
+    (omega (arith, c.requires.window.within, c.requires.ray.bound.stock, c.div_ceil.ensures)))
 
 pub returns-clause-marked : goal.returns-clause-marked
 returns-clause-marked c =
@@ -26,16 +28,19 @@ returns-clause-marked c =
     let after = c.keep_changed.new.ray in
     let same = c.in_ok-keep_changed.ensures.same.sets in
     let kept = subst (λ (l : List WordChange). All (IsAtKept after) l)
-        (tail_of a.changes.now.items c.mark_words.new.changes.items h.added c.as_slice.result.now c.len-start.result h.joined c.as_slice.ensures.value (c.len-start.ensures ∙ a.changes.now.ok.0))
-        c.in_ok-keep_changed.ensures.kept in
+    (tail_of a.changes.now.items c.mark_words.new.changes.items h.added c.as_slice.result.now c.len-start.result h.joined
+    c.as_slice.ensures.value (c.len-start.ensures ∙ a.changes.now.ok.0))
+    c.in_ok-keep_changed.ensures.kept in
     let sets = subst (λ (d : Sets). AreSetsOf a.marker.now d) (sym same) c.requires.ray in
-    let marked = subst (λ (d : Sets). AreWordsMarked d (is_sure_at a.marker.now) (is_possible_at a.marker.now) a.rapid a.n (a.window.0 / 64) c.div_ceil.result h.added c.in_ok-counts.counts) (sym same) h.holds in
+    let marked = subst (λ (d : Sets). AreWordsMarked d (is_sure_at a.marker.now) (is_possible_at a.marker.now) a.rapid a.n
+    (a.window.0 / 64) c.div_ceil.result h.added c.in_ok-counts.counts) (sym same) h.holds in
     let from : 64 * (a.window.0 / 64) ≤ a.window.0 = omega arith in
     let to : a.window.1 ≤ 64 * c.div_ceil.result = omega (arith, c.div_ceil.ensures) in
     let order : a.window.0 / 64 ≤ c.div_ceil.result = omega (arith, c.div_ceil.ensures, c.requires.window.order) in
     record {
       added = h.added;
       joined = h.joined;
-      holds = ray_marked a.marker.now after a.rapid a.n a.window.0 a.window.1 (a.window.0 / 64) c.div_ceil.result h.added c.in_ok-counts.counts sets c.requires.window from to order marked
+      holds = ray_marked a.marker.now after a.rapid a.n a.window.0 a.window.1
+          (a.window.0 / 64) c.div_ceil.result h.added c.in_ok-counts.counts sets c.requires.window from to order marked
           kept (omega (arith, sets.bound.stock, c.requires.ray.bound.stock, c.bound-bound.ensures.points));
     }

@@ -7,19 +7,23 @@ use Rattle.strip_marks.proofs.ray.mark_words.Goals as goal
 pub loop-word-init : goal.loop-word-init
 loop-word-init c =
     let a = c.args in
-    words_start a.ray.now.sets (is_sure_at a.marker.now) (is_possible_at a.marker.now) a.rapid a.n a.words.0 a.changes.now.items c.none-counts.result c.none-counts.ensures
+    words_start a.ray.now.sets (is_sure_at a.marker.now)
+    (is_possible_at a.marker.now) a.rapid a.n a.words.0 a.changes.now.items c.none-counts.result c.none-counts.ensures
 
 pub plus-counts-requires : goal.plus-counts-requires
 plus-counts-requires c =
     let a = c.args in
-    words_within a.ray.now.sets (is_sure_at a.marker.now) (is_possible_at a.marker.now) a.rapid a.n a.words.0 c.loop-word.word c.loop-word.invariant.added
+    words_within a.ray.now.sets (is_sure_at a.marker.now)
+    (is_possible_at a.marker.now) a.rapid a.n a.words.0 c.loop-word.word c.loop-word.invariant.added
     c.mark_word.result.0 c.loop-word.counts c.mark_word.result.1 (omega arith) c.loop-word.invariant.holds c.mark_word.ensures
 
 pub loop-word-preserved : goal.loop-word-preserved
 loop-word-preserved c =
     let a = c.args in
-    words_step a.ray.now.sets (is_sure_at a.marker.now) (is_possible_at a.marker.now) a.rapid a.n a.words.0 c.loop-word.word a.changes.now.items c.loop-word.changes.items
-    c.note.new.changes.items c.mark_word.result.0 c.loop-word.counts c.mark_word.result.1 c.plus-counts.result (omega arith) c.loop-word.invariant c.mark_word.ensures
+    words_step a.ray.now.sets (is_sure_at a.marker.now)
+    (is_possible_at a.marker.now) a.rapid a.n a.words.0 c.loop-word.word a.changes.now.items c.loop-word.changes.items
+    c.note.new.changes.items c.mark_word.result.0 c.loop-word.counts c.mark_word.result.1 c.plus-counts.result
+    (omega arith) c.loop-word.invariant c.mark_word.ensures
     c.in_ok-note.ensures c.plus-counts.ensures
 
 pub returns : goal.returns
@@ -27,4 +31,5 @@ returns c =
     let a = c.args in
     let e : c.loop-word.word ≡ a.words.1 = omega arith in
     subst (λ (k : ℕ). Adds a.changes.now.items c.loop-word.changes.items (λ added.
-    AreWordsMarked a.ray.now.sets (is_sure_at a.marker.now) (is_possible_at a.marker.now) a.rapid a.n a.words.0 k added c.loop-word.counts)) e c.loop-word.invariant
+    AreWordsMarked a.ray.now.sets (is_sure_at a.marker.now)
+    (is_possible_at a.marker.now) a.rapid a.n a.words.0 k added c.loop-word.counts)) e c.loop-word.invariant

@@ -4,4 +4,5 @@ use Rattle.strip_marks.proofs.ray.mark_words.Given as goal
 
 abbrev pub invariant-loop-word : goal.invariant-loop-word
 invariant-loop-word l =
-    Adds l.initial.changes.items l.changes.items (λ added. AreWordsMarked l.ray.sets (is_sure_at l.marker) (is_possible_at l.marker) l.rapid l.n l.fn.words.0 l.word added l.counts)
+    Adds l.initial.changes.items l.changes.items
+    (λ added. AreWordsMarked l.ray.sets (is_sure_at l.marker) (is_possible_at l.marker) l.rapid l.n l.fn.words.0 l.word added l.counts)

@@ -1,0 +1,15 @@
+use Rattle.std.proofs.Common.{◌*◌, ◌-◌}
+use Rattle.job_facts.specs.Counts.{AreWithin}
+use Rattle.job_model.specs.Tasks.{JobMove}
+use Rattle.strip_plan.specs.Plans.{HasNumber}
+use Rattle.strip_marks.specs.Marks.{HaveSameSets}
+use Rattle.strip_marks.specs.RowMarks.{AreRaysMarked}
+use Rattle.strip_marks.proofs.strip.mark_rays.Given as goal
+
+abbrev pub invariant-loop-n : goal.invariant-loop-n
+invariant-loop-n l = record {
+  same : HaveSameSets l.initial.rays l.rays;
+  within : AreWithin ((l.n - l.fn.window.0) * 4294967295) l.counts;
+  marked : (move : JobMove) → HasNumber l.plan l.number move
+      → AreRaysMarked l.plan move l.strip l.initial.rays l.rays l.fn.window.0 l.n l.changes.items l.counts;
+}
