@@ -120,6 +120,14 @@ impl Plan {
         self.moves[number as usize].rapid
     }
 
+    /// The line where a move's record begins.
+    pub fn line(&self, number: u32) -> u32
+        requires { number < length self.now.moves }
+        ensures { (move : JobMove) → HasNumber self.now number move → result ≡ move.line }
+    {
+        self.moves[number as usize].line
+    }
+
     /// What marks the points of rays by a move.
     pub fn marker(&self, number: u32) -> MoveMarker<'_>
         requires { number < length self.now.moves }

@@ -1,0 +1,11 @@
+//! The core over every list of steps: turns of strips, and queries, each at a version of its own.
+#![tactic(auto)]
+
+mod asking;
+mod playing;
+mod step;
+mod turning;
+
+pub use playing::play;
+pub use step::Step;
+pub use turning::{raise, turn_strip};
