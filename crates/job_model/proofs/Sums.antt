@@ -14,10 +14,10 @@ use Rattle.job_facts.specs.Counts.{no_counts, plus}
 use Rattle.dexel_rays.specs.Findings.{Seen, findings, is_fixture_possible, is_fixture_sure, is_new_possible, is_part_possible, is_part_sure, is_rapid_possible, is_rapid_sure, is_removed}
 use Rattle.job_model.specs.Sums.{sum_counts}
 
-count_append : {X : Type 0} (p : X → Bool) (xs ys : List X) → count_by p (xs ++ ys) ≡ count_by p xs + count_by p ys
+pub count_append : {X : Type 0} (p : X → Bool) (xs ys : List X) → count_by p (xs ++ ys) ≡ count_by p xs + count_by p ys
 count_append p xs ys = sum_by-append (λ x. cond (p x) 1 0) xs ys
 
-count_map : {X Y : Type 0} (p : Y → Bool) (f : X → Y) (xs : List X) → count_by p (map f xs) ≡ count_by (λ x. p (f x)) xs
+pub count_map : {X Y : Type 0} (p : Y → Bool) (f : X → Y) (xs : List X) → count_by p (map f xs) ≡ count_by (λ x. p (f x)) xs
 count_map p f [] = refl
 count_map p f (x ∷ xs) =
     sum_by-cons (λ y. cond (p y) 1 0) (f x) (map f xs) ∙ ap (λ n. cond (p (f x)) 1 0 + n) (count_map p f xs) ∙ sym (sum_by-cons (λ y. cond (p (f y)) 1 0) x xs)
@@ -59,7 +59,7 @@ ray_findings grid see ray =
 abbrev pub strip_findings : GridSize → (LatticePoint → Seen) → List Ray → Counts
 strip_findings grid see strip = sum_counts (map (ray_findings grid see) strip)
 
-of_strip : (grid : GridSize) (see : LatticePoint → Seen) (strip : List Ray) → findings see (flat_map (points_on grid) strip) ≡ strip_findings grid see strip
+pub of_strip : (grid : GridSize) (see : LatticePoint → Seen) (strip : List Ray) → findings see (flat_map (points_on grid) strip) ≡ strip_findings grid see strip
 of_strip grid see [] = refl
 of_strip grid see (ray ∷ strip) =
     findings_append see (points_on grid ray) (flat_map (points_on grid) strip)

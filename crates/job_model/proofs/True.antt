@@ -55,7 +55,7 @@ none_counted p (x ∷ xs) (suc i) d h l = none_counted p xs i d (rest (p x) (cou
   rest false n h = omega (arith, h)
 
 -- every move that is left is a move of the program
-moves_valid : (plan : PlanOf) (numbers : List ℕ) → All IsJobMove plan.moves → All IsJobMove (moves_of plan numbers)
+pub moves_valid : (plan : PlanOf) (numbers : List ℕ) → All IsJobMove plan.moves → All IsJobMove (moves_of plan numbers)
 moves_valid plan [] valid = λ i d l. absurd (omega (arith, l))
 moves_valid plan (number ∷ numbers) valid =
     All-append IsJobMove (take 1 (drop number plan.moves)) (moves_of plan numbers)

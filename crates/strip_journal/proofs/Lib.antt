@@ -1,0 +1,4 @@
+pub mod MovesLeft
+pub mod PointTotals
+pub mod StripSizes
+pub mod StripSums
