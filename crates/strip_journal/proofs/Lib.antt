@@ -1,4 +1,17 @@
+pub mod KeptParts
+pub mod KeptSame
+pub mod Noting
+pub mod Tracking
+pub mod Pushed
+pub mod RaysTurned
+pub mod NextEdit
+pub mod Ahead
 pub mod MovesLeft
 pub mod PointTotals
 pub mod StripSizes
 pub mod StripSums
+pub mod Turned
+pub mod Unmoved
+pub mod LookBack
+pub mod FoundIs
+pub mod TurnedAt

@@ -19,6 +19,12 @@ hits_of counts = record {
   rapid_possible = counts.rapid_possible;
 }
 
+-- nothing is found
+abbrev pub are_none : Hits → Bool
+are_none hits =
+    hits.part_sure == 0
+    && (hits.part_possible == 0 && (hits.fix_sure == 0 && (hits.fix_possible == 0 && (hits.rapid_sure == 0 && hits.rapid_possible == 0))))
+
 -- with the new stock
 abbrev pub counts_of_hits : Hits → ℕ → ℕ → Counts
 counts_of_hits hits removed possible = record {

@@ -1,5 +1,5 @@
 -- What one edit makes of what a strip keeps.
-use Rattle.std.specs.Prelude.{◌≡◌, ℕ, ◌+◌, ◌-◌, ◌^◌, ◌<◌, ◌≤◌, ◌&&◌, ◌==◌, not, Bool, false, if◌then◌else◌, List, [], ◌∷◌, ◌++◌, length, nat_lt, take, vec_capacity, vec_len}
+use Rattle.std.specs.Prelude.{◌≡◌, ℕ, ◌+◌, ◌-◌, ◌^◌, ◌<◌, ◌≤◌, ◌&&◌, not, Bool, false, if◌then◌else◌, List, [], ◌∷◌, ◌++◌, length, nat_lt, take, vec_capacity, vec_len}
 use Rattle.vf_spans.specs.Members.{has}
 use Rattle.job_facts.specs.declared.counts.Counts.{Counts}
 use Rattle.ray_words.specs.Rays.{KeptSets}
@@ -8,7 +8,7 @@ use Rattle.strip_marks.specs.Marks.{among, kept_of, possible_of, sure_of}
 use Rattle.strip_journal.specs.declared.entry.Entry.{Entry}
 use Rattle.strip_journal.specs.declared.journal.Journal.{Journal}
 use Rattle.strip_journal.specs.Journals.{job_of}
-use Rattle.strip_journal.specs.Entries.{HasNo, changes_of, edit_at, entry_at, hits_of, no_hits, possible_ahead, removed_ahead, was}
+use Rattle.strip_journal.specs.Entries.{HasNo, are_none, changes_of, edit_at, entry_at, hits_of, no_hits, possible_ahead, removed_ahead, was}
 
 -- The sets of a ray with changes, or without them: of each set the members are by `was`, and the bodies and the words that are kept
 -- stay.
@@ -30,11 +30,7 @@ pub record AreRaysTurned (before after : List KeptSets) (changes : List WordChan
 
 -- nothing changed, and nothing was found
 abbrev pub is_nothing : Entry → Bool
-is_nothing entry =
-    not (nat_lt entry.from entry.to)
-    && (entry.hits.part_sure == 0
-    && (entry.hits.part_possible == 0
-    && (entry.hits.fix_sure == 0 && (entry.hits.fix_possible == 0 && (entry.hits.rapid_sure == 0 && entry.hits.rapid_possible == 0)))))
+is_nothing entry = not (nat_lt entry.from entry.to) && are_none entry.hits
 
 -- the entries with one more, unless it tells nothing
 abbrev pub noted : List Entry → Entry → List Entry

@@ -1,6 +1,6 @@
-ghost use Rattle.std.specs.Prelude.{◌≡◌, ◌-◌, ◌^◌, true};
+ghost use Rattle.std.specs.Prelude.{◌≡◌, ◌-◌, ◌^◌};
 ghost use Rattle.job_facts.specs.Counts.{AreWithin};
-ghost use Rattle.strip_journal.specs.Entries.{counts_of_hits, hits_of, no_hits};
+ghost use Rattle.strip_journal.specs.Entries.{are_none, counts_of_hits, hits_of, no_hits};
 
 use job_facts::Counts;
 
@@ -79,7 +79,7 @@ impl Hits {
 
     /// Whether nothing is found.
     pub fn is_none(&self) -> bool
-        ensures { result ≡ true → self.now ≡ no_hits }
+        ensures { result ≡ are_none self.now }
     {
         self.part_sure == 0
             && self.part_possible == 0
