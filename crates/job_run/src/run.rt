@@ -1,3 +1,10 @@
+ghost use Rattle.std.specs.Prelude.{◌≡◌, ◌≤◌, All, IfOk, IsTrue, length};
+ghost use Rattle.edit_plan.specs.Limits.{most_queries};
+ghost use Rattle.edit_plan.specs.Queries.{IsQuery};
+ghost use Rattle.job_facts.specs.Facts.{are_answered};
+ghost use Rattle.job_model.specs.Report.{facts_of};
+ghost use Rattle.job_run.specs.Jobs.{job_with};
+
 use crate::bodies::JobBodies;
 use crate::facts::{found_moves, totals_over};
 use crate::strips::fresh_strips;
@@ -66,7 +73,14 @@ pub fn run_job(
     bodies: &JobBodies,
     passed: u32,
     queries: &[Query],
-) -> Result<Facts, NoMemory> {
+) -> Result<Facts, NoMemory>
+    requires queries { All (IsQuery plan.now.grid (length plan.now.edits)) queries.now }
+    requires few { length queries.now ≤ most_queries }
+    // What the definitions say, point by point, of the whole lattice.
+    ensures facts { IfOk result (λ facts. facts
+        ≡ facts_of record { job = job_with plan.now bodies.now; passed = passed; queries = queries.now }) }
+    ensures answered { IfOk result (λ facts. IsTrue (are_answered facts.answers)) }
+{
     let mut strips = fresh_strips(alloc, plan, bodies)?;
     let answers = bring_up(alloc, strips.as_mut_slice(), plan, queries)?;
     let left = found_moves(alloc, plan, &strips)?;
