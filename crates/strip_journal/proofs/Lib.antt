@@ -22,3 +22,4 @@ pub mod Unmoved
 pub mod LookBack
 pub mod FoundIs
 pub mod TurnedAt
+pub mod TurnedMore
