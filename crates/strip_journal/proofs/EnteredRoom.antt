@@ -67,7 +67,7 @@ move_fits j number move counts h applies named found =
     }
 
 -- so do the counts that were marked, for a journal with the same edits
-fits_same : (j m : Journal) (counts : Counts) → HasSameEdits j m → FitsEntry j counts → FitsEntry m counts
+pub fits_same : (j m : Journal) (counts : Counts) → HasSameEdits j m → FitsEntry j counts → FitsEntry m counts
 fits_same j m counts edits fits = record {
   within = fits.within;
   removed = subst (λ (l : List Entry). removed_ahead l (length l) + counts.removed < 2 ^ 32) (sym edits.entries) fits.removed;

@@ -23,3 +23,4 @@ pub mod LookBack
 pub mod FoundIs
 pub mod TurnedAt
 pub mod TurnedMore
+pub mod MarkedBy

@@ -1,8 +1,10 @@
-ghost use Rattle.std.specs.Prelude.{◌≡◌, ◌+◌, ◌-◌, ◌^◌, ◌<◌, ◌≤◌, ◌++◌, ◌∷◌, [], false, true, Some, All, OnOk, OnErr, length, slice_get, take, vec_capacity, vec_len};
+ghost use Rattle.std.specs.Prelude.{◌≡◌, ◌+◌, ◌-◌, ◌^◌, ◌<◌, ◌≤◌, ◌++◌, ◌∷◌, [], false, true, Some, All, IfOk, OnOk, OnErr, length, slice_get, take, vec_capacity, vec_len};
 ghost use Rattle.edit_plan.specs.declared.edit.Edit.TheVariants.{Apply};
 ghost use Rattle.edit_plan.specs.Limits.{most_edits};
 ghost use Rattle.job_facts.specs.Counts.{AreWithin};
-ghost use Rattle.strip_marks.specs.Marks.{IsChangeOn};
+ghost use Rattle.job_model.specs.Tasks.{JobMove};
+ghost use Rattle.strip_plan.specs.Plans.{HasNumber};
+ghost use Rattle.strip_marks.specs.Marks.{HaveSameSets, IsChangeOn, IsMarkedStrip};
 ghost use Rattle.strip_journal.specs.Entries.{possible_ahead, removed_ahead};
 ghost use Rattle.strip_journal.specs.Journals.{IsAt, IsJournal, job_of};
 ghost use Rattle.strip_journal.specs.Steps.{HasRoom, HasSameEdits, IsEntered, IsStood, noted};
@@ -87,6 +89,25 @@ impl Journal {
         self.done += 1;
     }
 
+    /// What a move of the plan changes, and what it finds. The sets and the edits stay.
+    fn mark(&mut self, plan: &Plan, number: u32) -> Result<Marked, NoMemory>
+        requires journal { IsJournal (job_of self.old) self.old }
+        requires plan { self.old.plan.value ≡ plan.now }
+        requires number { number < length plan.now.moves }
+        ensures edits { HasSameEdits self.old self.new }
+        ensures same { HaveSameSets self.old.rays.items self.new.rays.items }
+        ensures marked { IfOk result (λ m. (move : JobMove) → HasNumber plan.now number move
+            → IsMarkedStrip plan.now move self.old.number self.old.rays.items self.new.rays.items m.changes.items m.counts) }
+    {
+        mark_strip(
+            self.alloc,
+            self.rays.as_mut_slice(),
+            plan,
+            number,
+            self.number,
+        )
+    }
+
     /// Applies a move of the plan: what may fail comes first.
     pub fn apply(&mut self, plan: &Plan, number: u32) -> Result<(), NoMemory>
         requires journal { IsJournal (job_of self.old) self.old }
@@ -96,13 +117,7 @@ impl Journal {
         ensures ok { OnOk result (IsAt self.old self.new (self.old.done + 1)) }
         ensures unchanged { OnErr result (IsAt self.old self.new self.old.done) }
     {
-        let marked = mark_strip(
-            self.alloc,
-            self.rays.as_mut_slice(),
-            plan,
-            number,
-            self.number,
-        )?;
+        let marked = self.mark(plan, number)?;
         self.make_room(marked.changes.len())?;
         self.enter(marked);
         self.stand();

@@ -1,0 +1,93 @@
+-- An Apply of a plan that the journal is of, told of the plan that is handed in.
+use Rattle.std.proofs.Common.{◌≡◌, ℕ, ◌+◌, ◌^◌, ◌<◌, List, Some, length, slice_get, arith, sym, ap, subst}
+use Rattle.std.specs.Prelude.{All}
+use Rattle.std.proofs.lemmas.Option.{slice_get_within}
+use Rattle.edit_plan.specs.declared.edit.Edit.TheVariants.{Apply}
+use Rattle.job_facts.specs.declared.counts.Counts.{Counts}
+use Rattle.job_model.specs.Tasks.{JobMove, PlanOf}
+use Rattle.strip_plan.specs.Plans.{HasNumber}
+use Rattle.ray_words.specs.Rays.{KeptSets}
+use Rattle.strip_marks.specs.declared.change.WordChange.{WordChange}
+use Rattle.strip_marks.specs.Marks.{HaveSameSets, IsChangeOn, IsMarkedStrip}
+use Rattle.strip_journal.specs.declared.journal.Journal.{Journal}
+use Rattle.strip_journal.specs.Journals.{IsAt, IsJournal, job_of}
+use Rattle.strip_journal.specs.Steps.{HasRoom, HasSameEdits, IsEntered, IsStood}
+use Rattle.strip_journal.proofs.Entered.{named_move}
+use Rattle.strip_journal.proofs.EnteredRoom.{CanStand, FitsEntry, can_stand, entered_at, marked_fits}
+use Rattle.strip_journal.proofs.KeptSame.{same_edits_through}
+
+-- what is known when a move was marked: by a journal j, as it is afterwards, m
+pub record IsMarking (plan : PlanOf) (j m : Journal) (number : ℕ) (changes : List WordChange) (counts : Counts) : Type 0 where
+  pub journal : IsJournal (job_of j) j
+  pub plan_is : j.plan.value ≡ plan
+  pub applies : slice_get plan.edits j.done ≡ Some (Apply number)
+  pub low : number < length plan.moves
+  pub same : HaveSameSets j.rays.items m.rays.items
+  pub edits : HasSameEdits j m
+  pub marked : (move : JobMove) → HasNumber plan number move → IsMarkedStrip plan move j.number j.rays.items m.rays.items changes counts
+
+-- the same of the journal's own plan
+pub record IsOwnMarking (j m : Journal) (number : ℕ) (changes : List WordChange) (counts : Counts) : Type 0 where
+  pub applies : slice_get (job_of j).plan.edits j.done ≡ Some (Apply number)
+  pub low : number < length (job_of j).plan.moves
+  pub marked : (move : JobMove) → HasNumber (job_of j).plan number move
+      → IsMarkedStrip (job_of j).plan move j.number j.rays.items m.rays.items changes counts
+
+own_by : (p q : PlanOf) (j m : Journal) (number : ℕ) (changes : List WordChange) (counts : Counts) → q ≡ p
+    → slice_get q.edits j.done ≡ Some (Apply number) → number < length q.moves
+    → ((move : JobMove) → HasNumber q number move → IsMarkedStrip q move j.number j.rays.items m.rays.items changes counts)
+    → (slice_get p.edits j.done ≡ Some (Apply number)) × (number < length p.moves)
+    × ((move : JobMove) → HasNumber p number move → IsMarkedStrip p move j.number j.rays.items m.rays.items changes counts)
+own_by p q j m number changes counts is applies low marked =
+    subst
+    (λ (z : PlanOf). (slice_get z.edits j.done ≡ Some (Apply number)) × (number < length z.moves)
+    × ((move : JobMove) → HasNumber z number move → IsMarkedStrip z move j.number j.rays.items m.rays.items changes counts))
+    is (applies, low, marked)
+
+pub own_marking : (plan : PlanOf) (j m : Journal) (number : ℕ) (changes : List WordChange) (counts : Counts)
+    → IsMarking plan j m number changes counts → IsOwnMarking j m number changes counts
+own_marking plan j m number changes counts is =
+    let own = own_by (job_of j).plan plan j m number changes counts (sym is.plan_is) is.applies is.low is.marked in
+    record { applies = own.0; low = own.1; marked = own.2 }
+
+-- with room made for it
+pub with_room : (plan : PlanOf) (j m r : Journal) (number : ℕ) (changes : List WordChange) (counts : Counts)
+    → IsMarking plan j m number changes counts → HasSameEdits m r → r.rays.items ≡ m.rays.items → IsMarking plan j r number changes counts
+with_room plan j m r number changes counts is edits rays = record {
+  journal = is.journal;
+  plan_is = is.plan_is;
+  applies = is.applies;
+  low = is.low;
+  same = subst (λ (z : List KeptSets). HaveSameSets j.rays.items z) (sym rays) is.same;
+  edits = same_edits_through j m r is.edits edits;
+  marked = λ move named.
+      subst (λ (z : List KeptSets). IsMarkedStrip plan move j.number j.rays.items z changes counts) (sym rays) (is.marked move named);
+}
+
+-- what `enter` asks
+pub marking_fits : (plan : PlanOf) (j m : Journal) (number : ℕ) (changes : List WordChange) (counts : Counts)
+    → IsMarking plan j m number changes counts → FitsEntry m counts
+marking_fits plan j m number changes counts is =
+    let own = own_marking plan j m number changes counts is in
+    marked_fits j m number changes counts is.journal own.applies own.low is.edits own.marked
+
+pub marking_on : (plan : PlanOf) (j m : Journal) (number : ℕ) (changes : List WordChange) (counts : Counts)
+    → IsMarking plan j m number changes counts → All (IsChangeOn m.rays.items) changes
+marking_on plan j m number changes counts is =
+    let named = named_move plan.moves number is.low in (is.marked named.0 named.1).on
+
+-- what `stand` asks
+pub marking_stands : (plan : PlanOf) (j m k : Journal) (number : ℕ) (changes : List WordChange) (counts : Counts)
+    → IsMarking plan j m number changes counts → IsEntered m k changes counts → CanStand k
+marking_stands plan j m k number changes counts is entered =
+    let own = own_marking plan j m number changes counts is in
+    can_stand j m k changes counts is.journal (slice_get_within (job_of j).plan.edits j.done (Apply number) own.applies) is.edits entered
+
+-- and the journal behind both
+pub marking_at : (plan : PlanOf) (j m k l : Journal) (number : ℕ) (changes : List WordChange) (counts : Counts)
+    → IsMarking plan j m number changes counts → HasRoom m (length changes) → IsEntered m k changes counts → IsStood k l → IsAt j l (j.done + 1)
+marking_at plan j m k l number changes counts is room entered stood =
+    let own = own_marking plan j m number changes counts is in
+    let size : length m.changes.items ≡ length j.changes.items = ap (λ (z : List WordChange). length z) is.edits.changes in
+    let few = room.few in
+    entered_at j m k l number changes counts is.journal own.applies own.low is.same is.edits own.marked entered (omega (arith, size, few)) stood
