@@ -15,3 +15,5 @@ pub mod Unmoved
 pub mod LookBack
 pub mod FoundIs
 pub mod TurnedAt
+pub mod Places
+pub mod Searching

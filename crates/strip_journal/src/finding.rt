@@ -1,10 +1,12 @@
-ghost use Rattle.std.specs.Prelude.{◌≡◌, ℕ, ◌+◌, ◌-◌, ◌<◌, ◌≤◌, All, if◌then◌else◌, not, MatchOption, length};
+ghost use Rattle.std.specs.Prelude.{◌≡◌, ℕ, ◌+◌, ◌-◌, ◌<◌, ◌≤◌, true, false, All, if◌then◌else◌, not, MatchOption, length};
+ghost use Rattle.std.specs.List.Sorted.{IsPartitionPoint};
 ghost use Rattle.job_facts.specs.declared.totals.PointState.TheVariants.{Absent, Kept, Possible, Removed};
 ghost use Rattle.job_facts.specs.Counts.{AreWithin};
 ghost use Rattle.job_model.specs.Points.{left_moves, state_after, strip_points, totals_over};
-ghost use Rattle.strip_marks.specs.Marks.{AreInOrder, among, point_at, points_at, possible_of, sure_of};
+ghost use Rattle.strip_marks.specs.Marks.{AreInOrder, among, is_ahead, point_at, points_at, possible_of, sure_of};
 ghost use Rattle.strip_journal.specs.Entries.{AreAscending, HasNo, IsPlace, changes_of, counts_of_hits, edit_at, entry_at, possible_ahead, removed_ahead, was};
 ghost use Rattle.strip_journal.specs.Journals.{IsJournal, job_of};
+ghost use Rattle.strip_journal.specs.Looking.{at_word};
 ghost use Rattle.strip_journal.specs.Strips.{most_before};
 ghost use Rattle.strip_journal.specs.Found.{AddsEntry, AddsLeft, IsFoundBy};
 
@@ -24,6 +26,23 @@ pub fn place_of(entries: &[Entry], version: u32) -> usize
     entries.partition_point(|entry| entry.edit < version)
 }
 
+/// Whether a change stands ahead of a word of ray n.
+fn stands_ahead(change: &WordChange, n: u32, word: u32) -> bool
+    ensures { result ≡ is_ahead change.now (at_word n word) }
+{
+    change.ray < n || (change.ray == n && change.word < word)
+}
+
+/// The place of the first change at or behind a word of ray n.
+fn place_at(changes: &[WordChange], n: u32, word: u32) -> usize
+    requires { AreInOrder changes.now }
+    ensures within { result ≤ length changes.now }
+    ensures parted { IsPartitionPoint (λ change. is_ahead change (at_word n word) ≡ true) (λ change. is_ahead change (at_word n word) ≡ false)
+        changes.now result }
+{
+    changes.partition_point(|change| stands_ahead(change, n, word))
+}
+
 /// Whether the changes make index l of ray n sure, and possible.
 pub fn changed_at(changes: &[WordChange], n: u32, l: u32) -> (bool, bool)
     requires { AreInOrder changes.now }
@@ -31,9 +50,7 @@ pub fn changed_at(changes: &[WordChange], n: u32, l: u32) -> (bool, bool)
     ensures possible { result.1 ≡ among possible_of changes.now n l }
 {
     let word = l / 64;
-    let place = changes.partition_point(|change| {
-        change.ray < n || (change.ray == n && change.word < word)
-    });
+    let place = place_at(changes, n, word);
     if place >= changes.len() {
         return (false, false);
     }

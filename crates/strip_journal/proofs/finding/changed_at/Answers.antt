@@ -1,0 +1,22 @@
+use Rattle.std.proofs.Common.{◌≡◌, ◌∙◌, ℕ, ◌<◌, ◌≤◌, ◌/◌, length, sym, rules, arith}
+use Rattle.strip_marks.specs.Marks.{is_ahead, possible_of, sure_of}
+use Rattle.strip_journal.proofs.Searching.{among_at, among_none}
+use Rattle.strip_journal.proofs.finding.changed_at.Goals.{then-change-n-via-then-change-n, then-change-n-via-else-change-n+then-change-word}
+use Rattle.strip_journal.proofs.finding.changed_at.Goals as goal
+
+pub returns-then-place-changes-clause-sure : goal.returns-then-place-changes-clause-sure
+returns-then-place-changes-clause-sure c =
+    sym (among_none sure_of c.args.changes.now c.args.n c.args.l c.place_at-place.result c.requires c.place_at-place.ensures.parted
+    (λ low. absurd (omega (arith, low))))
+
+pub returns-then-change-n-clause-sure : goal.returns-then-change-n-clause-sure
+returns-then-change-n-clause-sure c =
+    sym (among_none sure_of c.args.changes.now c.args.n c.args.l c.place_at-place.result c.requires c.place_at-place.ensures.parted
+    (λ low ray word. elim c.then-change-n.branch [
+      then-change-n-via-then-change-n w ↦ ?
+    | then-change-n-via-else-change-n+then-change-word w ↦ ?
+    ]))
+
+pub returns-clause-sure : goal.returns-clause-sure
+returns-clause-sure c =
+    c.has_bit.ensures ∙ sym (among_at sure_of c.args.changes.now c.args.n c.args.l c.place_at-place.result c.requires (omega arith) ? ?)
