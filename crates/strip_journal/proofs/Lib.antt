@@ -17,3 +17,4 @@ pub mod FoundIs
 pub mod TurnedAt
 pub mod Places
 pub mod Searching
+pub mod TotalsFound
