@@ -1,5 +1,5 @@
 -- The totals that are kept ahead of a place are those of its version.
-use Rattle.std.proofs.Common.{◌≡◌, ℕ, zero, suc, ◌+◌, ◌-◌, ◌<◌, ◌≤◌, ◌==◌, Bool, false, List, length, arith, refl, sym, ap, ◌∙◌}
+use Rattle.std.proofs.Common.{◌≡◌, ℕ, zero, suc, ◌+◌, ◌-◌, ◌<◌, ◌≤◌, ◌==◌, Bool, false, List, length, arith, sym, ap, ◌∙◌}
 use Rattle.std.proofs.lemmas.Bool.{cond-false, ne_eqb}
 use native.Mathlib.Decide.{dec_le}
 use mathlib.Core.Logic.{dite}
@@ -10,8 +10,8 @@ use Rattle.strip_marks.specs.declared.change.WordChange.{WordChange}
 use Rattle.strip_marks.specs.Marks.{points_at, possible_of, sure_of}
 use Rattle.strip_journal.specs.declared.entry.Entry.{Entry}
 use Rattle.strip_journal.specs.declared.journal.Journal.{Journal}
-use Rattle.strip_journal.specs.Entries.{AreAscending, AreEntries, HasNo, IsPlace, edit_at, entry_at, possible_ahead, removed_ahead}
-use Rattle.strip_journal.specs.Journals.{HaveTotals, IsJournal, IsTracked, job_of, possible_at, sure_at}
+use Rattle.strip_journal.specs.Entries.{AreAscending, HasNo, IsPlace, edit_at, entry_at, possible_ahead, removed_ahead}
+use Rattle.strip_journal.specs.Journals.{IsJournal, IsTracked, job_of, possible_at, sure_at}
 use Rattle.strip_journal.proofs.KeptParts.{IsHeld, Parts, held_of, parts_of}
 use Rattle.strip_journal.proofs.PointTotals.{nothing_left, nothing_possible, same_possible_totals, same_totals}
 use Rattle.strip_journal.proofs.Tracking.{gap}
@@ -114,13 +114,15 @@ removed_ahead_is job p version (suc k) held place within =
     removed_behind p.entries k
     ∙ held.totals.removed k (omega (arith, place.within))
     ∙ total_ahead (sure_at job p.number) sure_of (length p.rays) (points_at job.plan.grid p.number) (removed_by job p.number) p.changes
-    p.entries p.done version k (sure_total job p.number (length p.rays) held.newest.rays.many) held.tracked_sure held.kept.ascend place within
+    p.entries p.done version k (sure_total job p.number (length p.rays) held.newest.rays.many) held.tracked_sure
+    held.kept.ascend place within
 
 pub possible_ahead_is : (job : Job) (p : Parts) (version place : ℕ) → IsHeld job p → IsPlace p.entries version place → version ≤ p.done
     → possible_ahead p.entries place ≡ possible_by job p.number version
 possible_ahead_is job p version zero held place within =
     total_first (possible_at job p.number) possible_of (length p.rays) (points_at job.plan.grid p.number) (possible_by job p.number)
-    p.changes p.entries p.done version (possible_total job p.number (length p.rays) held.newest.rays.many) held.tracked_possible place within
+    p.changes p.entries p.done version (possible_total job p.number (length p.rays) held.newest.rays.many) held.tracked_possible
+    place within
 possible_ahead_is job p version (suc k) held place within =
     possible_behind p.entries k
     ∙ held.totals.possible k (omega (arith, place.within))

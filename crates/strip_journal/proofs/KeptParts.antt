@@ -1,5 +1,5 @@
 -- A journal by what it holds, whatever room it has.
-use Rattle.std.proofs.Common.{◌≡◌, ℕ, ◌+◌, ◌^◌, ◌<◌, ◌≤◌, All, List, length, sym, subst}
+use Rattle.std.proofs.Common.{◌≡◌, ℕ, ◌^◌, ◌<◌, ◌≤◌, All, List, length, sym, subst}
 use Rattle.vf_spans.specs.Members.{has}
 use Rattle.ray_grid.specs.Ranges.{IsGrid}
 use Rattle.ray_grid.specs.Strips.{strips_of}
@@ -13,7 +13,7 @@ use Rattle.strip_marks.specs.Marks.{AreInOrder, AreRays, IsChangeOn, points_at, 
 use Rattle.strip_journal.specs.declared.entry.Entry.{Entry}
 use Rattle.strip_journal.specs.declared.journal.Journal.{Journal}
 use Rattle.strip_journal.specs.Entries.{AreEntries, changes_of, entry_at}
-use Rattle.strip_journal.specs.Journals.{AreFound, AreRaysAt, HasBodies, HaveTotals, IsJournal, IsTracked, job_of, possible_at, sure_at}
+use Rattle.strip_journal.specs.Journals.{AreFound, HasBodies, HaveTotals, IsJournal, IsTracked, job_of, possible_at, sure_at}
 
 -- what a journal holds
 pub record Parts : Type 0 where

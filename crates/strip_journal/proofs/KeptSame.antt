@@ -1,16 +1,17 @@
 -- A journal with the same sets and the same edits is one of the same strip.
-use Rattle.std.proofs.Common.{◌≡◌, ℕ, ◌+◌, ◌<◌, ◌≤◌, All, List, length, arith, refl, sym, ap, ◌∙◌, subst}
+use Rattle.std.proofs.Common.{◌≡◌, ℕ, ◌<◌, List, length, arith, sym, ap, ◌∙◌, subst}
 use Rattle.vf_spans.specs.Members.{has}
 use Rattle.ray_grid.specs.Grids.{GridSize}
 use Rattle.dexel_rays.specs.Sets.{HaveBound, Sets}
 use Rattle.ray_words.specs.Rays.{IsBelow, KeptSets}
 use Rattle.job_model.specs.Tasks.{Job}
 use Rattle.strip_marks.specs.declared.change.WordChange.{WordChange}
-use Rattle.strip_marks.specs.Marks.{AreRays, HaveSameSets, IsChangeOn, points_at, possible_of, sets_of, sure_of}
+use Rattle.strip_marks.specs.Marks.{AreRays, HaveSameSets, IsChangeOn, points_at, possible_of, sure_of}
 use Rattle.strip_journal.specs.declared.journal.Journal.{Journal}
-use Rattle.strip_journal.specs.Journals.{HasBodies, IsJournal, IsTracked, job_of, possible_at, sure_at}
+use Rattle.strip_journal.specs.Journals.{HasBodies, IsJournal, job_of, possible_at, sure_at}
 use Rattle.strip_journal.specs.Steps.{HasSameEdits}
 use Rattle.strip_journal.proofs.KeptParts.{AreSetsAt, IsHeld, Parts, held_of, journal_by, parts_of}
+use Rattle.strip_journal.proofs.Tracking.{tracked_rays}
 
 -- the same sets are rays of the strip
 same_rays : (grid : GridSize) (strip : ℕ) (before after : List KeptSets) → HaveSameSets before after → AreRays grid strip before
@@ -69,11 +70,11 @@ same_held job p after same h = record {
   on = λ i d low. same_change_on p.rays after _ same (h.on i d low);
   few_changes = h.few_changes;
   tracked_sure =
-      subst (λ (r : ℕ). IsTracked (sure_at job p.number) sure_of r (points_at job.plan.grid p.number) p.changes p.entries p.done)
-      (sym same.many) h.tracked_sure;
+      tracked_rays (sure_at job p.number) sure_of (length p.rays) (length after) (points_at job.plan.grid p.number) p.changes p.entries
+      p.done same.many h.tracked_sure;
   tracked_possible =
-      subst (λ (r : ℕ). IsTracked (possible_at job p.number) possible_of r (points_at job.plan.grid p.number) p.changes p.entries p.done)
-      (sym same.many) h.tracked_possible;
+      tracked_rays (possible_at job p.number) possible_of (length p.rays) (length after) (points_at job.plan.grid p.number) p.changes
+      p.entries p.done same.many h.tracked_possible;
   totals = h.totals;
   found = h.found;
 }
@@ -94,3 +95,18 @@ same_journal j k h same edits =
       done = edits.done i;
     } in
     journal_by (job_of j) k p edits.strip.job holds (same_held (job_of j) (parts_of j) k.rays.items same (held_of (job_of j) j h))
+
+-- what two steps one after the other keep of the edits, both keep
+pub same_edits_through : (j m k : Journal) → HasSameEdits j m → HasSameEdits m k → HasSameEdits j k
+same_edits_through j m k first second = record {
+  strip = record {
+    job = second.strip.job ∙ first.strip.job;
+    number = second.strip.number ∙ first.strip.number;
+    of = second.strip.of ∙ first.strip.of;
+  };
+  changes = second.changes ∙ first.changes;
+  entries = second.entries ∙ first.entries;
+  line = second.line ∙ first.line;
+  at = second.at ∙ first.at;
+  done = second.done ∙ first.done;
+}

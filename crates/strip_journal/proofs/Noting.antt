@@ -1,9 +1,9 @@
 -- A list of entries with one more, and the changes of its entries in a longer list of changes.
-use Rattle.std.proofs.Common.{◌≡◌, ℕ, ◌+◌, ◌-◌, ◌<◌, ◌≤◌, List, [], ◌∷◌, ◌++◌, length, take, drop, slice_range, arith, refl, sym, ap, ◌∙◌, length-drop}
+use Rattle.std.proofs.Common.{◌≡◌, ℕ, ◌+◌, ◌-◌, ◌<◌, ◌≤◌, List, [], ◌∷◌, ◌++◌, length, take, drop, slice_range, arith, refl, ap, ◌∙◌, length-drop}
 use Rattle.std.proofs.lemmas.List.{drop-append-le, drop_at, get_or_append_left, get_or_push, length_push, take-append-le, take_all}
 use Rattle.strip_marks.specs.declared.change.WordChange.{WordChange}
 use Rattle.strip_journal.specs.declared.entry.Entry.{Entry}
-use Rattle.strip_journal.specs.Entries.{AreEntries, HasNo, changes_of, edit_at, entry_at, no_entry}
+use Rattle.strip_journal.specs.Entries.{AreEntries, HasNo, changes_of, entry_at, no_entry}
 
 -- the entries that were there stay
 pub entry_still : (entries : List Entry) (e : Entry) (i : ℕ) → i < length entries → entry_at (entries ++ e ∷ []) i ≡ entry_at entries i
@@ -21,7 +21,8 @@ none_before entries e v none place low is =
 -- and it isn't that of the new entry
 pub not_noted : (entries : List Entry) (e : Entry) (v : ℕ) → e.edit ≡ v → HasNo (entries ++ e ∷ []) v → ⊥
 not_noted entries e v is none =
-    none (length entries) (omega (arith, length_push entries e)) (ap (λ (x : Entry). x.edit) (entry_new entries e (length entries) refl) ∙ is)
+    none (length entries) (omega (arith, length_push entries e))
+    (ap (λ (x : Entry). x.edit) (entry_new entries e (length entries) refl) ∙ is)
 
 -- what stands in a list stands in a longer one
 pub range_still : {X : Type 0} (xs ys : List X) (from to : ℕ) → from ≤ to → to ≤ length xs

@@ -1,5 +1,5 @@
 -- How many rays and points a strip has, and so how much a move can find there.
-use Rattle.std.proofs.Common.{◌≡◌, ℕ, ◌+◌, ◌-◌, ◌*◌, ◌^◌, ◌<◌, ◌≤◌, List, length, get_or, arith}
+use Rattle.std.proofs.Common.{ℕ, ◌+◌, ◌-◌, ◌^◌, ◌<◌, ◌≤◌, List, length, get_or, arith}
 use Rattle.std.proofs.lemmas.List.Concat.{length-flat_map}
 use Rattle.std.proofs.lemmas.List.FromFn.{length-map-range_with_len}
 use Rattle.std.proofs.lemmas.List.Sums.{sum_by-le}
@@ -10,7 +10,6 @@ use Rattle.ray_grid.specs.Grids.{GridSize}
 use Rattle.ray_grid.specs.declared.ray.Family.{Family}
 use Rattle.ray_grid.specs.declared.ray.Family.TheVariants.{X, Y, Z}
 use Rattle.ray_grid.specs.declared.ray.Ray.{Ray}
-use Rattle.ray_grid.specs.Families.{second_axis}
 use Rattle.ray_grid.specs.Lattice.{nodes_of, points_of}
 use Rattle.ray_grid.specs.Points.{points_on}
 use Rattle.ray_grid.specs.Ranges.{IsGrid}
@@ -50,7 +49,8 @@ rays_few grid strip is among =
     (λ no. rw (row_z grid strip (omega arith)) (row_few grid Z strip is))
 
 -- and so few points
-pub points_few : (grid : GridSize) (strip : ℕ) → IsGrid grid → strip < length (strips_of grid) → length (strip_points grid strip) < 2 ^ 32
+pub points_few : (grid : GridSize) (strip : ℕ) → IsGrid grid → strip < length (strips_of grid)
+    → length (strip_points grid strip) < 2 ^ 32
 points_few grid strip is among =
     let rays : List Ray = strip_at grid strip in
     let all = length-flat_map (points_on grid) rays in
@@ -58,7 +58,7 @@ points_few grid strip is among =
     let each = sum_by-le (λ ray. length (points_on grid ray)) 400000 rays (λ n d lt. one (get_or rays n d)) in
     let most = mul-le-mul_right 400000 few in
     omega (arith, all, each, most)
-    where
+  where
     one : (ray : Ray) → length (points_on grid ray) ≤ 400000
     one ray = rw (length-map-range_with_len (point_in grid ray) 0 (points_of grid ray.family)) (family_few grid ray.family is)
 

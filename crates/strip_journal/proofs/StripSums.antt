@@ -1,15 +1,14 @@
 -- What a move finds on a strip by the sets of its rays is what it finds by the moves that are left.
-use Rattle.std.proofs.Common.{◌≡◌, ℕ, ◌<◌, List, length, map, slice_index_or, get_or, arith, sym, ap, ◌∙◌}
+use Rattle.std.proofs.Common.{◌≡◌, ℕ, ◌<◌, List, length, map, arith, sym, ap, ◌∙◌}
 use Rattle.std.specs.List.{range_with_len}
 use Rattle.std.proofs.lemmas.List.{get_or-map, length-map}
 use Rattle.std.proofs.lemmas.List.FromFn.{fill_by_all}
 use Rattle.ray_grid.specs.declared.ray.Family.TheVariants.{X}
 use Rattle.ray_grid.specs.declared.ray.Ray.{Ray}
-use Rattle.ray_grid.specs.Points.{LatticePoint}
 use Rattle.ray_grid.specs.Strips.{strip_at, strips_of}
 use Rattle.job_facts.specs.declared.counts.Counts.{Counts}
 use Rattle.job_facts.specs.Counts.{no_counts}
-use Rattle.dexel_rays.specs.Findings.{Seen, met}
+use Rattle.dexel_rays.specs.Findings.{met}
 use Rattle.dexel_rays.proofs.WordLaws.{same_findings}
 use Rattle.job_model.specs.Findings.{seen}
 use Rattle.job_model.specs.Points.{left_moves}
@@ -21,8 +20,8 @@ use Rattle.strip_journal.specs.declared.journal.Journal.{Journal}
 use Rattle.strip_journal.specs.Journals.{AreRaysAt, found_at}
 
 -- what the sets of a ray tell of a point is what is so there by the moves that are left
-pub seen_same : (job : Job) (strip done : ℕ) (j : Journal) (move : JobMove) (n l : ℕ) → AreRaysAt job strip done j → n < length j.rays.items
-    → l < points_at job.plan.grid strip n
+pub seen_same : (job : Job) (strip done : ℕ) (j : Journal) (move : JobMove) (n l : ℕ) → AreRaysAt job strip done j
+    → n < length j.rays.items → l < points_at job.plan.grid strip n
     → seen_on (sets_of j.rays.items n) (sure_there job.plan move strip n) (possible_there job.plan move strip n) move.rapid l
     ≡ seen job (left_moves job.plan done) move (point_at job.plan.grid strip n l)
 seen_same job strip done j move n l rays lt at =
@@ -44,10 +43,13 @@ seen_same job strip done j move n l rays lt at =
     }
 
 -- so it finds the same on each ray
-pub ray_found_is : (job : Job) (strip done : ℕ) (j : Journal) (move : JobMove) (n : ℕ) → AreRaysAt job strip done j → n < length j.rays.items
-    → ray_findings job.plan.grid (seen job (left_moves job.plan done) move) (ray_of job.plan.grid strip n) ≡ ray_found job.plan move strip j.rays.items n
+pub ray_found_is : (job : Job) (strip done : ℕ) (j : Journal) (move : JobMove) (n : ℕ) → AreRaysAt job strip done j
+    → n < length j.rays.items
+    → ray_findings job.plan.grid (seen job (left_moves job.plan done) move) (ray_of job.plan.grid strip n)
+    ≡ ray_found job.plan move strip j.rays.items n
 ray_found_is job strip done j move n rays lt =
-    same_findings (points_at job.plan.grid strip n) (λ l. seen job (left_moves job.plan done) move (point_at job.plan.grid strip n l))
+    same_findings (points_at job.plan.grid strip n)
+    (λ l. seen job (left_moves job.plan done) move (point_at job.plan.grid strip n l))
     (seen_on (sets_of j.rays.items n) (sure_there job.plan move strip n) (possible_there job.plan move strip n) move.rapid)
     (λ l at. ap met (sym (seen_same job strip done j move n l rays lt at)))
 
@@ -61,7 +63,8 @@ rays_found_are job strip done j move rays =
     let many = rays.rays.many in
     fill_by_all (ray_found job.plan move strip j.rays.items) (map find strip_rays) (length j.rays.items) no_counts
     (length-map strip_rays find ∙ sym many)
-    (λ n lt. get_or-map find strip_rays n record { family = X; i = 0; j = 0 } no_counts (omega (arith, lt, many)) ∙ ray_found_is job strip done j move n rays lt)
+    (λ n lt. get_or-map find strip_rays n record { family = X; i = 0; j = 0 } no_counts (omega (arith, lt, many))
+    ∙ ray_found_is job strip done j move n rays lt)
 
 -- and on the strip
 pub strip_found_is : (job : Job) (strip done : ℕ) (j : Journal) (move : JobMove) → AreRaysAt job strip done j

@@ -1,5 +1,5 @@
 -- A set that is tracked from version to version: one edit more, and versions between which there is no entry.
-use Rattle.std.proofs.Common.{◌≡◌, ℕ, zero, suc, ◌+◌, ◌<◌, ◌≤◌, Bool, List, [], ◌∷◌, ◌++◌, length, arith, refl, sym, ap, ◌∙◌, subst}
+use Rattle.std.proofs.Common.{◌≡◌, ℕ, zero, suc, ◌+◌, ◌<◌, ◌≤◌, Bool, List, [], ◌∷◌, ◌++◌, length, arith, sym, ap, ◌∙◌, subst}
 use Rattle.std.proofs.lemmas.List.{length_push}
 use native.Mathlib.Decide.{dec_le}
 use mathlib.Core.Logic.{dite}
@@ -9,6 +9,13 @@ use Rattle.strip_journal.specs.declared.entry.Entry.{Entry}
 use Rattle.strip_journal.specs.Entries.{AreEntries, HasNo, IsTurned, changes_of, entry_at}
 use Rattle.strip_journal.specs.Journals.{IsTracked}
 use Rattle.strip_journal.proofs.Noting.{changes_still, entry_new, entry_still, none_before, not_noted}
+
+-- of as many rays
+pub tracked_rays : (of : ℕ → ℕ → ℕ → Bool) (pick : WordChange → ℕ) (rays others : ℕ) (points : ℕ → ℕ) (changes : List WordChange)
+    (entries : List Entry) (done : ℕ) → others ≡ rays → IsTracked of pick rays points changes entries done
+    → IsTracked of pick others points changes entries done
+tracked_rays of pick rays others points changes entries done many tracked =
+    subst (λ (r : ℕ). IsTracked of pick r points changes entries done) (sym many) tracked
 
 -- an entry leads from the version ahead of its edit to the one behind it, at a point
 abbrev pub Turns : (ℕ → ℕ → ℕ → Bool) → (WordChange → ℕ) → List WordChange → Entry → ℕ → ℕ → Type 0

@@ -1,0 +1,124 @@
+-- A journal after a move was applied is that of its strip after one edit more.
+use Rattle.std.proofs.Common.{◌≡◌, ℕ, zero, suc, ◌+◌, ◌^◌, ◌<◌, false, not, ◌&&◌, List, [], ◌∷◌, ◌++◌, length, take, Some, slice_get, arith, refl, ap, ap₂, ◌∙◌}
+use Rattle.edit_plan.specs.declared.edit.Edit.TheVariants.{Apply}
+use Rattle.job_facts.specs.declared.counts.Counts.{Counts}
+use Rattle.job_model.specs.Tasks.{Job, JobMove}
+use Rattle.strip_plan.specs.Plans.{HasNumber}
+use Rattle.strip_marks.specs.declared.change.WordChange.{WordChange}
+use Rattle.strip_marks.specs.Marks.{HaveSameSets, IsMarkedStrip, possible_there, sure_there}
+use Rattle.strip_journal.specs.declared.journal.Journal.{Journal}
+use Rattle.strip_journal.specs.Entries.{hits_of, possible_ahead, removed_ahead}
+use Rattle.strip_journal.specs.Journals.{IsJournal, found_at, job_of}
+use Rattle.strip_journal.specs.Steps.{HasSameEdits, IsEntered, IsStood, applied_entry, noted}
+use Rattle.strip_journal.proofs.EnteredParts.{IsNextMove, entered_held, entered_parts, new_entry}
+use Rattle.strip_journal.proofs.KeptParts.{Parts, held_of, journal_by, parts_of}
+use Rattle.strip_journal.proofs.KeptSame.{same_held}
+use Rattle.strip_journal.proofs.NewMarks.{AreMarked}
+use Rattle.strip_journal.proofs.StripSums.{strip_found_is}
+
+-- what a journal holds, with rays of the same sets
+abbrev with_rays : Journal → Journal → Parts
+with_rays j m = record (parts_of j) { rays = m.rays.items }
+
+-- what the move marks on the strip, by its own sets, is what it marks by the moves that are left
+marked_is : (job : Job) (j m : Journal) (move : JobMove) (changes : List WordChange) (counts : Counts) → IsJournal job j
+    → HaveSameSets j.rays.items m.rays.items → IsMarkedStrip job.plan move j.number j.rays.items m.rays.items changes counts
+    → AreMarked job j.number j.done (length m.rays.items) move changes
+marked_is job j m move changes counts h same marked = record {
+  sure = λ n l ray point.
+      let old : n < length j.rays.items = let many = same.many in omega (arith, ray, many) in
+      marked.sure n l old point ∙ ap (λ b. sure_there job.plan move j.number n l && not b) (h.newest.sure n l old point);
+  possible = λ n l ray point.
+      let old : n < length j.rays.items = let many = same.many in omega (arith, ray, many) in
+      marked.possible n l old point ∙ ap (λ b. possible_there job.plan move j.number n l && not b) (h.newest.possible n l old point);
+}
+
+-- what is found on the strip by its own sets is what the move finds by the moves that are left
+pub counts_are : (job : Job) (j m : Journal) (move : JobMove) (changes : List WordChange) (counts : Counts) → IsJournal job j
+    → IsMarkedStrip job.plan move j.number j.rays.items m.rays.items changes counts → counts ≡ found_at job j.number j.done move
+counts_are job j m move changes counts h marked = marked.found ∙ strip_found_is job j.number j.done j move h.newest h.strip
+
+-- the next move, with what it changes and finds
+next_is : (job : Job) (j m : Journal) (number : ℕ) (move : JobMove) (changes : List WordChange) (counts : Counts) → IsJournal job j
+    → slice_get job.plan.edits j.done ≡ Some (Apply number) → HasNumber job.plan number move
+    → HaveSameSets j.rays.items m.rays.items → IsMarkedStrip job.plan move j.number j.rays.items m.rays.items changes counts
+    → length j.changes.items + length changes < 2 ^ 32
+    → IsNextMove job (with_rays j m) number move changes counts
+next_is job j m number move changes counts h applies named same marked few = record {
+  applies = applies;
+  named = named;
+  marked = marked_is job j m move changes counts h same marked;
+  on = marked.on;
+  order = marked.order;
+  found = counts_are job j m move changes counts h marked;
+  few = few;
+}
+
+-- the entry of a journal with the same edits
+same_entry : (j m : Journal) (changes : List WordChange) (counts : Counts) → HasSameEdits j m
+    → applied_entry m changes counts ≡ new_entry (with_rays j m) changes counts
+same_entry j m changes counts edits = λ i. record {
+  edit = edits.done i;
+  from = length (edits.changes i);
+  to = length (edits.changes i) + length changes;
+  is_undo = false;
+  hits = hits_of counts;
+  removed = removed_ahead (edits.entries i) (length (edits.entries i)) + counts.removed;
+  possible = possible_ahead (edits.entries i) (length (edits.entries i)) + counts.possible;
+}
+
+-- what is held after the move was entered and stands
+entered_is : (j m k l : Journal) (changes : List WordChange) (counts : Counts) → HasSameEdits j m → IsEntered m k changes counts
+    → IsStood k l → parts_of l ≡ entered_parts (with_rays j m) k.rays.items changes counts
+entered_is j m k l changes counts edits entered stood =
+    let line = entered.line in
+    let number = stood.strip.number ∙ entered.strip.number ∙ edits.strip.number in
+    let of = stood.strip.of ∙ entered.strip.of ∙ edits.strip.of in
+    let all = stood.changes ∙ entered.changes_are ∙ ap (λ (c : List WordChange). c ++ changes) edits.changes in
+    let entries = stood.entries ∙ entered.entries ∙ ap₂ noted edits.entries (same_entry j m changes counts edits) in
+    let numbers : k.line.items ≡ j.line.items = line.line ∙ edits.line in
+    let at : k.at ≡ j.at = line.at ∙ edits.at in
+    let done : k.done ≡ j.done = line.done ∙ edits.done in
+    let stands : l.line.items ≡ take j.at j.line.items ++ j.done ∷ [] = stood.line ∙ (λ i. take (at i) (numbers i) ++ done i ∷ []) in
+    let next : l.at ≡ j.at + 1 = stood.at ∙ ap (λ n. n + 1) at in
+    let more : l.done ≡ j.done + 1 = stood.done ∙ ap (λ n. n + 1) done in
+    λ i. record {
+      number = number i;
+      of = of i;
+      rays = stood.rays i;
+      changes = all i;
+      entries = entries i;
+      line = stands i;
+      at = next i;
+      done = more i;
+    }
+
+-- there is a move with the number
+pub named_move : (moves : List JobMove) (number : ℕ) → number < length moves → (move : JobMove) × (slice_get moves number ≡ Some move)
+named_move [] number low = absurd (omega (arith, low))
+named_move (move ∷ moves) zero low = (move, refl)
+named_move (move ∷ moves) (suc number) low = named_move moves number (omega (arith, low))
+
+-- by the move itself
+entered_by : (job : Job) (j m k l : Journal) (number : ℕ) (move : JobMove) (changes : List WordChange) (counts : Counts)
+    → job_of j ≡ job → IsJournal job j → slice_get job.plan.edits j.done ≡ Some (Apply number) → HasNumber job.plan number move
+    → HaveSameSets j.rays.items m.rays.items → HasSameEdits j m
+    → IsMarkedStrip job.plan move j.number j.rays.items m.rays.items changes counts → IsEntered m k changes counts
+    → length j.changes.items + length changes < 2 ^ 32 → IsStood k l → IsJournal (job_of l) l
+entered_by job j m k l number move changes counts of h applies named same edits marked entered few stood =
+    journal_by job l (entered_parts (with_rays j m) k.rays.items changes counts)
+    (stood.strip.job ∙ entered.strip.job ∙ edits.strip.job ∙ of) (entered_is j m k l changes counts edits entered stood)
+    (entered_held job (with_rays j m) k.rays.items number move changes counts
+    (same_held job (parts_of j) m.rays.items same (held_of job j h))
+    (next_is job j m number move changes counts h applies named same marked few) entered.rays)
+
+-- A journal whose next edit applies a move, after the move was marked and entered and stands in the line, is that of its strip.
+pub entered_journal : (j m k l : Journal) (number : ℕ) (changes : List WordChange) (counts : Counts) → IsJournal (job_of j) j
+    → slice_get (job_of j).plan.edits j.done ≡ Some (Apply number) → number < length (job_of j).plan.moves
+    → HaveSameSets j.rays.items m.rays.items → HasSameEdits j m
+    → ((move : JobMove) → HasNumber (job_of j).plan number move
+    → IsMarkedStrip (job_of j).plan move j.number j.rays.items m.rays.items changes counts)
+    → IsEntered m k changes counts → length j.changes.items + length changes < 2 ^ 32 → IsStood k l → IsJournal (job_of l) l
+entered_journal j m k l number changes counts h applies low same edits marked entered few stood =
+    let found = named_move (job_of j).plan.moves number low in
+    entered_by (job_of j) j m k l number found.0 changes counts refl h applies found.1 same edits (marked found.0 found.1) entered few stood
