@@ -25,3 +25,5 @@ pub mod TurnedAt
 pub mod Places
 pub mod Searching
 pub mod TotalsFound
+pub mod LeftPlaces
+pub mod AddedFound

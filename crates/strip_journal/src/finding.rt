@@ -1,4 +1,4 @@
-ghost use Rattle.std.specs.Prelude.{◌≡◌, ℕ, ◌+◌, ◌-◌, ◌<◌, ◌≤◌, true, false, All, if◌then◌else◌, not, MatchOption, length};
+ghost use Rattle.std.specs.Prelude.{◌≡◌, ℕ, ◌+◌, ◌-◌, ◌<◌, ◌≤◌, true, false, All, if◌then◌else◌, not, MatchOption, length, slice_index};
 ghost use Rattle.std.specs.List.Sorted.{IsPartitionPoint};
 ghost use Rattle.job_facts.specs.declared.totals.PointState.TheVariants.{Absent, Kept, Possible, Removed};
 ghost use Rattle.job_facts.specs.Counts.{AreWithin};
@@ -8,7 +8,7 @@ ghost use Rattle.strip_journal.specs.Entries.{AreAscending, HasNo, IsPlace, chan
 ghost use Rattle.strip_journal.specs.Journals.{IsJournal, job_of};
 ghost use Rattle.strip_journal.specs.Looking.{at_word};
 ghost use Rattle.strip_journal.specs.Strips.{most_before};
-ghost use Rattle.strip_journal.specs.Found.{AddsEntry, AddsLeft, IsFoundBy};
+ghost use Rattle.strip_journal.specs.Found.{AddsEntry, AddsLeft, HasRoomAt, IsFoundBy};
 
 use crate::entry::Entry;
 use crate::journal::Journal;
@@ -213,19 +213,28 @@ impl Journal {
         state_of(ray.has_stock(l), marks.0, marks.1)
     }
 
-    /// Adds what the edit of the entry at a place found to the counts of its move, if that is left.
+    /// The place of an edit among those that are left, if it is one of them.
+    fn left_of(&self, edit: u32) -> Option<usize>
+        requires { IsJournal (job_of self.now) self.now }
+        ensures { MatchOption result ((k : ℕ) → k < self.now.at → slice_index self.now.line.items k ≡ edit → ⊥)
+            (λ k. (k < self.now.at) × (slice_index self.now.line.items k ≡ edit)) }
+    {
+        let left = &self.line.as_slice()[..self.at as usize];
+        left.binary_search(&edit).ok()
+    }
+
+    /// Adds what the edit of the entry at a place found to the count of its move, if that is left.
     fn add_entry(&self, place: usize, counts: &mut [Counts])
         requires journal { IsJournal (job_of self.now) self.now }
         requires place { place < length self.now.entries.items }
         requires many { length counts.old ≡ self.now.at }
-        requires room { All (AreWithin most_before) counts.old }
+        requires room { HasRoomAt self.now place counts.old }
         ensures { AddsEntry self.now place counts.old counts.new }
     {
         let edit = self.entries[place].edit;
-        let left = &self.line.as_slice()[..self.at as usize];
-        let j = left.partition_point(|number| *number < edit);
-        if j < left.len() && left[j] == edit {
-            counts[j] = counts[j].plus(&self.counts_at(place));
+        if let Some(k) = self.left_of(edit) {
+            let found = self.counts_at(place);
+            counts[k] = counts[k].plus(&found);
         }
     }
 
