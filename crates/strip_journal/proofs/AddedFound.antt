@@ -1,19 +1,19 @@
 -- What is added to the counts of the moves that are left, entry by entry.
-use Rattle.std.proofs.Common.{◌≡◌, ℕ, zero, suc, ◌+◌, ◌-◌, ◌^◌, ◌<◌, ◌≤◌, ◌⊎◌, ◌≢◌, inl, inr, All, List, length, set, slice_index, slice_set, add-zero, arith, refl, sym, ap, ◌∙◌, subst, ⊎_elim}
+use Rattle.std.proofs.Common.{◌≡◌, ℕ, zero, suc, ◌+◌, ◌-◌, ◌^◌, ◌<◌, ◌≤◌, ◌⊎◌, ◌≢◌, inl, inr, All, List, length, set, slice_index, slice_index_or, slice_set, add-zero, arith, refl, sym, ap, ◌∙◌, subst, ⊎_elim}
 use Rattle.std.proofs.lemmas.Bool.{cases_eq}
-use Rattle.std.proofs.lemmas.List.{get_or-set_other, get_or-set_same, length-set}
+use Rattle.std.proofs.lemmas.List.{get_or_default, get_or-set_other, get_or-set_same, length-set}
 use native.Mathlib.Decide.{dec_le}
 use mathlib.Core.Logic.{dite}
 use Rattle.job_facts.specs.declared.counts.Counts.{Counts}
 use Rattle.job_facts.specs.Counts.{AreWithin, most_count, no_counts, plus}
 use Rattle.strip_journal.specs.declared.entry.Entry.{Entry}
 use Rattle.strip_journal.specs.declared.journal.Journal.{Journal}
-use Rattle.strip_journal.specs.Entries.{HasNo, edit_at}
+use Rattle.strip_journal.specs.Entries.{HasNo, counts_of_hits, edit_at, entry_at, no_entry, possible_ahead, removed_ahead}
 use Rattle.strip_journal.specs.Found.{AddsAhead, AddsEntry, AddsLeft, HasRoomAt, IsFoundBy, count_at}
 use Rattle.strip_journal.specs.Journals.{IsJournal, job_of}
 use Rattle.strip_journal.specs.Strips.{most_before}
-use Rattle.strip_journal.proofs.FoundIs.{found_none}
-use Rattle.strip_journal.proofs.LeftPlaces.{found_same, left_few, line_once}
+use Rattle.strip_journal.proofs.FoundIs.{AheadWithin, ahead_within, found_is, found_none}
+use Rattle.strip_journal.proofs.LeftPlaces.{found_same, found_within, left_few, line_once}
 
 -- what a strip has has room on top of such counts
 pub room_for : (before found : Counts) → AreWithin most_before before → AreWithin (2 ^ 32 - 1) found → AreWithin most_count (plus before found)
@@ -45,6 +45,57 @@ entry_added j place k before found h many low there is = record {
       get_or-set_other before k m (plus (count_at before k) found) no_counts
       (λ same. other (ap (slice_index j.line.items) same ∙ there));
 }
+
+-- the entry at a place is of the k-th of the edits that are left
+pub record IsOfLeft (j : Journal) (place k : ℕ) : Type 0 where
+  pub within : place < length j.entries.items
+  pub left : k < j.at
+  pub same : slice_index j.line.items k ≡ edit_at j.entries.items place
+
+-- as where the entry that was read is
+pub of_left : (j : Journal) (place k : ℕ) (entry : Entry) → place < length j.entries.items
+    → entry ≡ slice_index_or j.entries.items place entry → k < j.at → slice_index j.line.items k ≡ entry.edit → IsOfLeft j place k
+of_left j place k entry within is left same = record {
+  within = within;
+  left = left;
+  same = same ∙ ap (λ (e : Entry). e.edit) (is ∙ get_or_default j.entries.items place entry no_entry within);
+}
+
+-- what the entry tells
+abbrev pub told : Journal → ℕ → Counts
+told j place =
+    counts_of_hits (entry_at j.entries.items place).hits
+    ((entry_at j.entries.items place).removed - removed_ahead j.entries.items place)
+    ((entry_at j.entries.items place).possible - possible_ahead j.entries.items place)
+
+-- the totals have risen to what it keeps
+pub left_rise : (j : Journal) (place k : ℕ) → IsJournal (job_of j) j → IsOfLeft j place k → AheadWithin j.entries.items place
+left_rise j place k h is =
+    let most = left_few j h in ahead_within j k place h (let left = is.left in omega (arith, left, most)) is.within (sym is.same)
+
+-- and it tells what the edit found
+left_tells : (j : Journal) (place k : ℕ) (found : Counts) → IsJournal (job_of j) j → IsOfLeft j place k → found ≡ told j place
+    → IsFoundBy j k found
+left_tells j place k found h is tells =
+    let most = left_few j h in
+    subst (λ (counts : Counts). IsFoundBy j k counts) (sym tells)
+    (found_is j k place h (let left = is.left in omega (arith, left, most)) is.within (sym is.same))
+
+-- there is room for it
+pub left_room : (j : Journal) (place k : ℕ) (before : List Counts) (found : Counts) → IsJournal (job_of j) j → IsOfLeft j place k
+    → length before ≡ j.at → HasRoomAt j place before → found ≡ told j place → AreWithin most_count (plus (count_at before k) found)
+left_room j place k before found h is many room tells =
+    let most = left_few j h in
+    let left = is.left in
+    room_for (count_at before k) found (room.each k (omega (arith, left, many)) is.same)
+    (found_within j k found h (omega (arith, left, most)) (left_tells j place k found h is tells))
+
+-- and it is added
+pub left_added : (j : Journal) (place k : ℕ) (before : List Counts) (found sum : Counts) → IsJournal (job_of j) j → IsOfLeft j place k
+    → length before ≡ j.at → found ≡ told j place → sum ≡ plus (count_at before k) found → AddsEntry j place before (slice_set before k sum)
+left_added j place k before found sum h is many tells sums =
+    subst (λ (counts : Counts). AddsEntry j place before (slice_set before k counts)) (sym sums)
+    (entry_added j place k before found h many is.left is.same (left_tells j place k found h is tells))
 
 -- where its edit is not left nothing is added
 pub none_added : (j : Journal) (place : ℕ) (counts : List Counts) → length counts ≡ j.at
