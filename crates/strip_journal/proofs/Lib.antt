@@ -27,3 +27,4 @@ pub mod Searching
 pub mod TotalsFound
 pub mod LeftPlaces
 pub mod AddedFound
+pub mod Looked

@@ -51,7 +51,7 @@ alone test changes p false low is other =
     list_any_none test changes
     (All-from_all_within (λ change. test change ≡ false) changes
     (λ i d from few. ap test (get_or_default changes i d no_change few) ∙ each i few))
-    where
+  where
     each : (i : ℕ) → i < length changes → test (get_or changes i no_change) ≡ false
     each i few =
         dite (dec_le i p)
@@ -106,7 +106,7 @@ among_none pick changes n l p order point other =
     (λ i d from few.
     ap (λ (change : WordChange). nat_eq change.ray n && in_word change.word (pick change) l) (get_or_default changes i d no_change few)
     ∙ elsewhere pick n l (get_or changes i no_change) (none_at i few)))
-    where
+  where
     none_at : (i : ℕ) → i < length changes → (get_or changes i no_change).ray ≡ n → (get_or changes i no_change).word ≡ l / 64 → ⊥
     none_at i few ray word =
         dite (dec_le p i)

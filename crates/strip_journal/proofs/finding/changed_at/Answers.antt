@@ -13,8 +13,8 @@ pub returns-then-change-n-clause-sure : goal.returns-then-change-n-clause-sure
 returns-then-change-n-clause-sure c =
     sym (among_none sure_of c.args.changes.now c.args.n c.args.l c.place_at-place.result c.requires c.place_at-place.ensures.parted
     (λ low ray word. elim c.then-change-n.branch [
-      then-change-n-via-then-change-n w ↦ omega (arith, ray)
-    | then-change-n-via-else-change-n+then-change-word w ↦ omega (arith, word)
+      | then-change-n-via-then-change-n w ↦ omega (arith, ray)
+      | then-change-n-via-else-change-n+then-change-word w ↦ omega (arith, word)
     ]))
 
 pub returns-clause-sure : goal.returns-clause-sure
@@ -32,8 +32,8 @@ pub returns-then-change-n-clause-possible : goal.returns-then-change-n-clause-po
 returns-then-change-n-clause-possible c =
     sym (among_none possible_of c.args.changes.now c.args.n c.args.l c.place_at-place.result c.requires c.place_at-place.ensures.parted
     (λ low ray word. elim c.then-change-n.branch [
-      then-change-n-via-then-change-n w ↦ omega (arith, ray)
-    | then-change-n-via-else-change-n+then-change-word w ↦ omega (arith, word)
+      | then-change-n-via-then-change-n w ↦ omega (arith, ray)
+      | then-change-n-via-else-change-n+then-change-word w ↦ omega (arith, word)
     ]))
 
 pub returns-clause-possible : goal.returns-clause-possible
