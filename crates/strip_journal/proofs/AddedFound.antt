@@ -1,5 +1,5 @@
 -- What is added to the counts of the moves that are left, entry by entry.
-use Rattle.std.proofs.Common.{◌≡◌, ℕ, zero, suc, ◌+◌, ◌-◌, ◌^◌, ◌<◌, ◌≤◌, ◌⊎◌, ◌≢◌, inl, inr, All, List, length, set, slice_index, slice_index_or, slice_set, add-zero, arith, refl, sym, ap, ◌∙◌, subst, ⊎_elim}
+use Rattle.std.proofs.Common.{◌≡◌, ℕ, zero, suc, ◌+◌, ◌-◌, ◌^◌, ◌<◌, ◌⊎◌, ◌≢◌, inl, inr, All, List, length, slice_index, slice_index_or, slice_set, add-zero, arith, refl, sym, ap, ◌∙◌, subst, ⊎_elim}
 use Rattle.std.proofs.lemmas.Bool.{cases_eq}
 use Rattle.std.proofs.lemmas.List.{get_or_default, get_or-set_other, get_or-set_same, length-set}
 use native.Mathlib.Decide.{dec_le}
@@ -96,15 +96,6 @@ pub left_added : (j : Journal) (place k : ℕ) (before : List Counts) (found sum
 left_added j place k before found sum h is many tells sums =
     subst (λ (counts : Counts). AddsEntry j place before (slice_set before k counts)) (sym sums)
     (entry_added j place k before found h many is.left is.same (left_tells j place k found h is tells))
-
--- where its edit is not left nothing is added
-pub none_added : (j : Journal) (place : ℕ) (counts : List Counts) → length counts ≡ j.at
-    → ((k : ℕ) → k < j.at → slice_index j.line.items k ≡ edit_at j.entries.items place → ⊥) → AddsEntry j place counts counts
-none_added j place counts many none = record {
-  many = refl;
-  its = λ k found few same is. absurd (none k (omega (arith, few, many)) same);
-  others = λ k few other. refl;
-}
 
 -- ahead of the first entry nothing is added
 pub first_added : (j : Journal) (counts : List Counts) → AddsAhead j 0 counts counts

@@ -1,5 +1,5 @@
 -- The edits that are left, in the line, and the moves that they applied.
-use Rattle.std.proofs.Common.{◌≡◌, ℕ, ◌-◌, ◌^◌, ◌<◌, ◌≤◌, List, length, take, get_or, slice_get, slice_index, Option, None, Some, Result, Ok, Err, MatchOption, MatchResult, arith, sym, ap, ◌∙◌, subst, ⊎_elim}
+use Rattle.std.proofs.Common.{◌≡◌, ℕ, ◌-◌, ◌^◌, ◌<◌, ◌≤◌, List, length, take, get_or, slice_get, slice_index, None, Some, Result, Ok, Err, MatchOption, MatchResult, arith, sym, ap, ◌∙◌, subst, ⊎_elim}
 use Rattle.std.specs.List.Sorted.{IsBinarySearchResult}
 use Rattle.std.specs.Ordering.{nat_cmp}
 use Rattle.std.specs.Result.{result_ok}
@@ -19,7 +19,7 @@ use Rattle.job_model.specs.Tasks.{JobMove}
 use Rattle.strip_plan.specs.Plans.{HasNumber}
 use Rattle.strip_journal.specs.declared.journal.Journal.{Journal}
 use Rattle.strip_journal.specs.Found.{IsFoundBy}
-use Rattle.strip_journal.specs.Journals.{IsJournal, found_at, job_of}
+use Rattle.strip_journal.specs.Journals.{IsJournal, job_of}
 use Rattle.strip_journal.proofs.FoundIs.{line_applied}
 use Rattle.strip_journal.proofs.KeptParts.{held_of, parts_of}
 use Rattle.strip_journal.proofs.StripSizes.{found_few}

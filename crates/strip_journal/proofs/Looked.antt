@@ -1,13 +1,12 @@
 -- Looking back by what is read of the rays and of the entries.
-use Rattle.std.proofs.Common.{◌≡◌, ℕ, ◌+◌, ◌-◌, ◌<◌, ◌≤◌, Bool, false, not, if◌then◌else◌, List, [], length, slice_index_or, arith, refl, sym, ap, ◌∙◌, subst}
+use Rattle.std.proofs.Common.{◌≡◌, ℕ, ◌+◌, ◌-◌, ◌<◌, ◌≤◌, Bool, not, if◌then◌else◌, List, length, slice_index_or, arith, sym, ap, ◌∙◌, subst}
 use Rattle.std.proofs.lemmas.List.{get_or_default}
 use Rattle.vf_spans.specs.Members.{has}
 use Rattle.job_facts.specs.declared.totals.PointState.{PointState}
 use Rattle.job_facts.specs.declared.totals.PointState.TheVariants.{Absent, Kept, Possible, Removed}
 use Rattle.job_model.specs.Points.{left_moves, state_after}
 use Rattle.ray_words.specs.Rays.{KeptSets}
-use Rattle.strip_marks.specs.declared.change.WordChange.{WordChange}
-use Rattle.strip_marks.specs.Marks.{AreInOrder, among, kept_of, point_at, points_at, possible_of, sets_of, sure_of}
+use Rattle.strip_marks.specs.Marks.{AreInOrder, among, kept_of, point_at, points_at, possible_of, sure_of}
 use Rattle.strip_journal.specs.declared.entry.Entry.{Entry}
 use Rattle.strip_journal.specs.declared.journal.Journal.{Journal}
 use Rattle.strip_journal.specs.Entries.{changes_of, edit_at, entry_at, no_entry, was}

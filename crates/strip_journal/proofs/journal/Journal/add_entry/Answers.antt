@@ -1,4 +1,4 @@
-use Rattle.strip_journal.proofs.AddedFound.{left_added, left_rise, left_room, none_added, of_left}
+use Rattle.strip_journal.proofs.AddedFound.{left_added, left_rise, left_room, of_left}
 use Rattle.strip_journal.proofs.journal.Journal.add_entry.Goals as goal
 
 pub counts_at-found-requires-clause-removed : goal.counts_at-found-requires-clause-removed

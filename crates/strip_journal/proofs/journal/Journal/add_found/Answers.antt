@@ -1,4 +1,4 @@
-use Rattle.std.proofs.Common.{◌≡◌, ℕ, ◌<◌, ◌≤◌, length, arith, subst}
+use Rattle.std.proofs.Common.{◌≡◌, ℕ, length, arith, subst}
 use Rattle.strip_journal.specs.Found.{AddsAhead}
 use Rattle.strip_journal.proofs.AddedFound.{all_added, more_added, room_still}
 use Rattle.strip_journal.proofs.journal.Journal.add_found.Goals as goal

@@ -1,4 +1,4 @@
-use Rattle.std.proofs.Common.{◌≡◌, ◌∙◌, ℕ, length, slice_index, sym, subst}
+use Rattle.std.proofs.Common.{◌∙◌, ℕ, sym, subst}
 use Rattle.std.proofs.lemmas.List.{get_or_default}
 use Rattle.job_facts.specs.declared.counts.Counts.{Counts}
 use Rattle.strip_journal.specs.Entries.{HasNo}

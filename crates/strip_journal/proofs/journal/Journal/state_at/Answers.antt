@@ -1,5 +1,4 @@
-use Rattle.std.proofs.Common.{◌≡◌, ℕ, ◌+◌, ◌-◌, ◌<◌, ◌≤◌, length, arith}
-use Rattle.strip_journal.specs.Looking.{IsLookingBack}
+use Rattle.std.proofs.Common.{◌≡◌, ◌-◌, ◌<◌, length, arith}
 use Rattle.strip_journal.proofs.Looked.{ahead_read, entry_of_journal, look_begins, look_cost, look_cost_on, look_ends, look_goes_on}
 use Rattle.strip_journal.proofs.journal.Journal.state_at.Goals.{then-loop-place-test+else-index-version, else-loop-place-test}
 use Rattle.strip_journal.proofs.journal.Journal.state_at.Goals as goal
