@@ -16,7 +16,8 @@ use Rattle.strip_journal.proofs.FoundIs.{AheadWithin, ahead_within, found_is, fo
 use Rattle.strip_journal.proofs.LeftPlaces.{found_same, found_within, left_few, line_once}
 
 -- what a strip has has room on top of such counts
-pub room_for : (before found : Counts) → AreWithin most_before before → AreWithin (2 ^ 32 - 1) found → AreWithin most_count (plus before found)
+pub room_for : (before found : Counts) → AreWithin most_before before → AreWithin (2 ^ 32 - 1) found
+    → AreWithin most_count (plus before found)
 room_for before found room few = record {
   removed = omega (arith, room.removed, few.removed);
   possible = omega (arith, room.possible, few.possible);
@@ -40,7 +41,8 @@ entry_added j place k before found h many low there is = record {
       let equal : found ≡ other =
       found_same j k found other h (omega (arith, low, most)) is (subst (λ (n : ℕ). IsFoundBy j n other) (sym here) also) in
       subst (λ (n : ℕ). count_at (slice_set before k (plus (count_at before k) found)) n ≡ plus (count_at before n) other) here
-      (get_or-set_same before k (plus (count_at before k) found) no_counts (omega (arith, low, many)) ∙ ap (plus (count_at before k)) equal);
+      (get_or-set_same before k (plus (count_at before k) found) no_counts (omega (arith, low, many))
+      ∙ ap (plus (count_at before k)) equal);
   others = λ m few other.
       get_or-set_other before k m (plus (count_at before k) found) no_counts
       (λ same. other (ap (slice_index j.line.items) same ∙ there));
@@ -159,7 +161,8 @@ entry_or_none entries edit (suc n) =
     (λ (here : edit_at entries n ≡ edit). inl record { place = n; low = omega arith; is = here })
     (λ (other : edit_at entries n ≢ edit).
     ⊎_elim
-    (λ (there : HasEntry entries edit n). inl record { place = there.place; low = let low = there.low in omega (arith, low); is = there.is })
+    (λ (there : HasEntry entries edit n).
+    inl record { place = there.place; low = let low = there.low in omega (arith, low); is = there.is })
     (λ (none : (i : ℕ) → i < n → edit_at entries i ≡ edit → ⊥).
     inr (λ i low is.
     dite (dec_le n i)

@@ -70,11 +70,15 @@ look_goes_on j version n l place entry tested marks next h low point some read t
       within = step.within;
       above = step.above;
       sure = first ∙ ap (λ (e : Entry). was e.is_undo (among sure_of (changes_of j.changes.items e) n l) marks.0) is ∙ step.sure;
-      possible = second ∙ ap (λ (e : Entry). was e.is_undo (among possible_of (changes_of j.changes.items e) n l) marks.1) is ∙ step.possible;
+      possible =
+          second
+          ∙ ap (λ (e : Entry). was e.is_undo (among possible_of (changes_of j.changes.items e) n l) marks.1) is
+          ∙ step.possible;
     }
 
 -- it took a step for each entry that it went back
-pub look_cost_on : (old steps size place : ℕ) → 0 < place → place ≤ size → steps ≤ old + (size - place) → steps + 1 ≤ old + (size - (place - 1))
+pub look_cost_on : (old steps size place : ℕ) → 0 < place → place ≤ size → steps ≤ old + (size - place)
+    → steps + 1 ≤ old + (size - (place - 1))
 look_cost_on old steps size place some within cost = omega arith
 
 -- the entry ahead is of an edit ahead of the version, if the one that was read is
@@ -86,7 +90,8 @@ ahead_read entries version place tested some within read below =
 
 -- it ends with the state at the version
 pub look_ends : (j : Journal) (version n l place : ℕ) (ray : KeptSets) (stock : Bool) (marks : Bool × Bool) (told : PointState)
-    → IsJournal (job_of j) j → n < length j.rays.items → l < points_at j.plan.value.grid j.number n → ray ≡ slice_index_or j.rays.items n ray
+    → IsJournal (job_of j) j → n < length j.rays.items → l < points_at j.plan.value.grid j.number n
+    → ray ≡ slice_index_or j.rays.items n ray
     → stock ≡ has ray.sets.stock l
     → told ≡ (if not stock then Absent else (if marks.0 then Removed else (if marks.1 then Possible else Kept)))
     → (0 < place → edit_at j.entries.items (place - 1) < version)

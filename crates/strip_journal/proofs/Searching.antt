@@ -31,14 +31,17 @@ ahead_differs a b ahead ray word = grind (arith, nat_tests)
 word_differs : (a : WordChange) (n word : ℕ) → is_ahead a (at_word n word) ≡ true → a.ray ≡ n → a.word ≡ word → ⊥
 word_differs a n word ahead ray same = grind (arith, nat_tests)
 
-behind_differs : (a b : WordChange) (n word : ℕ) → is_ahead a (at_word n word) ≡ false → IsTrue (is_ahead a b) → b.ray ≡ n → b.word ≡ word → ⊥
+behind_differs : (a b : WordChange) (n word : ℕ) → is_ahead a (at_word n word) ≡ false → IsTrue (is_ahead a b) → b.ray ≡ n → b.word ≡ word
+    → ⊥
 behind_differs a b n word at behind ray same = grind (arith, nat_tests)
 
 -- changes in order are split by a word
-pub changes_parted : (changes : List WordChange) (n word : ℕ) → AreInOrder changes → IsPartitionedBy (λ change. is_ahead change (at_word n word)) changes
+pub changes_parted : (changes : List WordChange) (n word : ℕ) → AreInOrder changes
+    → IsPartitionedBy (λ change. is_ahead change (at_word n word)) changes
 changes_parted changes n word order i k d up few ahead =
     dite (dec_le k i)
-    (λ same. let e : get_or changes k d ≡ get_or changes i d = let at : k ≡ i = omega (arith, up, same) in ap (λ m. get_or changes m d) at in
+    (λ same.
+    let e : get_or changes k d ≡ get_or changes i d = let at : k ≡ i = omega (arith, up, same) in ap (λ m. get_or changes m d) at in
     rw (← e) ahead)
     (λ later. ahead_ahead (get_or changes i d) (get_or changes k d) (at_word n word) (order.each i k d (omega (arith, later)) few) ahead)
 
@@ -67,7 +70,8 @@ elsewhere_at bit a n b word other =
     (λ (same : a ≡ n).
     ⊎_elim
     (λ (too : word ≡ b). absurd (other same too))
-    (λ (differs : word ≢ b). ap (λ (t : Bool). nat_eq a n && (t && bit)) (ne_eqb b word (λ e. differs (sym e))) ∙ and-false (nat_eq a n)) (cases_eq word b))
+    (λ (differs : word ≢ b).
+    ap (λ (t : Bool). nat_eq a n && (t && bit)) (ne_eqb b word (λ e. differs (sym e))) ∙ and-false (nat_eq a n)) (cases_eq word b))
     (λ (differs : a ≢ n). ap (λ (t : Bool). t && (nat_eq b word && bit)) (ne_eqb a n differs)) (cases_eq a n)
 
 -- a change at another word hasn't the index
@@ -92,12 +96,17 @@ among_at pick changes n l p order low ray word =
     elsewhere pick n l (get_or changes i no_change)
     (λ ray_too word_too.
     dite (dec_le p i)
-    (λ from. ahead_differs (get_or changes p no_change) (get_or changes i no_change) (order.each p i no_change (omega (arith, from, other)) few) (ray ∙ sym ray_too) (word ∙ sym word_too))
-    (λ sooner. ahead_differs (get_or changes i no_change) (get_or changes p no_change) (order.each i p no_change (omega (arith, sooner)) low) (ray_too ∙ sym ray) (word_too ∙ sym word))))
+    (λ from.
+    ahead_differs (get_or changes p no_change) (get_or changes i no_change) (order.each p i no_change (omega (arith, from, other)) few)
+    (ray ∙ sym ray_too) (word ∙ sym word_too))
+    (λ sooner.
+    ahead_differs (get_or changes i no_change) (get_or changes p no_change) (order.each i p no_change (omega (arith, sooner)) low)
+    (ray_too ∙ sym ray) (word_too ∙ sym word))))
 
 -- where no change at its word stands at the place of the word, it is among none
 pub among_none : (pick : WordChange → ℕ) (changes : List WordChange) (n l p : ℕ) → AreInOrder changes
-    → IsPartitionPoint (λ change. is_ahead change (at_word n (l / 64)) ≡ true) (λ change. is_ahead change (at_word n (l / 64)) ≡ false) changes p
+    → IsPartitionPoint (λ change. is_ahead change (at_word n (l / 64)) ≡ true)
+    (λ change. is_ahead change (at_word n (l / 64)) ≡ false) changes p
     → (p < length changes → (get_or changes p no_change).ray ≡ n → (get_or changes p no_change).word ≡ l / 64 → ⊥)
     → among pick changes n l ≡ false
 among_none pick changes n l p order point other =
@@ -112,10 +121,14 @@ among_none pick changes n l p order point other =
         dite (dec_le p i)
         (λ from.
         dite (dec_le i p)
-        (λ last. let at : i ≡ p = omega (arith, from, last) in
-        let there = subst (λ m. m < length changes → (get_or changes m no_change).ray ≡ n → (get_or changes m no_change).word ≡ l / 64 → ⊥) (sym at) other in
+        (λ last.
+        let at : i ≡ p = omega (arith, from, last) in
+        let there =
+        subst (λ m. m < length changes → (get_or changes m no_change).ray ≡ n → (get_or changes m no_change).word ≡ l / 64 → ⊥) (sym at)
+        other in
         there few ray word)
         (λ later.
         behind_differs (get_or changes p no_change) (get_or changes i no_change) n (l / 64)
         (point.1 p no_change (omega arith) (omega (arith, from, few))) (order.each p i no_change (omega (arith, later)) few) ray word))
-        (λ sooner. word_differs (get_or changes i no_change) n (l / 64) (point.0 i no_change (omega arith) (omega (arith, sooner))) ray word)
+        (λ sooner. word_differs (get_or changes i no_change) n (l / 64) (point.0 i no_change (omega arith) (omega (arith, sooner)))
+        ray word)

@@ -13,8 +13,8 @@ by_numbers : (totals : Totals) (removed possible of : ℕ) → removed ≡ total
 by_numbers totals removed possible of first second third = rw (first, second, third) refl
 
 pub totals_are : (j : Journal) (version place removed possible of : ℕ) → IsJournal (job_of j) j → version ≤ j.done
-    → IsPlace j.entries.items version place → removed ≡ removed_ahead j.entries.items place → possible ≡ possible_ahead j.entries.items place
-    → of ≡ j.of
+    → IsPlace j.entries.items version place → removed ≡ removed_ahead j.entries.items place
+    → possible ≡ possible_ahead j.entries.items place → of ≡ j.of
     → ◌≡◌ {A = Totals} (record { removed = removed; possible = possible; of = of })
     (totals_over (job_of j) (strip_points j.plan.value.grid j.number) (left_moves j.plan.value version))
 totals_are j version place removed possible of h within is first second third =

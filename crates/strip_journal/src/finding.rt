@@ -37,8 +37,8 @@ fn stands_ahead(change: &WordChange, n: u32, word: u32) -> bool
 fn place_at(changes: &[WordChange], n: u32, word: u32) -> usize
     requires { AreInOrder changes.now }
     ensures within { result ≤ length changes.now }
-    ensures parted { IsPartitionPoint (λ change. is_ahead change (at_word n word) ≡ true) (λ change. is_ahead change (at_word n word) ≡ false)
-        changes.now result }
+    ensures parted { IsPartitionPoint (λ change. is_ahead change (at_word n word) ≡ true)
+        (λ change. is_ahead change (at_word n word) ≡ false) changes.now result }
 {
     changes.partition_point(|change| stands_ahead(change, n, word))
 }

@@ -51,10 +51,12 @@ pub returns-clause-state : goal.returns-clause-state
 returns-clause-state g c =
     let within = c.loop-place.invariant.0.within in
     look_ends c.args.self.now c.args.version c.args.n c.args.l c.loop-place.place c.index-ray.result.now c.has_stock.result
-    c.loop-place.marks c.state_of.result c.requires.journal c.requires.ray c.requires.point c.index-ray.ensures c.has_stock.ensures c.state_of.ensures
+    c.loop-place.marks c.state_of.result c.requires.journal c.requires.ray c.requires.point c.index-ray.ensures
+    c.has_stock.ensures c.state_of.ensures
     (λ some. elim c.loop-place-test.branch [
       | then-loop-place-test+else-index-version w ↦
-          ahead_read c.args.self.now.entries.items c.args.version c.loop-place.place w.index.result.now some within w.index.ensures w.if-index-version.false
+          ahead_read c.args.self.now.entries.items c.args.version c.loop-place.place w.index.result.now some
+          within w.index.ensures w.if-index-version.false
       | else-loop-place-test w ↦ absurd (omega (arith, some))
     ])
     c.loop-place.invariant.0
