@@ -1,5 +1,5 @@
 -- What one edit makes of what a strip keeps.
-use Rattle.std.specs.Prelude.{◌≡◌, ℕ, ◌+◌, ◌^◌, ◌<◌, ◌≤◌, ◌&&◌, not, Bool, false, if◌then◌else◌, List, [], ◌∷◌, ◌++◌, length, nat_lt, take, vec_capacity, vec_len}
+use Rattle.std.specs.Prelude.{◌≡◌, ℕ, ◌+◌, ◌-◌, ◌^◌, ◌<◌, ◌≤◌, ◌&&◌, not, Bool, false, if◌then◌else◌, List, [], ◌∷◌, ◌++◌, length, nat_lt, take, vec_capacity, vec_len}
 use Rattle.vf_spans.specs.Members.{has}
 use Rattle.job_facts.specs.declared.counts.Counts.{Counts}
 use Rattle.ray_words.specs.Rays.{KeptSets}
