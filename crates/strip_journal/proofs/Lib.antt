@@ -28,3 +28,4 @@ pub mod TotalsFound
 pub mod LeftPlaces
 pub mod AddedFound
 pub mod Looked
+pub mod TurnedMore

@@ -5,34 +5,17 @@ ghost use Rattle.job_facts.specs.Counts.{AreWithin};
 ghost use Rattle.strip_marks.specs.Marks.{IsChangeOn};
 ghost use Rattle.strip_journal.specs.Entries.{possible_ahead, removed_ahead};
 ghost use Rattle.strip_journal.specs.Journals.{IsAt, IsJournal, job_of};
-ghost use Rattle.strip_journal.specs.Steps.{AreRaysTurned, HasRoom, HasSameEdits, IsEntered, IsStood, noted};
+ghost use Rattle.strip_journal.specs.Steps.{HasRoom, HasSameEdits, IsEntered, IsStood, noted};
 
 use crate::entry::{Entry, Hits};
 use crate::journal::Journal;
-use ray_words::WordRay;
-use strip_marks::{Marked, WordChange, mark_strip};
+use crate::rays::turn_all;
+use strip_marks::{Marked, mark_strip};
 use strip_plan::Plan;
 use vf_io::NoMemory;
 
-/// Adds the points of the changes. It takes no memory.
-pub fn give_all(rays: &mut [WordRay], changes: &[WordChange])
-    requires { All (IsChangeOn rays.old) changes.now }
-    ensures { AreRaysTurned rays.old rays.new changes.now false }
-{
-    for change in changes {
-        rays[change.ray as usize].give(change.word, &change.delta());
-    }
-}
-
-/// Takes the points of the changes away. It takes no memory.
-pub fn take_all(rays: &mut [WordRay], changes: &[WordChange])
-    requires { All (IsChangeOn rays.old) changes.now }
-    ensures { AreRaysTurned rays.old rays.new changes.now true }
-{
-    for change in changes {
-        rays[change.ray as usize].take(change.word, &change.delta());
-    }
-}
+/// The most changes that a strip keeps.
+const MOST_CHANGES: usize = u32::MAX as usize;
 
 /// Adds an entry, unless nothing changed and nothing was found.
 fn note(entries: &mut Vec<Entry>, entry: Entry)
@@ -52,7 +35,7 @@ impl Journal {
         ensures room { OnOk result (HasRoom self.new changes) }
     {
         // A place in the list of changes is a number of 32 bits: more would take a hundred gigabytes.
-        if self.changes.len() + changes > u32::MAX as usize {
+        if self.changes.len() > MOST_CHANGES || changes > MOST_CHANGES - self.changes.len() {
             return Err(NoMemory);
         }
         self.changes.reserve(changes)?;
@@ -76,7 +59,7 @@ impl Journal {
         } = marked;
         let (removed, possible) = self.totals_ahead(self.entries.len());
         let from = self.changes.len() as u32;
-        give_all(self.rays.as_mut_slice(), changes.as_slice());
+        turn_all(self.rays.as_mut_slice(), changes.as_slice(), false);
         let _moved = self.changes.append(&mut changes);
         let entry = Entry {
             edit: self.done,

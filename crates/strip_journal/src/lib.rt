@@ -6,6 +6,7 @@ mod entry;
 mod finding;
 mod fresh;
 mod journal;
+mod rays;
 mod strip;
 mod turning;
 

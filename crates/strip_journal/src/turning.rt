@@ -1,30 +1,15 @@
 ghost use Rattle.std.specs.Prelude.{◌≡◌, ◌+◌, ◌-◌, ◌<◌, ◌≤◌, true, false, All, Bool, Some, IsTrue, OnOk, OnErr, if◌then◌else◌, length, slice_get, slice_index};
 ghost use Rattle.edit_plan.specs.declared.edit.Edit.TheVariants.{Redo, Undo};
-ghost use Rattle.strip_marks.specs.Marks.{IsChangeOn};
-ghost use Rattle.strip_journal.specs.Entries.{HasNo, edit_at, possible_ahead, removed_ahead};
+ghost use Rattle.strip_journal.specs.Entries.{possible_ahead, removed_ahead};
 ghost use Rattle.strip_journal.specs.Journals.{IsAt, IsJournal, job_of};
-ghost use Rattle.strip_journal.specs.Steps.{AreRaysTurned, HasSameEdits, IsTurnedBy, IsTurnedFrom};
+ghost use Rattle.strip_journal.specs.Steps.{HasSameEdits, IsTurnedBy, IsTurnedFrom};
 
-use crate::applying::{give_all, take_all};
 use crate::entry::{Entry, Hits};
 use crate::journal::Journal;
+use crate::rays::turn_all;
 use edit_plan::Edit;
-use ray_words::WordRay;
-use strip_marks::WordChange;
 use strip_plan::Plan;
 use vf_io::NoMemory;
-
-/// Takes the points of the changes away, or gives them again. It takes no memory.
-fn turn_all(rays: &mut [WordRay], changes: &[WordChange], is_undo: bool)
-    requires { All (IsChangeOn rays.old) changes.now }
-    ensures { AreRaysTurned rays.old rays.new changes.now is_undo }
-{
-    if is_undo {
-        take_all(rays, changes);
-    } else {
-        give_all(rays, changes);
-    }
-}
 
 impl Journal {
     /// The totals from which an Undo of the edit of an entry, or a Redo, starts again.
