@@ -348,6 +348,7 @@ entered_held job p after number move changes counts h next turned =
       grid = h.grid;
       strip = h.strip;
       few = h.few;
+      named = h.named;
       within = let low = slice_get_within job.plan.edits p.done (Apply number) next.applies in omega (arith, low);
       line = entered_line job p number h next.applies;
       newest =

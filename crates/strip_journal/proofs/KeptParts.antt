@@ -3,6 +3,7 @@ use Rattle.std.proofs.Common.{◌≡◌, ℕ, ◌^◌, ◌<◌, ◌≤◌, All, 
 use Rattle.vf_spans.specs.Members.{has}
 use Rattle.ray_grid.specs.Ranges.{IsGrid}
 use Rattle.ray_grid.specs.Strips.{strips_of}
+use Rattle.edit_plan.specs.Edits.{AppliesBelow}
 use Rattle.edit_plan.specs.Limits.{most_edits}
 use Rattle.edit_lines.specs.Lines.{Line, line_at}
 use Rattle.job_model.specs.Points.{left_moves, strip_points, totals_over}
@@ -53,6 +54,7 @@ pub record IsHeld (job : Job) (p : Parts) : Type 0 where
   pub grid : IsGrid job.plan.grid
   pub strip : p.number < length (strips_of job.plan.grid)
   pub few : length job.plan.edits ≤ most_edits
+  pub named : All (AppliesBelow (length job.plan.moves)) job.plan.edits
   pub within : p.done ≤ length job.plan.edits
   pub line : ◌≡◌ {A = Line} (record { numbers = p.line; at = p.at }) (line_at job.plan.edits p.done)
   pub newest : AreSetsAt job p.number p.done p.rays
@@ -74,6 +76,7 @@ held_of job j h = record {
   grid = h.grid;
   strip = h.strip;
   few = h.few;
+  named = h.named;
   within = h.within;
   line = h.line;
   newest = record { rays = h.newest.rays; bodies = h.newest.bodies; sure = h.newest.sure; possible = h.newest.possible };
@@ -95,6 +98,7 @@ journal_of job j h = record {
   grid = h.grid;
   strip = h.strip;
   few = h.few;
+  named = h.named;
   within = h.within;
   line = h.line;
   newest = record { rays = h.newest.rays; bodies = h.newest.bodies; sure = h.newest.sure; possible = h.newest.possible };

@@ -61,6 +61,7 @@ same_held job p after same h = record {
   grid = h.grid;
   strip = h.strip;
   few = h.few;
+  named = h.named;
   within = h.within;
   line = h.line;
   newest = same_sets_at job p.number p.done p.rays after same h.newest;

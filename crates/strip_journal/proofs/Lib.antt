@@ -22,5 +22,11 @@ pub mod Unmoved
 pub mod LookBack
 pub mod FoundIs
 pub mod TurnedAt
+pub mod Places
+pub mod Searching
+pub mod TotalsFound
+pub mod LeftPlaces
+pub mod AddedFound
+pub mod Looked
 pub mod TurnedMore
 pub mod MarkedBy

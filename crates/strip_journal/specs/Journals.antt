@@ -3,6 +3,7 @@ use Rattle.std.specs.Prelude.{◌≡◌, ℕ, ◌+◌, ◌^◌, ◌<◌, ◌≤�
 use Rattle.vf_spans.specs.Members.{has}
 use Rattle.ray_grid.specs.Ranges.{IsGrid}
 use Rattle.ray_grid.specs.Strips.{strips_of}
+use Rattle.edit_plan.specs.Edits.{AppliesBelow}
 use Rattle.edit_plan.specs.Limits.{most_edits}
 use Rattle.edit_lines.specs.Lines.{Line, line_at, move_of}
 use Rattle.job_facts.specs.declared.counts.Counts.{Counts}
@@ -86,6 +87,7 @@ pub record IsJournal (job : Job) (j : Journal) : Type 0 where
   pub grid : IsGrid job.plan.grid
   pub strip : j.number < length (strips_of job.plan.grid)
   pub few : length job.plan.edits ≤ most_edits
+  pub named : All (AppliesBelow (length job.plan.moves)) job.plan.edits
   pub within : j.done ≤ length job.plan.edits
   pub line : line_of j ≡ line_at job.plan.edits j.done
   pub newest : AreRaysAt job j.number j.done j

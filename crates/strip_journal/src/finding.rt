@@ -1,12 +1,14 @@
-ghost use Rattle.std.specs.Prelude.{◌≡◌, ℕ, ◌+◌, ◌-◌, ◌<◌, ◌≤◌, All, if◌then◌else◌, not, MatchOption, length};
+ghost use Rattle.std.specs.Prelude.{◌≡◌, ℕ, ◌+◌, ◌-◌, ◌<◌, ◌≤◌, true, false, All, if◌then◌else◌, not, MatchOption, length, slice_index};
+ghost use Rattle.std.specs.List.Sorted.{IsPartitionPoint};
 ghost use Rattle.job_facts.specs.declared.totals.PointState.TheVariants.{Absent, Kept, Possible, Removed};
 ghost use Rattle.job_facts.specs.Counts.{AreWithin};
 ghost use Rattle.job_model.specs.Points.{left_moves, state_after, strip_points, totals_over};
-ghost use Rattle.strip_marks.specs.Marks.{AreInOrder, among, point_at, points_at, possible_of, sure_of};
+ghost use Rattle.strip_marks.specs.Marks.{AreInOrder, among, is_ahead, point_at, points_at, possible_of, sure_of};
 ghost use Rattle.strip_journal.specs.Entries.{AreAscending, HasNo, IsPlace, changes_of, counts_of_hits, edit_at, entry_at, possible_ahead, removed_ahead, was};
 ghost use Rattle.strip_journal.specs.Journals.{IsJournal, job_of};
+ghost use Rattle.strip_journal.specs.Looking.{at_word};
 ghost use Rattle.strip_journal.specs.Strips.{most_before};
-ghost use Rattle.strip_journal.specs.Found.{AddsEntry, AddsLeft, IsFoundBy};
+ghost use Rattle.strip_journal.specs.Found.{AddsEntry, AddsLeft, HasRoomAt, IsFoundBy};
 
 use crate::entry::Entry;
 use crate::journal::Journal;
@@ -24,6 +26,23 @@ pub fn place_of(entries: &[Entry], version: u32) -> usize
     entries.partition_point(|entry| entry.edit < version)
 }
 
+/// Whether a change stands ahead of a word of ray n.
+fn stands_ahead(change: &WordChange, n: u32, word: u32) -> bool
+    ensures { result ≡ is_ahead change.now (at_word n word) }
+{
+    change.ray < n || (change.ray == n && change.word < word)
+}
+
+/// The place of the first change at or behind a word of ray n.
+fn place_at(changes: &[WordChange], n: u32, word: u32) -> usize
+    requires { AreInOrder changes.now }
+    ensures within { result ≤ length changes.now }
+    ensures parted { IsPartitionPoint (λ change. is_ahead change (at_word n word) ≡ true)
+        (λ change. is_ahead change (at_word n word) ≡ false) changes.now result }
+{
+    changes.partition_point(|change| stands_ahead(change, n, word))
+}
+
 /// Whether the changes make index l of ray n sure, and possible.
 pub fn changed_at(changes: &[WordChange], n: u32, l: u32) -> (bool, bool)
     requires { AreInOrder changes.now }
@@ -31,9 +50,7 @@ pub fn changed_at(changes: &[WordChange], n: u32, l: u32) -> (bool, bool)
     ensures possible { result.1 ≡ among possible_of changes.now n l }
 {
     let word = l / 64;
-    let place = changes.partition_point(|change| {
-        change.ray < n || (change.ray == n && change.word < word)
-    });
+    let place = place_at(changes, n, word);
     if place >= changes.len() {
         return (false, false);
     }
@@ -196,19 +213,28 @@ impl Journal {
         state_of(ray.has_stock(l), marks.0, marks.1)
     }
 
-    /// Adds what the edit of the entry at a place found to the counts of its move, if that is left.
+    /// The place of an edit among those that are left, if it is one of them.
+    fn left_of(&self, edit: u32) -> Option<usize>
+        requires { IsJournal (job_of self.now) self.now }
+        ensures { MatchOption result ((k : ℕ) → k < self.now.at → slice_index self.now.line.items k ≡ edit → ⊥)
+            (λ k. (k < self.now.at) × (slice_index self.now.line.items k ≡ edit)) }
+    {
+        let left = &self.line.as_slice()[..self.at as usize];
+        left.binary_search(&edit).ok()
+    }
+
+    /// Adds what the edit of the entry at a place found to the count of its move, if that is left.
     fn add_entry(&self, place: usize, counts: &mut [Counts])
         requires journal { IsJournal (job_of self.now) self.now }
         requires place { place < length self.now.entries.items }
         requires many { length counts.old ≡ self.now.at }
-        requires room { All (AreWithin most_before) counts.old }
+        requires room { HasRoomAt self.now place counts.old }
         ensures { AddsEntry self.now place counts.old counts.new }
     {
         let edit = self.entries[place].edit;
-        let left = &self.line.as_slice()[..self.at as usize];
-        let j = left.partition_point(|number| *number < edit);
-        if j < left.len() && left[j] == edit {
-            counts[j] = counts[j].plus(&self.counts_at(place));
+        if let Some(k) = self.left_of(edit) {
+            let found = self.counts_at(place);
+            counts[k] = counts[k].plus(&found);
         }
     }
 

@@ -1,0 +1,110 @@
+-- Looking back by what is read of the rays and of the entries.
+use Rattle.std.proofs.Common.{◌≡◌, ℕ, ◌+◌, ◌-◌, ◌<◌, ◌≤◌, Bool, not, if◌then◌else◌, List, length, slice_index_or, arith, sym, ap, ◌∙◌, subst}
+use Rattle.std.proofs.lemmas.List.{get_or_default}
+use Rattle.vf_spans.specs.Members.{has}
+use Rattle.job_facts.specs.declared.totals.PointState.{PointState}
+use Rattle.job_facts.specs.declared.totals.PointState.TheVariants.{Absent, Kept, Possible, Removed}
+use Rattle.job_model.specs.Points.{left_moves, state_after}
+use Rattle.ray_words.specs.Rays.{KeptSets}
+use Rattle.strip_marks.specs.Marks.{AreInOrder, among, kept_of, point_at, points_at, possible_of, sure_of}
+use Rattle.strip_journal.specs.declared.entry.Entry.{Entry}
+use Rattle.strip_journal.specs.declared.journal.Journal.{Journal}
+use Rattle.strip_journal.specs.Entries.{changes_of, edit_at, entry_at, no_entry, was}
+use Rattle.strip_journal.specs.Journals.{IsJournal, job_of}
+use Rattle.strip_journal.specs.Looking.{IsLookingBack}
+use Rattle.strip_journal.proofs.LookBack.{looked_back, looked_cost, looked_state, looking_start, looking_step}
+
+-- the ray and the entry that are read
+ray_read : (rays : List KeptSets) (n : ℕ) (ray : KeptSets) → n < length rays → ray ≡ slice_index_or rays n ray → ray ≡ kept_of rays n
+ray_read rays n ray low is = is ∙ get_or_default rays n ray _ low
+
+pub entry_read : (entries : List Entry) (place : ℕ) (entry : Entry) → place < length entries → entry ≡ slice_index_or entries place entry
+    → entry ≡ entry_at entries place
+entry_read entries place entry low is = is ∙ get_or_default entries place entry no_entry low
+
+-- the walk begins past the last entry
+pub look_begins : (j : Journal) (version n l place : ℕ) (ray : KeptSets) (sure possible : Bool) → IsJournal (job_of j) j → version ≤ j.done
+    → n < length j.rays.items → l < points_at j.plan.value.grid j.number n → ray ≡ slice_index_or j.rays.items n ray
+    → place ≡ length j.entries.items → sure ≡ has ray.sets.sure l → possible ≡ has ray.sets.possible l
+    → IsLookingBack j version n l place (sure, possible)
+look_begins j version n l place ray sure possible h within low point read past first second =
+    let is = ray_read j.rays.items n ray low read in
+    let start = looking_start j version n l h within low point in
+    subst (λ (p : ℕ). IsLookingBack j version n l p (sure, possible)) (sym past)
+    record {
+      within = start.within;
+      above = start.above;
+      sure = first ∙ ap (λ (r : KeptSets). has r.sets.sure l) is ∙ start.sure;
+      possible = second ∙ ap (λ (r : KeptSets). has r.sets.possible l) is ∙ start.possible;
+    }
+
+-- what is needed to look back from an entry
+pub record IsEntryOf (j : Journal) (entry : Entry) : Type 0 where
+  pub order : entry.from ≤ entry.to
+  pub within : entry.to ≤ length j.changes.items
+  pub sorted : AreInOrder (changes_of j.changes.items entry)
+
+pub entry_of_journal : (j : Journal) (place : ℕ) (entry : Entry) → IsJournal (job_of j) j → place < length j.entries.items
+    → entry ≡ slice_index_or j.entries.items place entry → IsEntryOf j entry
+entry_of_journal j place entry h low read =
+    subst (λ (e : Entry). IsEntryOf j e) (sym (entry_read j.entries.items place entry low read))
+    record { order = h.kept.order place low; within = h.kept.within place low; sorted = h.sorted place low }
+
+-- it goes one entry back
+pub look_goes_on : (j : Journal) (version n l place : ℕ) (entry tested : Entry) (marks next : Bool × Bool) → IsJournal (job_of j) j
+    → n < length j.rays.items → l < points_at j.plan.value.grid j.number n → 0 < place
+    → entry ≡ slice_index_or j.entries.items (place - 1) entry → tested ≡ slice_index_or j.entries.items (place - 1) tested
+    → version ≤ tested.edit
+    → next.0 ≡ was entry.is_undo (among sure_of (changes_of j.changes.items entry) n l) marks.0
+    → next.1 ≡ was entry.is_undo (among possible_of (changes_of j.changes.items entry) n l) marks.1
+    → IsLookingBack j version n l place marks → IsLookingBack j version n l (place - 1) next
+look_goes_on j version n l place entry tested marks next h low point some read test from first second looking =
+    let few : place - 1 < length j.entries.items = let within = looking.within in omega (arith, within, some) in
+    let is = entry_read j.entries.items (place - 1) entry few read in
+    let same = ap (λ (e : Entry). e.edit) (entry_read j.entries.items (place - 1) tested few test) in
+    let here : place ≡ place - 1 + 1 = omega (arith, some) in
+    let step =
+    looking_step j version n l (place - 1) marks h low point few (omega (arith, from, same))
+    (subst (λ (p : ℕ). IsLookingBack j version n l p marks) here looking) in
+    record {
+      within = step.within;
+      above = step.above;
+      sure = first ∙ ap (λ (e : Entry). was e.is_undo (among sure_of (changes_of j.changes.items e) n l) marks.0) is ∙ step.sure;
+      possible =
+          second
+          ∙ ap (λ (e : Entry). was e.is_undo (among possible_of (changes_of j.changes.items e) n l) marks.1) is
+          ∙ step.possible;
+    }
+
+-- it took a step for each entry that it went back
+pub look_cost_on : (old steps size place : ℕ) → 0 < place → place ≤ size → steps ≤ old + (size - place)
+    → steps + 1 ≤ old + (size - (place - 1))
+look_cost_on old steps size place some within cost = omega arith
+
+-- the entry ahead is of an edit ahead of the version, if the one that was read is
+pub ahead_read : (entries : List Entry) (version place : ℕ) (tested : Entry) → 0 < place → place ≤ length entries
+    → tested ≡ slice_index_or entries (place - 1) tested → tested.edit < version → edit_at entries (place - 1) < version
+ahead_read entries version place tested some within read below =
+    let same = ap (λ (e : Entry). e.edit) (entry_read entries (place - 1) tested (omega (arith, some, within)) read) in
+    omega (arith, same, below)
+
+-- it ends with the state at the version
+pub look_ends : (j : Journal) (version n l place : ℕ) (ray : KeptSets) (stock : Bool) (marks : Bool × Bool) (told : PointState)
+    → IsJournal (job_of j) j → n < length j.rays.items → l < points_at j.plan.value.grid j.number n
+    → ray ≡ slice_index_or j.rays.items n ray
+    → stock ≡ has ray.sets.stock l
+    → told ≡ (if not stock then Absent else (if marks.0 then Removed else (if marks.1 then Possible else Kept)))
+    → (0 < place → edit_at j.entries.items (place - 1) < version)
+    → IsLookingBack j version n l place marks
+    → told ≡ state_after (job_of j) (left_moves j.plan.value version) (point_at j.plan.value.grid j.number n l)
+look_ends j version n l place ray stock marks told h low point read is tells last looking =
+    tells
+    ∙ ap (λ (b : Bool). if not b then Absent else (if marks.0 then Removed else (if marks.1 then Possible else Kept)))
+    (is ∙ ap (λ (r : KeptSets). has r.sets.stock l) (ray_read j.rays.items n ray low read))
+    ∙ looked_state j version n l marks h low point (looked_back j version n l place marks h low point last looking)
+
+-- so it took no more steps than edits were done since the version
+pub look_cost : (j : Journal) (version n l place old steps : ℕ) (marks : Bool × Bool) → IsJournal (job_of j) j
+    → IsLookingBack j version n l place marks → steps ≤ old + (length j.entries.items - place) → steps ≤ old + (j.done - version)
+look_cost j version n l place old steps marks h looking cost =
+    let most = looked_cost j version place h looking.within looking.above in omega (arith, most, cost)
