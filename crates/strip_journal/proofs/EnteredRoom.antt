@@ -90,7 +90,7 @@ pub record CanStand (k : Journal) : Type 0 where
   pub few : length k.line.items ≤ most_edits
   pub next : k.done < most_edits
 
-stands_so : (j : Journal) → IsJournal (job_of j) j → j.done < length (job_of j).plan.edits → CanStand j
+pub stands_so : (j : Journal) → IsJournal (job_of j) j → j.done < length (job_of j).plan.edits → CanStand j
 stands_so j h low =
     let edits = (job_of j).plan.edits in
     let short : length j.line.items ≤ j.done = subst (λ (l : Line). length l.numbers ≤ j.done) (sym h.line) (line_short edits j.done) in

@@ -30,3 +30,4 @@ pub mod AddedFound
 pub mod Looked
 pub mod TurnedMore
 pub mod MarkedBy
+pub mod MovedAt

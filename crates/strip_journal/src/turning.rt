@@ -1,15 +1,33 @@
-ghost use Rattle.std.specs.Prelude.{◌≡◌, ◌+◌, ◌-◌, ◌<◌, ◌≤◌, true, false, All, Bool, Some, IsTrue, OnOk, OnErr, if◌then◌else◌, length, slice_get, slice_index};
+ghost use Rattle.std.specs.Prelude.{◌≡◌, ◌+◌, ◌-◌, ◌<◌, ◌≤◌, true, false, All, Some, OnOk, OnErr, if◌then◌else◌, length, slice_get};
 ghost use Rattle.edit_plan.specs.declared.edit.Edit.TheVariants.{Redo, Undo};
-ghost use Rattle.strip_journal.specs.Entries.{possible_ahead, removed_ahead};
+ghost use Rattle.edit_plan.specs.Limits.{most_edits};
+ghost use Rattle.strip_marks.specs.Marks.{IsChangeOn};
+ghost use Rattle.strip_journal.specs.Entries.{changes_of, possible_ahead, removed_ahead};
 ghost use Rattle.strip_journal.specs.Journals.{IsAt, IsJournal, job_of};
-ghost use Rattle.strip_journal.specs.Steps.{HasSameEdits, IsTurnedBy, IsTurnedFrom};
+ghost use Rattle.strip_journal.specs.Steps.{AreRaysTurned, HasSameEdits, HasSameLine, IsMovedTo, IsTurnedBy, IsTurnedFrom};
 
 use crate::entry::{Entry, Hits};
 use crate::journal::Journal;
 use crate::rays::turn_all;
 use edit_plan::Edit;
+use ray_words::WordRay;
+use strip_marks::WordChange;
 use strip_plan::Plan;
 use vf_io::NoMemory;
+
+/// Takes the points of an entry's changes away, or gives them again. It takes no memory.
+fn turn_changes(rays: &mut Vec<WordRay>, changes: &[WordChange], entry: &Entry, is_undo: bool)
+    requires order { entry.now.from ≤ entry.now.to }
+    requires within { entry.now.to ≤ length changes.now }
+    requires on { All (IsChangeOn rays.old.items) changes.now }
+    ensures { AreRaysTurned rays.old.items rays.new.items (changes_of changes.now entry.now) is_undo }
+{
+    turn_all(
+        rays.as_mut_slice(),
+        &changes[entry.from as usize..entry.to as usize],
+        is_undo,
+    );
+}
 
 impl Journal {
     /// The totals from which an Undo of the edit of an entry, or a Redo, starts again.
@@ -32,15 +50,17 @@ impl Journal {
         requires journal { IsJournal (job_of self.old) self.old }
         requires place { place < length self.old.entries.items }
         ensures ok { OnOk result (IsTurnedBy self.old self.new place is_undo) }
+        ensures line { HasSameLine self.old self.new }
         ensures edits { OnErr result (HasSameEdits self.old self.new) }
         ensures rays { OnErr result (self.new.rays.items ≡ self.old.rays.items) }
     {
         self.entries.reserve(1)?;
         let (removed, possible) = self.totals_again(place, is_undo);
         let source = self.entries[place];
-        turn_all(
-            self.rays.as_mut_slice(),
-            &self.changes.as_slice()[source.from as usize..source.to as usize],
+        turn_changes(
+            &mut self.rays,
+            self.changes.as_slice(),
+            &source,
             is_undo,
         );
         let _noted = self.entries.push(Entry {
@@ -59,6 +79,7 @@ impl Journal {
     fn turn(&mut self, source: u32, is_undo: bool) -> Result<(), NoMemory>
         requires journal { IsJournal (job_of self.old) self.old }
         ensures ok { OnOk result (IsTurnedFrom self.old self.new source is_undo) }
+        ensures line { HasSameLine self.old self.new }
         ensures edits { OnErr result (HasSameEdits self.old self.new) }
         ensures rays { OnErr result (self.new.rays.items ≡ self.old.rays.items) }
     {
@@ -68,6 +89,15 @@ impl Journal {
         }
     }
 
+    /// Stands at another place of the line, one edit on.
+    fn move_to(&mut self, at: u32)
+        requires { self.old.done < most_edits }
+        ensures { IsMovedTo self.old self.new at (self.old.done + 1) }
+    {
+        self.at = at;
+        self.done += 1;
+    }
+
     /// Takes back the last move that is left, if one is.
     pub fn undo(&mut self) -> Result<(), NoMemory>
         requires journal { IsJournal (job_of self.old) self.old }
@@ -75,12 +105,14 @@ impl Journal {
         ensures ok { OnOk result (IsAt self.old self.new (self.old.done + 1)) }
         ensures unchanged { OnErr result (IsAt self.old self.new self.old.done) }
     {
-        if self.at > 0 {
-            let source = self.line[self.at as usize - 1];
-            self.turn(source, true)?;
-            self.at -= 1;
+        let at = self.at;
+        if at == 0 {
+            self.move_to(at);
+            return Ok(());
         }
-        self.done += 1;
+        let source = self.line[at as usize - 1];
+        self.turn(source, true)?;
+        self.move_to(at - 1);
         Ok(())
     }
 
@@ -91,12 +123,14 @@ impl Journal {
         ensures ok { OnOk result (IsAt self.old self.new (self.old.done + 1)) }
         ensures unchanged { OnErr result (IsAt self.old self.new self.old.done) }
     {
-        if (self.at as usize) < self.line.len() {
-            let source = self.line[self.at as usize];
-            self.turn(source, false)?;
-            self.at += 1;
+        let at = self.at;
+        if at as usize >= self.line.len() {
+            self.move_to(at);
+            return Ok(());
         }
-        self.done += 1;
+        let source = self.line[at as usize];
+        self.turn(source, false)?;
+        self.move_to(at + 1);
         Ok(())
     }
 

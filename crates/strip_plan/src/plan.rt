@@ -99,6 +99,7 @@ impl Plan {
     pub fn edits(&self) -> u32
         ensures count { result ≡ length self.now.edits }
         ensures few { result ≤ most_edits }
+        ensures named { All (AppliesBelow (length self.now.moves)) self.now.edits }
     {
         self.edits.len() as u32
     }
