@@ -15,3 +15,8 @@ pub mod Unmoved
 pub mod LookBack
 pub mod FoundIs
 pub mod TurnedAt
+pub mod ToldFound
+pub mod ToldStates
+pub mod FreshRays
+pub mod FreshJournal
+pub mod ToldNext

@@ -1,0 +1,140 @@
+-- A journal that no edit has changed.
+use Rattle.std.proofs.Common.{◌≡◌, false, true, ℕ, zero, suc, ◌+◌, ◌*◌, ◌^◌, ◌<◌, ◌≤◌, Bool, All, List, [], ◌∷◌, length, get_or, slice_index_or, count_by, arith, refl, sym, ap, ap₂, ◌∙◌, subst}
+use Rattle.std.specs.List.{flat_map, range_with_len, sum_by}
+use Rattle.std.proofs.lemmas.List.Sums.{sum_by-cons}
+use Rattle.vf_spans.specs.Members.{count_of, has}
+use Rattle.vf_spans.proofs.WordCounts.{count_of_flags, count_small}
+use Rattle.dexel_rays.proofs.WordOnes.{below_same}
+use Rattle.ray_grid.specs.Grids.{GridSize}
+use Rattle.ray_grid.specs.declared.ray.Ray.{Ray}
+use Rattle.ray_grid.specs.Lattice.{points_of}
+use Rattle.ray_grid.specs.Points.{LatticePoint, points_on}
+use Rattle.ray_grid.specs.Ranges.{IsGrid}
+use Rattle.ray_grid.specs.Strips.{strip_at, strips_of}
+use Rattle.ray_shapes.specs.declared.solid.Solid.{Solid}
+use Rattle.edit_plan.specs.Limits.{most_edits}
+use Rattle.job_model.specs.Points.{is_stock, left_moves, point_in, strip_points, totals_over}
+use Rattle.job_model.specs.Tasks.{IsPlan, Job}
+use Rattle.job_model.proofs.Sums.{count_append, count_map}
+use Rattle.ray_words.specs.Rays.{KeptSets}
+use Rattle.strip_marks.specs.Marks.{kept_of, ray_of, sets_of}
+use Rattle.strip_journal.specs.declared.journal.Journal.{Journal}
+use Rattle.strip_journal.specs.Fresh.{AreFreshRays, IsFreshRay, stock_points}
+use Rattle.strip_journal.specs.Journals.{HasBodies, IsJournal, job_of}
+use Rattle.strip_journal.proofs.FreshRays.{no_ray, no_sets}
+use Rattle.strip_journal.proofs.KeptParts.{AreSetsAt, IsHeld, Parts, journal_by, parts_of}
+
+-- where each ray has as many stock indices as the test has points on it, all together have as many
+stock_sum : (grid : GridSize) (test : LatticePoint → Bool) (rays : List Ray) (kept : List KeptSets) → length kept ≡ length rays
+    → ((n : ℕ) → n < length rays → count_of (get_or kept n no_sets).sets.stock ≡ count_by test (points_on grid (get_or rays n no_ray)))
+    → stock_points kept ≡ count_by test (flat_map (points_on grid) rays)
+stock_sum grid test [] [] many each = refl
+stock_sum grid test [] (k ∷ kept) many each = absurd (omega (arith, many))
+stock_sum grid test (ray ∷ rays) [] many each = absurd (omega (arith, many))
+stock_sum grid test (ray ∷ rays) (k ∷ kept) many each =
+    sum_by-cons (λ r. count_of r.sets.stock) k kept
+    ∙ ap₂ (λ m n. m + n) (each 0 (omega arith)) (stock_sum grid test rays kept (omega (arith, many)) (λ n low. each (suc n) (omega (arith, low))))
+    ∙ sym (count_append test (points_on grid ray) (flat_map (points_on grid) rays))
+
+-- the stock indices of a fresh ray are its points that are stock
+ray_stock : (job : Job) (ray : Ray) (kept : KeptSets) → IsFreshRay job.plan.grid ray job.stock job.part job.fixture kept
+    → count_of kept.sets.stock ≡ count_by (is_stock job) (points_on job.plan.grid ray)
+ray_stock job ray kept fresh =
+    let grid = job.plan.grid in
+    let size = points_of grid ray.family in
+    count_of_flags kept.sets.stock
+    ∙ ap (λ n. count_by (has kept.sets.stock) (range_with_len 0 n)) fresh.bound.stock
+    ∙ below_same size (has kept.sets.stock) (λ l. is_stock job (point_in grid ray l)) fresh.stock_is
+    ∙ sym (count_map (is_stock job) (point_in grid ray) (range_with_len 0 size))
+
+-- the rays of a strip before the first edit
+abbrev pub AreFirstRays : Job → ℕ → List KeptSets → Type 0
+AreFirstRays job strip kept =
+    AreFreshRays job.plan.grid strip (length (strip_at job.plan.grid strip)) job.stock job.part job.fixture kept
+
+first_stock : (job : Job) (strip : ℕ) (kept : List KeptSets) → AreFirstRays job strip kept
+    → stock_points kept ≡ (totals_over job (strip_points job.plan.grid strip) (left_moves job.plan 0)).of
+first_stock job strip kept fresh =
+    stock_sum job.plan.grid (is_stock job) (strip_at job.plan.grid strip) kept fresh.many
+    (λ n low. ray_stock job (ray_of job.plan.grid strip n) (kept_of kept n) (fresh.each n low))
+
+-- no index of it is sure, and none possible
+never : (b : Bool) → b ≡ false → b ≡ true → ⊥
+never b no yes = cc
+
+first_sets : (job : Job) (strip : ℕ) (kept : List KeptSets) → AreFirstRays job strip kept → AreSetsAt job strip 0 kept
+first_sets job strip kept fresh =
+    let one : (n : ℕ) → n < length kept
+    → IsFreshRay job.plan.grid (ray_of job.plan.grid strip n) job.stock job.part job.fixture (kept_of kept n) =
+    λ n low. fresh.each n (omega (arith, low, fresh.many)) in
+    record {
+      rays = record {
+        many = fresh.many;
+        bounds = λ n low. (one n low).bound;
+        possible = λ n l low sure. absurd (never _ ((one n low).sure l) sure);
+      };
+      bodies = λ n low. record { stock = (one n low).stock_is; part = (one n low).part_is; fixture = (one n low).fixture_is };
+      sure = λ n l low at. (one n low).sure l;
+      possible = λ n l low at. (one n low).possible l;
+    }
+
+-- what a journal holds before the first edit
+abbrev pub first_parts : ℕ → ℕ → List KeptSets → Parts
+first_parts number of rays = record {
+  number = number;
+  of = of;
+  rays = rays;
+  changes = [];
+  entries = [];
+  line = [];
+  at = 0;
+  done = 0;
+}
+
+first_held : (job : Job) (number : ℕ) (kept : List KeptSets) → IsPlan job.plan → IsGrid job.plan.grid
+    → number < length (strips_of job.plan.grid) → length job.plan.edits ≤ most_edits → AreFirstRays job number kept
+    → IsHeld job (first_parts number (stock_points kept) kept)
+first_held job number kept valid grid strip few fresh = record {
+  valid = valid;
+  grid = grid;
+  strip = strip;
+  few = few;
+  within = omega arith;
+  line = refl;
+  newest = first_sets job number kept fresh;
+  of = first_stock job number kept fresh;
+  kept = record {
+    ascend = record { each = λ i k before low. absurd (omega (arith, low)) };
+    early = λ i low. absurd (omega (arith, low));
+    order = λ i low. absurd (omega (arith, low));
+    within = λ i low. absurd (omega (arith, low));
+  };
+  sorted = λ i low. absurd (omega (arith, low));
+  on = tt;
+  few_changes = omega arith;
+  tracked_sure = record {
+    turned = λ i n l low. absurd (omega (arith, low));
+    steady = λ v n l low. absurd (omega (arith, low));
+  };
+  tracked_possible = record {
+    turned = λ i n l low. absurd (omega (arith, low));
+    steady = λ v n l low. absurd (omega (arith, low));
+  };
+  totals = record {
+    removed = λ i low. absurd (omega (arith, low));
+    possible = λ i low. absurd (omega (arith, low));
+  };
+  found = record {
+    applies = λ k i low. absurd (omega (arith, low));
+    hits = λ k i move low. absurd (omega (arith, low));
+    none = λ k move low. absurd (omega (arith, low));
+  };
+}
+
+-- so a journal that holds these is one of its job
+pub first_journal : (j : Journal) (job : Job) (number : ℕ) (kept : List KeptSets) → job_of j ≡ job
+    → parts_of j ≡ first_parts number (stock_points kept) kept → IsPlan job.plan → IsGrid job.plan.grid
+    → number < length (strips_of job.plan.grid) → length job.plan.edits ≤ most_edits → AreFirstRays job number kept
+    → IsJournal (job_of j) j
+first_journal j job number kept is holds valid grid strip few fresh =
+    journal_by job j (first_parts number (stock_points kept) kept) is holds (first_held job number kept valid grid strip few fresh)
