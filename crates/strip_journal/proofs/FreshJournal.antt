@@ -14,7 +14,7 @@ use Rattle.ray_grid.specs.Strips.{strip_at, strips_of}
 use Rattle.ray_shapes.specs.declared.solid.Solid.{Solid}
 use Rattle.edit_plan.specs.Limits.{most_edits}
 use Rattle.job_model.specs.Points.{is_stock, left_moves, point_in, strip_points, totals_over}
-use Rattle.job_model.specs.Tasks.{IsPlan, Job}
+use Rattle.job_model.specs.Tasks.{IsPlan, Job, PlanOf}
 use Rattle.job_model.proofs.Sums.{count_append, count_map}
 use Rattle.ray_words.specs.Rays.{KeptSets}
 use Rattle.strip_marks.specs.Marks.{kept_of, ray_of, sets_of}
@@ -60,7 +60,7 @@ first_stock job strip kept fresh =
 
 -- no index of it is sure, and none possible
 never : (b : Bool) → b ≡ false → b ≡ true → ⊥
-never b no yes = cc
+never b off on = cc
 
 first_sets : (job : Job) (strip : ℕ) (kept : List KeptSets) → AreFirstRays job strip kept → AreSetsAt job strip 0 kept
 first_sets job strip kept fresh =
@@ -110,7 +110,7 @@ first_held job number kept valid grid strip few fresh = record {
     within = λ i low. absurd (omega (arith, low));
   };
   sorted = λ i low. absurd (omega (arith, low));
-  on = tt;
+  on = λ k d low. absurd (omega (arith, low));
   few_changes = omega arith;
   tracked_sure = record {
     turned = λ i n l low. absurd (omega (arith, low));
@@ -131,10 +131,46 @@ first_held job number kept valid grid strip few fresh = record {
   };
 }
 
--- so a journal that holds these is one of its job
-pub first_journal : (j : Journal) (job : Job) (number : ℕ) (kept : List KeptSets) → job_of j ≡ job
-    → parts_of j ≡ first_parts number (stock_points kept) kept → IsPlan job.plan → IsGrid job.plan.grid
-    → number < length (strips_of job.plan.grid) → length job.plan.edits ≤ most_edits → AreFirstRays job number kept
-    → IsJournal (job_of j) j
-first_journal j job number kept is holds valid grid strip few fresh =
-    journal_by job j (first_parts number (stock_points kept) kept) is holds (first_held job number kept valid grid strip few fresh)
+-- the job of a journal by what it is made of
+job_made : (j : Journal) (plan : PlanOf) (stock part fixture : Solid) → j.plan.value ≡ plan → j.stock.value ≡ stock
+    → j.part.value ≡ part → j.fixture.value ≡ fixture → job_of j ≡ record { plan = plan; stock = stock; part = part; fixture = fixture }
+job_made j plan stock part fixture p s q f = λ i. record { plan = p i; stock = s i; part = q i; fixture = f i }
+
+-- a journal that keeps nothing of edits
+pub record IsUnedited (j : Journal) : Type 0 where
+  pub of : j.of ≡ stock_points j.rays.items
+  pub changes : j.changes.items ≡ []
+  pub entries : j.entries.items ≡ []
+  pub line : j.line.items ≡ []
+  pub at : j.at ≡ 0
+  pub done : j.done ≡ 0
+
+parts_made : (j : Journal) → IsUnedited j → parts_of j ≡ first_parts j.number (stock_points j.rays.items) j.rays.items
+parts_made j is = λ i. record {
+  number = j.number;
+  of = is.of i;
+  rays = j.rays.items;
+  changes = is.changes i;
+  entries = is.entries i;
+  line = is.line i;
+  at = is.at i;
+  done = is.done i;
+}
+
+-- the fresh rays of a grid are those of an equal one
+pub first_on : (grid other : GridSize) (strip : ℕ) (stock part fixture : Solid) (rays : List KeptSets) → other ≡ grid
+    → AreFreshRays other strip (length (strip_at other strip)) stock part fixture rays
+    → AreFreshRays grid strip (length (strip_at grid strip)) stock part fixture rays
+first_on grid other strip stock part fixture rays same fresh =
+    subst (λ (g : GridSize). AreFreshRays g strip (length (strip_at g strip)) stock part fixture rays) same fresh
+
+-- so one with fresh rays is a journal of its job
+pub first_journal : (j : Journal) (plan : PlanOf) (stock part fixture : Solid) → j.plan.value ≡ plan → j.stock.value ≡ stock
+    → j.part.value ≡ part → j.fixture.value ≡ fixture → IsPlan plan → IsGrid plan.grid → j.number < length (strips_of plan.grid)
+    → length plan.edits ≤ most_edits
+    → AreFreshRays plan.grid j.number (length (strip_at plan.grid j.number)) stock part fixture j.rays.items
+    → IsUnedited j → IsJournal (job_of j) j
+first_journal j plan stock part fixture p s q f valid grid strip few fresh unedited =
+    let job : Job = record { plan = plan; stock = stock; part = part; fixture = fixture } in
+    journal_by job j (first_parts j.number (stock_points j.rays.items) j.rays.items) (job_made j plan stock part fixture p s q f)
+    (parts_made j unedited) (first_held job j.number j.rays.items valid grid strip few fresh)
