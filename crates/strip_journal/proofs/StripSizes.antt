@@ -58,7 +58,7 @@ points_few grid strip is among =
     let each = sum_by-le (λ ray. length (points_on grid ray)) 400000 rays (λ n d lt. one (get_or rays n d)) in
     let most = mul-le-mul_right 400000 few in
     omega (arith, all, each, most)
-  where
+    where
     one : (ray : Ray) → length (points_on grid ray) ≤ 400000
     one ray = rw (length-map-range_with_len (point_in grid ray) 0 (points_of grid ray.family)) (family_few grid ray.family is)
 

@@ -37,7 +37,7 @@ pub record IsTracked (of : ℕ → ℕ → ℕ → Bool) (pick : WordChange → 
     (entries : List Entry) (done : ℕ) : Type 0 where
   pub turned : (i n l : ℕ) → i < length entries → n < rays → l < points n
       → IsTurned (entry_at entries i).is_undo (of (edit_at entries i) n l) (of (edit_at entries i + 1) n l)
-      (among pick (changes_of changes (entry_at entries i)) n l)
+        (among pick (changes_of changes (entry_at entries i)) n l)
   pub steady : (v n l : ℕ) → v < done → HasNo entries v → n < rays → l < points n → of v n l ≡ of (v + 1) n l
 
 -- what a move finds on a strip by the moves that are left at a version
