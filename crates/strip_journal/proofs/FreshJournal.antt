@@ -1,11 +1,12 @@
 -- A journal that no edit has changed.
-use Rattle.std.proofs.Common.{◌≡◌, false, true, ℕ, zero, suc, ◌+◌, ◌*◌, ◌^◌, ◌<◌, ◌≤◌, Bool, All, List, [], ◌∷◌, length, get_or, slice_index_or, count_by, arith, refl, sym, ap, ap₂, ◌∙◌, subst}
-use Rattle.std.specs.List.{flat_map, range_with_len, sum_by}
+use Rattle.std.proofs.Common.{◌≡◌, false, true, ℕ, suc, ◌+◌, ◌<◌, ◌≤◌, Bool, List, [], ◌∷◌, length, get_or, count_by, arith, refl, sym, ap, ap₂, ◌∙◌, subst}
+use Rattle.std.specs.List.{flat_map, range_with_len}
 use Rattle.std.proofs.lemmas.List.Sums.{sum_by-cons}
 use Rattle.vf_spans.specs.Members.{count_of, has}
-use Rattle.vf_spans.proofs.WordCounts.{count_of_flags, count_small}
+use Rattle.vf_spans.proofs.WordCounts.{count_of_flags}
 use Rattle.dexel_rays.proofs.WordOnes.{below_same}
 use Rattle.ray_grid.specs.Grids.{GridSize}
+use Rattle.ray_grid.specs.declared.ray.Family.TheVariants.{X}
 use Rattle.ray_grid.specs.declared.ray.Ray.{Ray}
 use Rattle.ray_grid.specs.Lattice.{points_of}
 use Rattle.ray_grid.specs.Points.{LatticePoint, points_on}
@@ -17,12 +18,16 @@ use Rattle.job_model.specs.Points.{is_stock, left_moves, point_in, strip_points,
 use Rattle.job_model.specs.Tasks.{IsPlan, Job, PlanOf}
 use Rattle.job_model.proofs.Sums.{count_append, count_map}
 use Rattle.ray_words.specs.Rays.{KeptSets}
-use Rattle.strip_marks.specs.Marks.{kept_of, ray_of, sets_of}
+use Rattle.strip_marks.specs.Marks.{kept_of, ray_of}
+use Rattle.strip_marks.proofs.MoreRays.{no_sets}
 use Rattle.strip_journal.specs.declared.journal.Journal.{Journal}
 use Rattle.strip_journal.specs.Fresh.{AreFreshRays, IsFreshRay, stock_points}
-use Rattle.strip_journal.specs.Journals.{HasBodies, IsJournal, job_of}
-use Rattle.strip_journal.proofs.FreshRays.{no_ray, no_sets}
+use Rattle.strip_journal.specs.Journals.{IsJournal, job_of}
 use Rattle.strip_journal.proofs.KeptParts.{AreSetsAt, IsHeld, Parts, journal_by, parts_of}
+
+-- what is read past the end of a strip's rays
+abbrev no_ray : Ray
+no_ray = record { family = X; i = 0; j = 0 }
 
 -- where each ray has as many stock indices as the test has points on it, all together have as many
 stock_sum : (grid : GridSize) (test : LatticePoint → Bool) (rays : List Ray) (kept : List KeptSets) → length kept ≡ length rays
@@ -33,7 +38,8 @@ stock_sum grid test [] (k ∷ kept) many each = absurd (omega (arith, many))
 stock_sum grid test (ray ∷ rays) [] many each = absurd (omega (arith, many))
 stock_sum grid test (ray ∷ rays) (k ∷ kept) many each =
     sum_by-cons (λ r. count_of r.sets.stock) k kept
-    ∙ ap₂ (λ m n. m + n) (each 0 (omega arith)) (stock_sum grid test rays kept (omega (arith, many)) (λ n low. each (suc n) (omega (arith, low))))
+    ∙ ap₂ (λ m n. m + n) (each 0 (omega arith))
+    (stock_sum grid test rays kept (omega (arith, many)) (λ n low. each (suc n) (omega (arith, low))))
     ∙ sym (count_append test (points_on grid ray) (flat_map (points_on grid) rays))
 
 -- the stock indices of a fresh ray are its points that are stock

@@ -1,49 +1,33 @@
 -- The fresh rays of a strip, one by one.
-use Rattle.std.proofs.Common.{◌≡◌, ◌≢◌, ℕ, ◌+◌, ◌*◌, ◌^◌, ◌<◌, ◌≤◌, Bool, List, [], ◌∷◌, ◌++◌, length, length-append, get_or, slice_get, Some, arith, sym, ap, ◌∙◌, subst, ⊎_elim}
-use Rattle.std.specs.List.{sum_by}
+use Rattle.std.proofs.Common.{◌≡◌, ◌≢◌, ℕ, ◌+◌, ◌*◌, ◌^◌, ◌<◌, ◌≤◌, Bool, List, [], ◌∷◌, ◌++◌, length, length-append, slice_get, Some, arith, sym, ap, ◌∙◌, subst, ⊎_elim}
 use Rattle.std.proofs.lemmas.Bool.{cases_eq}
 use Rattle.std.proofs.lemmas.List.{get_or_append_left, get_or_default, get_or_push}
 use Rattle.std.proofs.lemmas.List.Sums.{count_by-le-length, sum_by-le, sum_by_push}
-use Rattle.std.proofs.lemmas.Option.{get_or_from_slice_get}
 use Rattle.std.proofs.Math.Nat.{mul-le-mul_right}
 use Rattle.vf_spans.specs.Members.{count_of}
 use Rattle.ray_grid.specs.Grids.{GridSize}
-use Rattle.ray_grid.specs.declared.ray.Family.TheVariants.{X}
 use Rattle.ray_grid.specs.declared.ray.Ray.{Ray}
 use Rattle.ray_grid.specs.Ranges.{IsGrid}
 use Rattle.ray_grid.specs.Strips.{strip_at, strips_of}
 use Rattle.ray_shapes.specs.declared.solid.Solid.{Solid}
 use Rattle.ray_words.specs.Rays.{KeptSets}
 use Rattle.strip_marks.specs.Marks.{kept_of, ray_of}
+use Rattle.strip_marks.proofs.MoreRays.{no_sets}
+use Rattle.strip_marks.proofs.OnStrips.{ray_there}
 use Rattle.strip_journal.specs.Fresh.{AreFreshRays, IsFreshRay, stock_points}
 use Rattle.strip_journal.proofs.StripSizes.{points_at_few, rays_few}
-
--- what is read past the end of a list
-abbrev pub no_ray : Ray
-no_ray = record { family = X; i = 0; j = 0 }
-
-abbrev pub no_sets : KeptSets
-no_sets = record { sets = record { stock = []; part = []; fixture = []; sure = []; possible = [] }; first = 0; count = 0 }
 
 -- how many stock points one has
 abbrev stock_of : KeptSets → ℕ
 stock_of r = count_of r.sets.stock
 
--- at first there are none
-pub fresh_none : (grid : GridSize) (strip : ℕ) (stock part fixture : Solid) → AreFreshRays grid strip 0 stock part fixture []
-fresh_none grid strip stock part fixture = record { many = omega arith; each = λ n low. absurd (omega (arith, low)) }
-
--- the ray that the strip has at a place is that of its number
-ray_is : (grid : GridSize) (strip n : ℕ) (ray : Ray) → slice_get (strip_at grid strip) n ≡ Some ray → ray_of grid strip n ≡ ray
-ray_is grid strip n ray there = get_or_from_slice_get (strip_at grid strip) n ray no_ray there
-
--- a ray of the grid of a shape is one of an equal grid
+-- a fresh ray of the grid of a shape is one of an equal grid
 pub fresh_on : (grid other : GridSize) (ray : Ray) (stock part fixture : Solid) (r : KeptSets) → other ≡ grid
     → IsFreshRay other ray stock part fixture r → IsFreshRay grid ray stock part fixture r
 fresh_on grid other ray stock part fixture r same fresh =
     subst (λ (g : GridSize). IsFreshRay g ray stock part fixture r) same fresh
 
--- one ray more
+-- with one ray more they are fresh
 fresh_push : (grid : GridSize) (strip n : ℕ) (stock part fixture : Solid) (rays : List KeptSets) (ray : Ray) (r : KeptSets)
     → AreFreshRays grid strip n stock part fixture rays → slice_get (strip_at grid strip) n ≡ Some ray
     → IsFreshRay grid ray stock part fixture r → AreFreshRays grid strip (n + 1) stock part fixture (rays ++ r ∷ [])
@@ -54,7 +38,8 @@ fresh_push grid strip n stock part fixture rays ray r fresh there one = record {
       (λ (last : m ≡ n).
       subst (λ (k : KeptSets). IsFreshRay grid (ray_of grid strip m) stock part fixture k)
       (sym (get_or_push rays r no_sets m (fresh.many ∙ sym last)))
-      (subst (λ (s : Ray). IsFreshRay grid s stock part fixture r) (sym (ap (ray_of grid strip) last ∙ ray_is grid strip n ray there)) one))
+      (subst (λ (s : Ray). IsFreshRay grid s stock part fixture r)
+      (sym (ap (ray_of grid strip) last ∙ ray_there grid strip n ray there)) one))
       (λ (other : m ≢ n).
       let before : m < n = omega (arith, low, other) in
       subst (λ (k : KeptSets). IsFreshRay grid (ray_of grid strip m) stock part fixture k)
@@ -104,7 +89,7 @@ few_more grid strip n points more stock part fixture rays ray r is among low fre
     let all = all_few grid strip n stock part fixture rays is fresh in
     let last =
     one_few grid strip n stock part fixture r is
-    (subst (λ (s : Ray). IsFreshRay grid s stock part fixture r) (sym (ray_is grid strip n ray there)) one) in
+    (subst (λ (s : Ray). IsFreshRay grid s stock part fixture r) (sym (ray_there grid strip n ray there)) one) in
     let below : n ≤ 400 = omega (arith, few, low) in
     let most = mul-le-mul_right 400000 below in
     omega (arith, all, last, so, new, most)

@@ -1,5 +1,5 @@
 -- What a strip tells of the moves that are left is what its journal has at the places of its line.
-use Rattle.std.proofs.Common.{◌≡◌, ℕ, ◌<◌, ◌≤◌, List, length, map, take, get_or, slice_get, slice_index, slice_index_or, Some, arith, sym, ap, ◌∙◌, subst}
+use Rattle.std.proofs.Common.{◌≡◌, ℕ, ◌<◌, ◌≤◌, List, length, map, take, get_or, slice_get, slice_index, Some, arith, sym, ap, ◌∙◌, subst}
 use Rattle.std.proofs.lemmas.List.{get_or-map, get_or-take, length-map, length-take-le, take-map, take-take}
 use Rattle.std.proofs.lemmas.Option.{slice_get-get_or}
 use Rattle.edit_plan.specs.declared.edit.Edit.{Edit}
@@ -9,14 +9,13 @@ use Rattle.edit_lines.proofs.LinesChain.{left_before}
 use Rattle.edit_lines.proofs.LinesLists.{left_is_line}
 use Rattle.edit_lines.proofs.LinesOrder.{at_within}
 use Rattle.job_facts.specs.declared.counts.Counts.{Counts}
-use Rattle.job_facts.specs.Counts.{plus}
 use Rattle.job_model.specs.Findings.{found_over}
 use Rattle.job_model.specs.Points.{left_moves, moves_of, strip_points}
-use Rattle.job_model.specs.Tasks.{Job, JobMove}
+use Rattle.job_model.specs.Tasks.{JobMove}
 use Rattle.strip_plan.specs.Plans.{HasNumber}
 use Rattle.strip_journal.specs.declared.journal.Journal.{Journal}
-use Rattle.strip_journal.specs.Found.{AddsLeft, IsFoundBy, count_at}
-use Rattle.strip_journal.specs.Journals.{IsJournal, job_of, line_of}
+use Rattle.strip_journal.specs.Found.{AddsLeft, IsFoundBy}
+use Rattle.strip_journal.specs.Journals.{IsJournal, job_of}
 use Rattle.strip_journal.specs.Strips.{AddsFound, IsFoundAt, StripOf}
 
 -- the strip that callers see of a journal
@@ -99,8 +98,8 @@ found_by_place j k counts h low found = record {
 }
 
 -- a place among the moves that are left is one of the line
-pub stands_told : (j : Journal) (s : StripOf) (k : ℕ) → IsJournal (job_of j) j → strip_of j ≡ s → k < length (left_at s.job.plan.edits s.done)
-    → k < length j.line.items
+pub stands_told : (j : Journal) (s : StripOf) (k : ℕ) → IsJournal (job_of j) j → strip_of j ≡ s
+    → k < length (left_at s.job.plan.edits s.done) → k < length j.line.items
 stands_told j s k h is low =
     let many = left_told j s h is in
     let within : j.at ≤ length j.line.items =

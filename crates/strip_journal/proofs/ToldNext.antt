@@ -1,9 +1,9 @@
 -- What callers see of a strip after an edit.
-use Rattle.std.proofs.Common.{◌≡◌, ℕ, ◌+◌, ◌<◌, List, length, sym, ap, ◌∙◌, subst}
+use Rattle.std.proofs.Common.{◌≡◌, ℕ, ◌+◌, ◌<◌, length, sym, ap, ◌∙◌, subst}
 use Rattle.std.specs.Prelude.{Result, Ok, Err, OnOk, OnErr}
-use Rattle.job_model.specs.Tasks.{Job, PlanOf}
+use Rattle.job_model.specs.Tasks.{PlanOf}
 use Rattle.strip_journal.specs.declared.journal.Journal.{Journal}
-use Rattle.strip_journal.specs.Journals.{IsAt, IsJournal, job_of}
+use Rattle.strip_journal.specs.Journals.{IsAt, job_of}
 use Rattle.strip_journal.specs.Strips.{StripOf}
 use Rattle.strip_journal.proofs.ToldFound.{strip_of}
 

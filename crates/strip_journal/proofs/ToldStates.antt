@@ -1,8 +1,5 @@
 -- What a strip tells of its points is what its journal tells.
-use Rattle.std.proofs.Common.{◌≡◌, ℕ, ◌+◌, ◌-◌, ◌<◌, ◌≤◌, length, slice_get, slice_index_or, get_or, Some, sym, ap, ◌∙◌, subst}
-use Rattle.std.proofs.lemmas.Option.{get_or_from_slice_get, slice_get-get_or}
-use Rattle.ray_grid.specs.Grids.{GridSize}
-use Rattle.ray_grid.specs.declared.ray.Family.TheVariants.{X}
+use Rattle.std.proofs.Common.{◌≡◌, ℕ, ◌+◌, ◌-◌, ◌<◌, ◌≤◌, length, slice_get, Some, sym, ap, ◌∙◌, subst}
 use Rattle.ray_grid.specs.declared.ray.Ray.{Ray}
 use Rattle.ray_grid.specs.Lattice.{points_of}
 use Rattle.ray_grid.specs.Strips.{strip_at}
@@ -10,6 +7,7 @@ use Rattle.job_facts.specs.declared.totals.PointState.{PointState}
 use Rattle.job_facts.specs.declared.totals.Totals.{Totals}
 use Rattle.job_model.specs.Points.{left_moves, point_in, state_after, strip_points, totals_over}
 use Rattle.strip_marks.specs.Marks.{point_at, points_at, ray_of}
+use Rattle.strip_marks.proofs.OnStrips.{ray_stands, ray_there}
 use Rattle.strip_journal.specs.declared.journal.Journal.{Journal}
 use Rattle.strip_journal.specs.Journals.{IsJournal, job_of}
 use Rattle.strip_journal.specs.Strips.{StripOf}
@@ -21,10 +19,6 @@ pub totals_told : (j : Journal) (s : StripOf) (version : ℕ) (totals : Totals) 
     → totals ≡ totals_over s.job (strip_points s.job.plan.grid s.number) (left_moves s.job.plan version)
 totals_told j s version totals is told =
     told ∙ ap (λ (t : StripOf). totals_over t.job (strip_points t.job.plan.grid t.number) (left_moves t.job.plan version)) is
-
--- the ray with a number in a strip
-ray_there : (grid : GridSize) (strip n : ℕ) (ray : Ray) → slice_get (strip_at grid strip) n ≡ Some ray → ray_of grid strip n ≡ ray
-ray_there grid strip n ray there = get_or_from_slice_get (strip_at grid strip) n ray record { family = X; i = 0; j = 0 } there
 
 -- a ray of the strip is one of those that are kept
 pub ray_told : (j : Journal) (s : StripOf) (n : ℕ) → IsJournal (job_of j) j → strip_of j ≡ s
@@ -39,7 +33,7 @@ pub point_told : (j : Journal) (s : StripOf) (n l : ℕ) → strip_of j ≡ s �
 point_told j s n l is low at =
     subst (λ (t : StripOf). l < points_at t.job.plan.grid t.number n) (sym is)
     (at (ray_of s.job.plan.grid s.number n)
-    (slice_get-get_or (strip_at s.job.plan.grid s.number) n record { family = X; i = 0; j = 0 } low))
+    (ray_stands s.job.plan.grid s.number n low))
 
 -- the state of a point at a version
 pub state_told : (j : Journal) (s : StripOf) (version n l : ℕ) (state : PointState) → strip_of j ≡ s

@@ -1,5 +1,5 @@
 -- With fresh rays and nothing of edits it is a journal of its job.
-use Rattle.std.proofs.Common.{◌≤◌, length, arith, refl, subst, sym}
+use Rattle.std.proofs.Common.{◌≤◌, length, arith, refl, subst}
 use Rattle.ray_grid.specs.Grids.{GridSize}
 use Rattle.ray_grid.specs.Ranges.{IsGrid}
 use Rattle.edit_plan.specs.Limits.{most_edits}
