@@ -31,3 +31,8 @@ pub mod Looked
 pub mod TurnedMore
 pub mod MarkedBy
 pub mod MovedAt
+pub mod ToldFound
+pub mod ToldStates
+pub mod FreshRays
+pub mod FreshJournal
+pub mod ToldNext

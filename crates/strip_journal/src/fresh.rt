@@ -1,6 +1,7 @@
 ghost use Rattle.std.specs.Prelude.{◌≡◌, ◌<◌, IfOk, length};
 ghost use Rattle.std.specs.Fn.{FnReturnsAt};
 ghost use Rattle.ray_grid.specs.Lattice.{IsRay};
+ghost use Rattle.ray_grid.specs.Ranges.{IsGrid};
 ghost use Rattle.ray_grid.specs.Strips.{strip_at, strips_of};
 ghost use Rattle.ray_shapes.specs.Sets.{Gives};
 ghost use Rattle.strip_journal.specs.Fresh.{AreFreshRays, IsFreshRay, stock_points};
@@ -41,6 +42,13 @@ fn fresh_ray<
     Ok(WordRay::new(alloc, stock, part, fixture))
 }
 
+/// The numbers of a grid make one.
+pub fn hold_grid(grid: &Grid)
+    ensures { IsGrid grid.now }
+{
+    let _origin = grid.origin;
+}
+
 /// The rays of a strip, and how many stock points they have together.
 pub fn fresh_rays<
     A: Fn(&Ray) -> Result<Spans, NoMemory>,
@@ -68,6 +76,7 @@ pub fn fresh_rays<
         fixture.now.solid r.0.items) }
     ensures stock { IfOk result (λ r. r.1 ≡ stock_points r.0.items) }
 {
+    hold_grid(grid);
     let count = grid.strip_len(strip);
     let mut rays = Vec::with_capacity(alloc, count as usize)?;
     let mut points = 0;

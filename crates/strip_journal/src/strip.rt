@@ -9,7 +9,7 @@ ghost use Rattle.job_facts.specs.Counts.{AreWithin};
 ghost use Rattle.job_model.specs.Points.{left_moves, point_in, state_after, strip_points, totals_over};
 ghost use Rattle.strip_journal.specs.Strips.{AddsFound, IsFoundAt, most_before};
 
-use crate::fresh::fresh_rays;
+use crate::fresh::{fresh_rays, hold_grid};
 use crate::journal::Journal;
 use job_facts::{Counts, PointState, Totals};
 use ray_grid::Ray;
@@ -71,6 +71,10 @@ impl Strip {
           done = 0;
         }) }
     {
+        // The plan is valid, its edits are few, and its grid is one.
+        let _moves = plan.moves();
+        let _edits = plan.edits();
+        hold_grid(plan.grid());
         let (rays, of) = fresh_rays(alloc, plan.grid(), number, stock, part, fixture)?;
         let journal = Journal {
             alloc,

@@ -1,0 +1,30 @@
+-- The count fits, since a strip has few points; and one ray more is fresh.
+use Rattle.std.proofs.Common.{◌<◌, length, arith}
+use Rattle.ray_grid.specs.Strips.{strip_at}
+use Rattle.strip_journal.proofs.FreshRays.{few_more, fresh_more, fresh_on, stock_more}
+use Rattle.strip_journal.proofs.fresh.fresh_rays.Goals as goal
+
+pub overflow_add-points : goal.overflow_add-points
+overflow_add-points g c =
+    let low : c.loop-n.n < length (strip_at c.args.grid.now c.args.strip) = omega (arith, c.loop-n-test.true, c.strip_len-count.ensures) in
+    let one =
+    fresh_on c.args.grid.now _ c.strip_ray.result _ _ _ c.in_ok-ray.ray c.requires.stock_grid c.in_ok-ray.ensures in
+    let few =
+    few_more c.args.grid.now c.args.strip c.loop-n.n c.loop-n.points c.stock_count-points.result c.args.stock.now.solid
+    c.args.part.now.solid c.args.fixture.now.solid c.loop-n.rays.items c.strip_ray.result c.in_ok-ray.ray c.hold_grid.ensures
+    c.requires.strip low c.loop-n.invariant.rays c.loop-n.invariant.points c.strip_ray.ensures.there one c.stock_count-points.ensures in
+    omega (arith, few)
+
+pub loop-n-preserved : goal.loop-n-preserved
+loop-n-preserved g c =
+    let one =
+    fresh_on c.args.grid.now _ c.strip_ray.result _ _ _ c.in_ok-ray.ray c.requires.stock_grid c.in_ok-ray.ensures in
+    record {
+      rays =
+          fresh_more c.args.grid.now c.args.strip c.loop-n.n c.args.stock.now.solid c.args.part.now.solid c.args.fixture.now.solid
+          c.loop-n.rays.items c.push.new.self.items c.strip_ray.result c.in_ok-ray.ray c.loop-n.invariant.rays
+          c.strip_ray.ensures.there one c.in_ok-push.ensures.items;
+      points =
+          stock_more c.loop-n.rays.items c.push.new.self.items c.in_ok-ray.ray c.loop-n.points c.stock_count-points.result
+          c.loop-n.invariant.points c.stock_count-points.ensures c.in_ok-push.ensures.items;
+    }
