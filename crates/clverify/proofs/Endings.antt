@@ -1,12 +1,13 @@
 -- How a call ends: what is due to a command is its report, or the refusal of what stopped it.
-use Rattle.std.proofs.Common.{◌≡◌, ◌⊎◌, ℕ, List, Option, Some, None, Result, Ok, Err, IfSome, IfOk, inl, inr, refl, ap, subst, sym, ⊎_elim, rules}
+use Rattle.std.proofs.Common.{◌≡◌, ◌⊎◌, ℕ, List, Option, Some, None, Result, Ok, Err, true, IfSome, IfOk, inl, inr, refl, ap, subst, sym, ⊎_elim, rules}
 use Rattle.std.specs.Io.KnownBytes.{Keeps}
 use Rattle.vf_io.specs.Files.{Files}
 use Rattle.report_text.specs.Refusals.{refusal_of}
 use Rattle.report_text.specs.declared.fault.Fault.{Fault}
 use Rattle.clverify.specs.Answer.{Due, IsVerdict, refused, usage_due}
-use Rattle.clverify.specs.Commands.{Command, list_moves, mark_moves}
+use Rattle.clverify.specs.Commands.{Command, list_moves, mark_moves, verify_moves}
 use Rattle.clverify.specs.Due.{command_due}
+use Rattle.clverify.specs.Inputs.{is_read_fault}
 use Rattle.clverify.specs.Headline.{Answers, Hands, IsComplete, IsDue}
 use Rattle.clverify.specs.Outside.{WritesAnswer}
 use Rattle.clverify.specs.Settled.{IsReport, MayEnd, Settles, answer_seen}
@@ -20,6 +21,7 @@ use Rattle.clverify.specs.declared.stopped.Stopped.TheVariants.{Refused, ReadFau
 -- where it isn't known what is due, less is said of an answer
 unknown_answer : (status : Status) (d : Due) (old new : Option (List ℕ)) → Answers status (Some d) old new → Answers status None old new
 unknown_answer ends.Clean d old new h = tt
+unknown_answer ends.Findings d old new h = tt
 unknown_answer ends.Usage d old new h = tt
 unknown_answer (ends.Refused fault) d old new h = tt
 unknown_answer ends.ReadFault d old new h = h
@@ -28,6 +30,7 @@ unknown_answer ends.NoMemory d old new h = h
 
 unknown_hands : (status : Status) (d : Due) (old new : Option (List ℕ)) (before after : Option (List (List ℕ))) → Hands status (Some d) old new before after → Hands status None old new before after
 unknown_hands ends.Clean d old new before after h = tt
+unknown_hands ends.Findings d old new before after h = tt
 unknown_hands ends.Usage d old new before after h = tt
 unknown_hands (ends.Refused fault) d old new before after h = tt
 unknown_hands ends.ReadFault d old new before after h = h
@@ -78,6 +81,7 @@ module _ {K : Type 0} (written : K → Option (List ℕ)) (pieces : K → Option
 refusal_due : (files : Files) (command : Command) (fault : Fault) → IfSome (command_due (Some files) command) (λ d. d ≡ refused fault) → command_due (Some files) command ≡ Some (refused fault)
 refusal_due files (list_moves file) fault same = ap (λ d. Some d) same
 refusal_due files (mark_moves file question) fault same = ap (λ d. Some d) same
+refusal_due files (verify_moves names) fault same = ap (λ d. Some d) same
 
 -- what is written of a report that is settled is true, where the report is
 module _ {K : Type 0} (written : K → Option (List ℕ)) (pieces : K → Option (List (List ℕ))) (faults : K → ℕ) (old new : K) (command : Command) where
@@ -88,6 +92,14 @@ module _ {K : Type 0} (written : K → Option (List ℕ)) (pieces : K → Option
   clean_text files (Err (Refused fault)) true_text h = let e = h.0.answer.0 in cc
   clean_text files (Err ReadFault) true_text h = let e = h.0 in cc
   clean_text files (Err NoMemory) true_text h = let e = h.0 in cc
+
+  -- with findings
+  findings_text : (files : Files) (report : Result Answer Stopped) → IfOk report (λ answer. IsTrueText files command answer.text.items) → Settles written pieces faults report ends.Findings old new
+      → TellsTruth ends.Findings (Some files) (Some command) (written old) (written new)
+  findings_text files (Ok answer) true_text h = (answer.text.items, true_text, h.0.answer.1)
+  findings_text files (Err (Refused fault)) true_text h = let e = h.0.answer.0 in cc
+  findings_text files (Err ReadFault) true_text h = let e = h.0 in cc
+  findings_text files (Err NoMemory) true_text h = let e = h.0 in cc
 
   -- after a fault of writing
   front_text : (files : Files) (report : Result Answer Stopped) → IfSome (command_due (Some files) command) (IsReport report) → IfOk report (λ answer. IsTrueText files command answer.text.items)
@@ -102,12 +114,14 @@ module _ {K : Type 0} (written : K → Option (List ℕ)) (pieces : K → Option
       → IfSome files (λ told. IfOk report (λ answer. IsTrueText told command answer.text.items)) → Settles written pieces faults report status old new
       → TellsTruth status files (Some command) (written old) (written new)
   tells_truth ends.Clean (Some files) report due true_text h = clean_text files report true_text h
+  tells_truth ends.Findings (Some files) report due true_text h = findings_text files report true_text h
   tells_truth ends.WriteFault (Some files) report due true_text h = front_text files report due true_text h
   tells_truth ends.Usage (Some files) report due true_text h = tt
   tells_truth (ends.Refused fault) (Some files) report due true_text h = tt
   tells_truth ends.ReadFault (Some files) report due true_text h = tt
   tells_truth ends.NoMemory (Some files) report due true_text h = tt
   tells_truth ends.Clean None report due true_text h = tt
+  tells_truth ends.Findings None report due true_text h = tt
   tells_truth ends.WriteFault None report due true_text h = tt
   tells_truth ends.Usage None report due true_text h = tt
   tells_truth (ends.Refused fault) None report due true_text h = tt
@@ -117,6 +131,7 @@ module _ {K : Type 0} (written : K → Option (List ℕ)) (pieces : K → Option
 -- no report is settled by the usage line
 not_usage : (whole status : Status) → IsVerdict whole → MayEnd whole status → status ≡ ends.Usage → ⊥
 not_usage ends.Clean status verdict may usage = grind rules
+not_usage ends.Findings status verdict may usage = grind rules
 not_usage ends.Usage status verdict may usage = absurd verdict
 not_usage (ends.Refused fault) status verdict may usage = absurd verdict
 not_usage ends.ReadFault status verdict may usage = absurd verdict
@@ -140,3 +155,36 @@ usage_complete status old new answered may calm =
     ⊎_elim (λ usage. inr (subst (λ (s : Status). IsDue s (Some usage_due) old new) (sym usage)
     (subst (λ (s : Status). Answers s (Some usage_due) old new) usage answered)))
     (λ failed. absurd (calm failed)) may
+
+-- an answer that ends by no fault outside is the whole one, or none for want of memory
+pub complete_from : (status : Status) (due : Option Due) (old new : Option (List ℕ)) → Answers status due old new
+    → (status ≡ ends.ReadFault → ⊥) → (status ≡ ends.WriteFault → ⊥) → IsComplete status due old new
+complete_from ends.Clean due old new answered read written = inr answered
+complete_from ends.Findings due old new answered read written = inr answered
+complete_from ends.Usage due old new answered read written = inr answered
+complete_from (ends.Refused fault) due old new answered read written = inr answered
+complete_from ends.ReadFault due old new answered read written = absurd (read refl)
+complete_from ends.WriteFault due old new answered read written = absurd (written refl)
+complete_from ends.NoMemory due old new answered read written = inl refl
+
+-- no answer ends by a fault of reading
+not_read_fault : (whole status : Status) → IsVerdict whole → MayEnd whole status → status ≡ ends.ReadFault → ⊥
+not_read_fault ends.Clean status verdict may fault = grind rules
+not_read_fault ends.Findings status verdict may fault = grind rules
+not_read_fault ends.Usage status verdict may fault = absurd verdict
+not_read_fault (ends.Refused fault) status verdict may failed = absurd verdict
+not_read_fault ends.ReadFault status verdict may fault = absurd verdict
+not_read_fault ends.WriteFault status verdict may fault = absurd verdict
+not_read_fault ends.NoMemory status verdict may fault = absurd verdict
+
+refused_not_read_fault : (fault : Fault) (status : Status) → MayEnd (ends.Refused fault) status → status ≡ ends.ReadFault → ⊥
+refused_not_read_fault fault status may failed = grind rules
+
+-- where a report is settled by a fault of reading, a file couldn't be read
+module _ {K : Type 0} (written : K → Option (List ℕ)) (pieces : K → Option (List (List ℕ))) (faults : K → ℕ) (status : Status) (old new : K) where
+  pub settled_read_fault : (report : Result Answer Stopped) → IfOk report (λ answer. IsVerdict answer.status) → Settles written pieces faults report status old new
+      → status ≡ ends.ReadFault → is_read_fault report ≡ true
+  settled_read_fault (Ok answer) verdict h failed = absurd (not_read_fault answer.status status verdict h.1 failed)
+  settled_read_fault (Err (Refused fault)) verdict h failed = absurd (refused_not_read_fault fault status h.1 failed)
+  settled_read_fault (Err ReadFault) verdict h failed = refl
+  settled_read_fault (Err NoMemory) verdict h failed = let e = h.0 in cc

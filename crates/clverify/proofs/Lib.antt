@@ -1,4 +1,7 @@
+pub mod Done
 pub mod Endings
+pub mod Programs
+pub mod Scripts
 pub mod Shapes
 pub mod Sizes
 pub mod Truths

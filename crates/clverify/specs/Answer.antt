@@ -4,7 +4,7 @@ use Rattle.vf_text.specs.Pages.{line}
 use Rattle.report_text.specs.Refusals.{refusal_of}
 use Rattle.report_text.specs.declared.fault.Fault.{Fault}
 use Rattle.clverify.specs.declared.status.Status.{Status}
-use Rattle.clverify.specs.declared.status.Status.TheVariants.{Clean, Usage, Refused}
+use Rattle.clverify.specs.declared.status.Status.TheVariants.{Clean, Findings, Usage, Refused}
 
 pub record Due : Type 0 where
   pub text : List ℕ
@@ -31,6 +31,7 @@ answer_of report (Err fault) = refused fault
 -- a status that comes with a whole text
 abbrev pub IsWhole : Status → Type 0
 IsWhole Clean = Unit {0}
+IsWhole Findings = Unit {0}
 IsWhole Usage = Unit {0}
 IsWhole (Refused fault) = Unit {0}
 IsWhole _ = ⊥
@@ -38,4 +39,5 @@ IsWhole _ = ⊥
 -- a status that comes with a command's report
 abbrev pub IsVerdict : Status → Type 0
 IsVerdict Clean = Unit {0}
+IsVerdict Findings = Unit {0}
 IsVerdict _ = ⊥

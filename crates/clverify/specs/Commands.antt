@@ -6,23 +6,27 @@ use Rattle.std.specs.Option.{option_map}
 use Rattle.std.specs.Str.{bytes_eq}
 use Rattle.clverify.specs.Commands.List.{list_name, list_words}
 use Rattle.clverify.specs.Commands.Point.{point_name, point_words}
+use Rattle.clverify.specs.Commands.Verify.{TaskNames, names_of, verify_name, verify_words}
 use Rattle.clverify.specs.Words.{Word, Words}
 use Rattle.clverify.specs.declared.commands.question.Question.{Question}
 pub mod List
 pub mod Point
 pub mod Questions
+pub mod Verify
 
 -- a command and its values
 pub data Command : Type 0 where
   list_moves : Word → Command
   mark_moves : Word → Question → Command
+  verify_moves : TaskNames → Command
 
 -- the command that a first word names, where the words behind it are its own
 abbrev pub command_by : Word → Words → Option Command
 command_by word words =
     if bytes_eq word list_name then option_map list_moves (list_words words)
     else (if bytes_eq word point_name then option_map (λ asked. mark_moves asked.0 asked.1) (point_words words)
-    else None)
+    else (if bytes_eq word verify_name then option_map verify_moves (verify_words words)
+    else None))
 
 -- the command that words stand for, where they are one
 abbrev pub command_of : Words → Option Command
@@ -34,3 +38,4 @@ abbrev pub files_of : Option Command → Words
 files_of None = []
 files_of (Some (list_moves file)) = file ∷ []
 files_of (Some (mark_moves file question)) = file ∷ []
+files_of (Some (verify_moves names)) = names_of names

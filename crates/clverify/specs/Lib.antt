@@ -8,6 +8,8 @@ pub mod Headline
 pub mod Inputs
 pub mod Marks
 pub mod Outside
+pub mod Ready
 pub mod Settled
+pub mod Tasks
 pub mod Truth
 pub mod Words

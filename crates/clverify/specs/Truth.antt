@@ -6,17 +6,19 @@ use Rattle.report_text.specs.declared.fault.Fault.{Fault}
 use Rattle.vf_io.specs.Bytes.{AppendsFront}
 use Rattle.vf_io.specs.Files.{Files, bytes_of}
 use Rattle.clverify.specs.Answer.{refused}
-use Rattle.clverify.specs.Commands.{Command, list_moves, mark_moves}
+use Rattle.clverify.specs.Commands.{Command, list_moves, mark_moves, verify_moves}
 use Rattle.clverify.specs.Commands.List.{IsTrueListing}
 use Rattle.clverify.specs.Commands.Point.{IsTrueMarking}
+use Rattle.clverify.specs.Commands.Verify.{IsTrueVerification}
 use Rattle.clverify.specs.Due.{command_due}
 use Rattle.clverify.specs.declared.status.Status.{Status}
-use Rattle.clverify.specs.declared.status.Status.TheVariants.{Clean, WriteFault}
+use Rattle.clverify.specs.declared.status.Status.TheVariants.{Clean, Findings, WriteFault}
 
 -- the text of a command that was carried out is a true one
 abbrev pub IsTrueText : Files → Command → List ℕ → Type 0
 IsTrueText files (list_moves file) text = IsTrueListing (bytes_of files file) text
 IsTrueText files (mark_moves file question) text = IsTrueMarking question (bytes_of files file) text
+IsTrueText files (verify_moves names) text = IsTrueVerification names files text
 
 -- the text is the one line that a command's files are refused with
 pub record IsRefusal (files : Files) (command : Command) (text : List ℕ) : Type 0 where
@@ -24,10 +26,11 @@ pub record IsRefusal (files : Files) (command : Command) (text : List ℕ) : Typ
   pub is_due : command_due (Some files) command ≡ Some (refused fault)
   pub is_line : text ≡ refusal_of fault
 
--- Where the files are told: a command that ends Clean wrote a true text, whole; one that ends by a fault of writing wrote a front
--- of a true text, or of the line that its files are refused with.
+-- Where the files are told: a command that ends Clean or with Findings wrote a true text, whole; one that ends by a fault of
+-- writing wrote a front of a true text, or of the line that its files are refused with.
 abbrev pub TellsTruth : Status → Option Files → Option Command → Option (List ℕ) → Option (List ℕ) → Type 0
 TellsTruth Clean (Some files) (Some command) old new = (text : List ℕ) × IsTrueText files command text × Appends old new text
+TellsTruth Findings (Some files) (Some command) old new = (text : List ℕ) × IsTrueText files command text × Appends old new text
 TellsTruth WriteFault (Some files) (Some command) old new =
     (text : List ℕ) × (IsTrueText files command text ⊎ IsRefusal files command text) × AppendsFront old new text
 TellsTruth status files command old new = Unit {0}

@@ -13,11 +13,13 @@ ghost use Rattle.clverify.specs.Truth.{IsTrueText};
 mod list;
 mod point;
 mod question;
+mod verify;
 
 use crate::answer::Answer;
 use crate::commands::list::{list_report, list_words};
 use crate::commands::point::{point_report, point_words};
 pub(crate) use crate::commands::question::Question;
+use crate::commands::verify::{verify_report, verify_words};
 use crate::stopped::Stopped;
 use std::alloc::Global;
 use vf_io::Shelf;
@@ -26,9 +28,20 @@ use vf_io::Shelf;
 #[derive(Clone, Copy, Debug)]
 pub(crate) enum Command<'a> {
     /// Print the moves of a cutter location file.
-    List { file: &'a str },
+    List {
+        file: &'a str,
+    },
     /// Print the mark of a point against each move of the file.
-    Point { file: &'a str, question: Question },
+    Point {
+        file: &'a str,
+        question: Question,
+    },
+    /// Verify the file with a setup, and a script if there is one.
+    Verify {
+        file: &'a str,
+        setup: &'a str,
+        script: Option<&'a str>,
+    },
 }
 
 /// The command that words stand for, where they are one.
@@ -42,6 +55,7 @@ pub(crate) fn read_command(words: &[String]) -> Option<Command<'_>>
     match word.as_str() {
         "list" => list_words(more),
         "point" => point_words(more),
+        "verify" => verify_words(more),
         _ => None,
     }
 }
@@ -63,5 +77,10 @@ pub(crate) fn report_on<S: Shelf>(
     match command {
         Command::List { file } => list_report(alloc, file, shelf),
         Command::Point { file, question } => point_report(alloc, file, question, shelf),
+        Command::Verify {
+            file,
+            setup,
+            script,
+        } => verify_report(alloc, file, setup, *script, shelf),
     }
 }

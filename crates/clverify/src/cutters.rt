@@ -59,7 +59,7 @@ pub(crate) fn low_cutter(usual: &Usual, moves: &[Move]) -> Option<u32>
 }
 
 /// The size of a cutter.
-fn size(usual: &Usual, cutter: &CutterText) -> Cutter
+pub(crate) fn size(usual: &Usual, cutter: &CutterText) -> Cutter
     requires usual { IsUsual usual.now }
     requires valid { IsCutterText cutter.now }
     requires high { is_low usual.now cutter.now ≡ false }

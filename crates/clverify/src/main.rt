@@ -9,6 +9,7 @@ mod input;
 mod marks;
 mod status;
 mod stopped;
+mod task;
 #[cfg(test)]
 mod tests;
 mod top;

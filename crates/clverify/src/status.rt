@@ -10,6 +10,8 @@ use std::process::ExitCode;
 pub enum Status {
     /// All was done, and nothing was found.
     Clean,
+    /// All was done, and some move isn't safe.
+    Findings,
     /// The words are no command.
     Usage,
     /// An input is refused.
@@ -23,12 +25,13 @@ pub enum Status {
 }
 
 impl Status {
-    /// The exit code. Code 1 is kept for findings.
+    /// The exit code.
     pub fn code(self) -> u8
         ensures { result ≡ code_of self }
     {
         match self {
             Status::Clean => 0,
+            Status::Findings => 1,
             Status::Usage => 2,
             Status::Refused(_) => 3,
             Status::ReadFault => 4,

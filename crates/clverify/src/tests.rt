@@ -19,11 +19,30 @@ fn answer(
     failing_reads: &[u64],
     failing_writes: &[u64],
 ) -> Result<(Status, Vec<u8>), Fail> {
+    answer_over(
+        alloc,
+        words,
+        &[("a.cls", file)],
+        failing_reads,
+        failing_writes,
+    )
+}
+
+/// The same over files with these names.
+fn answer_over(
+    alloc: Global,
+    words: &[&str],
+    named: &[(&str, &[u8])],
+    failing_reads: &[u64],
+    failing_writes: &[u64],
+) -> Result<(Status, Vec<u8>), Fail> {
     let mut files = Vec::new(alloc);
-    files.push((
-        String::from_str(alloc, "a.cls")?,
-        Vec::from_slice(alloc, file)?,
-    ))?;
+    for (name, bytes) in named {
+        files.push((
+            String::from_str(alloc, name)?,
+            Vec::from_slice(alloc, bytes)?,
+        ))?;
+    }
     let mut texts = Vec::new(alloc);
     for word in words {
         texts.push(String::from_str(alloc, word)?)?;
@@ -205,7 +224,7 @@ fn is_command(alloc: Global, words: &str) -> Result<bool, Fail> {
 
 #[test]
 fn words_of_commands(rt: HostRuntime) -> Result<(), Fail> {
-    let rows: [(&str, bool); 29] = [
+    let rows: [(&str, bool); 38] = [
         ("list a", true),
         ("list --x", true),
         ("list", false),
@@ -214,7 +233,16 @@ fn words_of_commands(rt: HostRuntime) -> Result<(), Fail> {
         ("LIST a", false),
         ("", false),
         ("--help", false),
-        ("verify a s.toml", false),
+        ("verify a s.toml", true),
+        ("verify a s --script f", true),
+        ("verify --script s", true),
+        ("VERIFY a s", false),
+        ("verify a", false),
+        ("verify  s", false),
+        ("verify a s f", false),
+        ("verify a s --script", false),
+        ("verify a s --script ", false),
+        ("verify a s --script f g", false),
         ("point a 0 0 0 --depth 0", true),
         ("point a 0 0 0 --depth 010", true),
         ("point a 0 0 0 --depth 2 --slabs 1", true),
@@ -266,6 +294,138 @@ fn faults_outside_are_told_apart(rt: HostRuntime) -> Result<(), Fail> {
             written.as_slice(),
             text.as_bytes(),
             "the reads {reads:?} and writes {writes:?}"
+        );
+    }
+    Ok(())
+}
+
+/// A flat cutter of 2 mm that goes 2 mm along x, a millimetre above the bottom.
+const FLAT: &[u8] = b"CUTTER/2,0\nFROM/0,1,1\nGOTO/2,1,1\nFINI\n";
+
+/// The same with a ball cutter that is less high than its corner radius.
+const FLAT_LOW: &[u8] = b"CUTTER/4,2,0,2,0,0,1\nFROM/0,1,1\nGOTO/2,1,1\nFINI\n";
+
+/// A stock of 2.5 by 2.5 by 1.5 mm.
+const STOCK: &[u8] = b"[grid]\n\
+origin = [0, 0, 0]\n\
+pitch = 1000\n\
+step = 500\n\
+counts = [3, 3, 2]\n\
+[check]\n\
+tolerance = 0\n\
+clearance = 0\n\
+slabs = 8\n\
+depth = 2\n\
+[tool]\n\
+diameter = 2000\n\
+radius = 0\n\
+height = 5000\n\
+[[stock]]\n\
+box = [0, 0, 0, 2500, 2500, 1500]\n";
+
+/// The same with a part up to where the cutter goes.
+const PART: &[u8] = b"[grid]\n\
+origin = [0, 0, 0]\n\
+pitch = 1000\n\
+step = 500\n\
+counts = [3, 3, 2]\n\
+[check]\n\
+tolerance = 0\n\
+clearance = 0\n\
+slabs = 8\n\
+depth = 2\n\
+[tool]\n\
+diameter = 2000\n\
+radius = 0\n\
+height = 5000\n\
+[[stock]]\n\
+box = [0, 0, 0, 2500, 2500, 1500]\n\
+[[part]]\n\
+box = [0, 0, 0, 2500, 2500, 1000]\n";
+
+/// The first without its pitch.
+const NO_PITCH: &[u8] = b"[grid]\n\
+origin = [0, 0, 0]\n\
+step = 500\n\
+counts = [3, 3, 2]\n\
+[check]\n\
+tolerance = 0\n\
+clearance = 0\n\
+slabs = 8\n\
+depth = 2\n\
+[tool]\n\
+diameter = 2000\n\
+radius = 0\n\
+height = 5000\n\
+[[stock]]\n\
+box = [0, 0, 0, 2500, 2500, 1500]\n";
+
+/// What is due to the first setup, up to its second line and whole.
+const TWO_LINES: &str = "clverify 1\nmoves 1 left 1 passed 0\n";
+
+const CLEAN: &str = "clverify 1\n\
+moves 1 left 1 passed 0\n\
+move 1 line 3 cut removed 49 possible 49 part 0 0 fixture 0 0 rapid 0 0 safe\n\
+total removed 49 possible 49 of 108\n\
+verdict clean\n";
+
+const FINDINGS: &str = "clverify 1\n\
+moves 1 left 1 passed 0\n\
+move 1 line 3 cut removed 49 possible 49 part 40 40 fixture 0 0 rapid 0 0 unsafe\n\
+total removed 49 possible 49 of 108\n\
+verdict findings\n";
+
+/// What is due where the one move is undone behind a count.
+const UNDONE: &str = "clverify 1\n\
+moves 1 left 0 passed 0\n\
+count removed 49 possible 49 of 108\n\
+total removed 0 possible 0 of 108\n\
+verdict clean\n";
+
+#[test]
+fn verifies_or_refuses(rt: HostRuntime) -> Result<(), Fail> {
+    let files: [(&str, &[u8]); 7] = [
+        ("A", FLAT),
+        ("L", FLAT_LOW),
+        ("S", STOCK),
+        ("P", PART),
+        ("N", NO_PITCH),
+        ("F", b"run 1 1\ncount\nundo 1\n"),
+        ("G", b"go\n"),
+    ];
+    let rows: [(&[&str], &[u64], u8, &str); 9] = [
+        (&["verify", "A", "S"], &[], 0, CLEAN),
+        (&["verify", "A", "P"], &[], 1, FINDINGS),
+        (&["verify", "A", "S", "--script", "F"], &[], 0, UNDONE),
+        (&["verify", "A"], &[], 2, USAGE),
+        (&["verify", "A", "M"], &[], 4, ""),
+        (&["verify", "A", "S"], &[2], 5, TWO_LINES),
+        (
+            &["verify", "A", "N"],
+            &[],
+            3,
+            "refused: setup grid.pitch: SetupKey\n",
+        ),
+        (
+            &["verify", "L", "S", "--script", "G"],
+            &[],
+            3,
+            "refused: cl line 3: CutterHeight\n",
+        ),
+        (
+            &["verify", "A", "S", "--script", "G"],
+            &[],
+            3,
+            "refused: script line 1: ScriptSyntax\n",
+        ),
+    ];
+    for (words, writes, code, text) in rows {
+        let (status, written) = answer_over(rt.alloc(), words, &files, &[], writes)?;
+        assert_eq!(rt; status.code(), code, "the code of {words:?}");
+        assert_eq!(rt;
+            written.as_slice(),
+            text.as_bytes(),
+            "the text of {words:?}"
         );
     }
     Ok(())

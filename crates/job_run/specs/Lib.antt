@@ -1,1 +1,5 @@
 pub mod Jobs
+pub mod Strips
+pub mod Left
+pub mod Founds
+pub mod Steps

@@ -5,7 +5,9 @@ mod bodies;
 mod facts;
 mod left;
 mod run;
+mod steps;
 mod strips;
+mod versions;
 
 pub use bodies::JobBodies;
 pub use run::run_job;

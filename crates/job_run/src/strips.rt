@@ -1,9 +1,16 @@
-use ray_grid::{Grid, Ray};
-use ray_shapes::{Bodies, RayShape, Solid, body_spans};
+ghost use Rattle.std.specs.Prelude.{◌≡◌, IfOk};
+ghost use Rattle.std.specs.Fn.{FnReturnsAt};
+ghost use Rattle.ray_grid.specs.Lattice.{IsRay};
+ghost use Rattle.ray_shapes.specs.Sets.{Gives};
+ghost use Rattle.job_run.specs.Jobs.{job_with};
+ghost use Rattle.job_run.specs.Strips.{AreAt};
+
+use crate::bodies::JobBodies;
+use ray_grid::Ray;
+use ray_shapes::{RayShape, Solid, body_spans};
 use std::alloc::Global;
 use strip_journal::Strip;
 use strip_plan::Plan;
-use crate::bodies::JobBodies;
 use vf_io::NoMemory;
 use vf_spans::Spans;
 
@@ -18,8 +25,23 @@ fn strips_by<
     stock: &RayShape<A>,
     part: &RayShape<B>,
     fixture: &RayShape<C>,
-) -> Result<Vec<Strip>, NoMemory> {
-    let count = plan.grid().strips();
+) -> Result<Vec<Strip>, NoMemory>
+    requires stock_grid { stock.now.grid ≡ plan.now.grid }
+    requires part_grid { part.now.grid ≡ plan.now.grid }
+    requires fixture_grid { fixture.now.grid ≡ plan.now.grid }
+    requires stock_callable { (ray : _) → IsRay stock.now.grid ray.now → A.pre stock.now.source ray }
+    requires part_callable { (ray : _) → IsRay part.now.grid ray.now → B.pre part.now.source ray }
+    requires fixture_callable { (ray : _) → IsRay fixture.now.grid ray.now → C.pre fixture.now.source ray }
+    requires stock_gives { Gives (FnReturnsAt A.Fn stock.now.source) stock.now.grid stock.now.solid }
+    requires part_gives { Gives (FnReturnsAt B.Fn part.now.source) part.now.grid part.now.solid }
+    requires fixture_gives { Gives (FnReturnsAt C.Fn fixture.now.source) fixture.now.grid fixture.now.solid }
+    ensures { IfOk result (λ strips. AreAt plan.now
+        record { plan = plan.now; stock = stock.now.solid; part = part.now.solid; fixture = fixture.now.solid } 0 strips.items) }
+{
+    let grid = plan.grid();
+    // A grid is valid by its type, which is known where a field of it is seen.
+    let _valid = &grid.origin;
+    let count = grid.strips();
     let mut strips = Vec::with_capacity(alloc, count as usize)?;
     for number in 0..count {
         strips.push(Strip::fresh(alloc, plan, number, stock, part, fixture)?)?;
@@ -28,11 +50,9 @@ fn strips_by<
 }
 
 /// The strips of a plan before the first edit.
-pub fn fresh_strips(
-    alloc: Global,
-    plan: &Plan,
-    bodies: &JobBodies,
-) -> Result<Vec<Strip>, NoMemory> {
+pub fn fresh_strips(alloc: Global, plan: &Plan, bodies: &JobBodies) -> Result<Vec<Strip>, NoMemory>
+    ensures { IfOk result (λ strips. AreAt plan.now (job_with plan.now bodies.now) 0 strips.items) }
+{
     let grid = plan.grid();
     let stock = &bodies.stock;
     let part = &bodies.part;

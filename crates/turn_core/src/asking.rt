@@ -1,4 +1,4 @@
-ghost use Rattle.std.specs.Prelude.{◌≡◌, ℕ, ◌<◌, ◌≤◌, Some, IfOk, OnOk, length, slice_get};
+ghost use Rattle.std.specs.Prelude.{◌≡◌, ◌<◌, ◌≤◌, Some, IfOk, OnOk, length, slice_get};
 ghost use Rattle.ray_grid.specs.declared.ray.Ray.{Ray};
 ghost use Rattle.ray_grid.specs.Lattice.{IsRay, points_of};
 ghost use Rattle.ray_grid.specs.Strips.{strip_at};
@@ -20,13 +20,7 @@ use vf_io::NoMemory;
 use vf_steps::Steps;
 
 /// The state of a point of a strip's ray at a version, by a counter of steps that counts for nobody.
-fn counted_state<L: Ledger>(
-    strip: &Strip,
-    version: u32,
-    n: u32,
-    l: u32,
-    blank: Blank,
-) -> PointState
+fn counted_state<L: Ledger>(strip: &Strip, version: u32, n: u32, l: u32, blank: Blank) -> PointState
     requires name { blank.name ≡ L.name }
     requires parts { blank.parts ≡ L.parts }
     requires some { 0 < L.parts }
@@ -65,6 +59,7 @@ fn probe(
     requires version { version ≤ length plan.now.edits }
     requires ray { IsRay plan.now.grid ray.now }
     requires point { l < points_of plan.now.grid ray.now.family }
+    ensures plan { AreOfPlan plan.now strips.new }
     ensures strips { OnOk result ((job : Job) → AreStrips job strips.old
         → AreStripsAt job strips.new (after_ask plan.now version (Probe ray.now l) (versions_of strips.old))) }
     ensures still { (job : Job) → AreStrips job strips.old → AreStrips job strips.new }
@@ -80,15 +75,20 @@ fn probe(
 fn count(strips: &mut [Strip], plan: &Plan, version: u32) -> Result<Totals, NoMemory>
     requires strips { AreOfPlan plan.now strips.old }
     requires version { version ≤ length plan.now.edits }
+    ensures plan { AreOfPlan plan.now strips.new }
     ensures strips { OnOk result ((job : Job) → AreStrips job strips.old
         → AreStripsAt job strips.new (after_ask plan.now version Count (versions_of strips.old))) }
     ensures still { (job : Job) → AreStrips job strips.old → AreStrips job strips.new }
-    ensures totals { IfOk result (λ totals. (job : Job) → AreStrips job strips.old → totals ≡ totals_after job (left_moves job.plan version)) }
+    ensures totals { IfOk result (λ totals. (job : Job) → AreStrips job strips.old
+        → totals ≡ totals_after job (left_moves job.plan version)) }
 {
+    // The points of the lattice are counted in 64 bits, so no sum over some of them wraps.
+    let _points = plan.grid().lattice_len();
     let mut totals = Totals::none();
     for k in 0..strips.len() {
         raise(&mut strips[k], plan, version)?;
-        totals = totals.plus(&strips[k].counts_at(version));
+        let strip = &strips[k];
+        totals = totals.plus(&strip.counts_at(version));
     }
     Ok(totals)
 }
@@ -97,19 +97,14 @@ fn count(strips: &mut [Strip], plan: &Plan, version: u32) -> Result<Totals, NoMe
 pub fn ask(strips: &mut [Strip], plan: &Plan, query: &Query) -> Result<Answer, NoMemory>
     requires strips { AreOfPlan plan.now strips.old }
     requires query { IsQuery plan.now.grid (length plan.now.edits) query.now }
+    ensures plan { AreOfPlan plan.now strips.new }
     ensures strips { OnOk result ((job : Job) → AreStrips job strips.old
         → AreStripsAt job strips.new (after_ask plan.now query.now.version query.now.ask (versions_of strips.old))) }
     ensures still { (job : Job) → AreStrips job strips.old → AreStrips job strips.new }
     ensures answer { IfOk result (λ answer. (job : Job) → AreStrips job strips.old → answer ≡ answer_of job query.now) }
 {
     match &query.ask {
-        Ask::Probe { ray, l } => Ok(Answer::Probe(probe(
-            strips,
-            plan,
-            query.version,
-            ray,
-            *l,
-        )?)),
+        Ask::Probe { ray, l } => Ok(Answer::Probe(probe(strips, plan, query.version, ray, *l)?)),
         Ask::Count => Ok(Answer::Count(count(strips, plan, query.version)?)),
     }
 }

@@ -9,3 +9,6 @@ mod turning;
 pub use playing::play;
 pub use step::Step;
 pub use turning::{raise, turn_strip};
+
+#[cfg(test)]
+mod tests;

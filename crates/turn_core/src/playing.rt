@@ -24,6 +24,7 @@ fn take_step(
     requires strips { AreOfPlan plan.now strips.old }
     requires queries { All (IsQuery plan.now.grid (length plan.now.edits)) queries.now }
     requires step { IsStepOf plan.now (length queries.now) step }
+    ensures plan { AreOfPlan plan.now strips.new }
     ensures strips { OnOk result ((job : Job) → AreStrips job strips.old
         → AreStripsAt job strips.new (after_step plan.now queries.now (versions_of strips.old) step)) }
     ensures still { (job : Job) → AreStrips job strips.old → AreStrips job strips.new }

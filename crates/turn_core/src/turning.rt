@@ -31,7 +31,8 @@ pub fn turn_strip(strip: &mut Strip, plan: &Plan) -> Result<(u32, u32), (u32, u3
         × IsStopped strip.old strip.new (min (strip.old.done + 8) (length plan.now.edits))) }
 {
     let from = strip.done();
-    let to = (from + EDITS).min(plan.edits());
+    let edits = plan.edits();
+    let to = (from + EDITS).min(edits);
     match raise(strip, plan, to) {
         Ok(()) => Ok((from, strip.done())),
         Err(NoMemory) => Err((from, strip.done())),

@@ -5,7 +5,7 @@ use Rattle.clverify.specs.Commands.{Command, files_of}
 use Rattle.clverify.specs.Due.{command_due, due}
 use Rattle.clverify.specs.Headline.{Answers, Hands, IsComplete}
 use Rattle.clverify.specs.Truth.{TellsTruth}
-use Rattle.clverify.proofs.Endings.{answers_due, settled_not_usage, tells_truth, usage_complete}
+use Rattle.clverify.proofs.Endings.{answers_due, complete_from, settled_not_usage, settled_read_fault, tells_truth, usage_complete}
 use Rattle.clverify.proofs.top.run.Goals as goal
 
 pub report_on-report-requires-clause-allowed : goal.report_on-report-requires-clause-allowed
@@ -37,6 +37,18 @@ pub returns-in-Some-clause-usage_only : goal.returns-in-Some-clause-usage_only
 returns-in-Some-clause-usage_only g c = λ usage.
     absurd (settled_not_usage g.K.Sink.written g.K.Sink.pieces g.K.Sink.faults c.settle.result c.args.sink.now c.settle.new.sink c.report_on-report.result
     c.report_on-report.ensures.verdict c.settle.ensures usage)
+
+pub returns-in-Some-clause-complete : goal.returns-in-Some-clause-complete
+returns-in-Some-clause-complete g c = λ reads_calm writes_calm.
+    let writes =
+    answers_due g.K.Sink.written g.K.Sink.pieces g.K.Sink.faults c.settle.result c.args.sink.now c.settle.new.sink c.report_on-report.result
+    (command_due (g.S.Shelf.files c.args.shelf.now) (command_seen c.in-Some.command)) c.report_on-report.ensures.report c.settle.ensures in
+    subst (λ (command : Option Command). IsComplete c.settle.result (due (g.S.Shelf.files c.args.shelf.now) command) (g.K.Sink.written c.args.sink.now) (g.K.Sink.written c.settle.new.sink))
+    c.in-Some.ensures.command
+    (complete_from c.settle.result (command_due (g.S.Shelf.files c.args.shelf.now) (command_seen c.in-Some.command)) (g.K.Sink.written c.args.sink.now) (g.K.Sink.written c.settle.new.sink) writes.answer
+    (λ failed. reads_calm (c.report_on-report.ensures.read.rose
+    (settled_read_fault g.K.Sink.written g.K.Sink.pieces g.K.Sink.faults c.settle.result c.args.sink.now c.settle.new.sink c.report_on-report.result c.report_on-report.ensures.verdict c.settle.ensures failed)))
+    (λ failed. writes_calm (writes.rose failed)))
 
 pub returns-in-None-clause-answer : goal.returns-in-None-clause-answer
 returns-in-None-clause-answer g c =

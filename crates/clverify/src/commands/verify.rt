@@ -1,0 +1,116 @@
+ghost use Rattle.std.specs.Prelude.{◌≡◌, IfOk, IfSome, IsTrue, false, map, option_map, string_bytes};
+ghost use Rattle.job_facts.specs.Facts.{are_answered};
+ghost use Rattle.report_text.specs.Report.{report_of};
+ghost use Rattle.clverify.specs.Answer.{IsVerdict};
+ghost use Rattle.clverify.specs.Asked.{command_seen, names_seen};
+ghost use Rattle.clverify.specs.Commands.{verify_moves};
+ghost use Rattle.clverify.specs.Commands.Verify.{IsTrueVerification, ReportsTruly, reported, script_word, status_by};
+ghost use Rattle.clverify.specs.Commands.Verify.{verified, verify_due, verify_words};
+ghost use Rattle.clverify.specs.Inputs.{is_read_fault};
+ghost use Rattle.clverify.specs.Outside.{ReadsOnce};
+ghost use Rattle.clverify.specs.Settled.{IsReport};
+
+use crate::answer::Answer;
+use crate::commands::Command;
+use crate::status::Status;
+use crate::stopped::Stopped;
+use crate::task::{TaskInputs, do_task, read_task};
+use job_facts::Facts;
+use report_text::report_text;
+use std::alloc::Global;
+use vf_io::{NoMemory, Shelf};
+
+/// The command that the words behind `verify` stand for.
+pub(crate) fn verify_words(words: &[String]) -> Option<Command<'_>>
+    ensures { option_map command_seen result ≡ option_map verify_moves (verify_words (map string_bytes words.now)) }
+{
+    let [file, setup, more @ ..] = words else {
+        return None;
+    };
+    if file.is_empty() || setup.is_empty() {
+        return None;
+    }
+    Some(Command::Verify {
+        file: file.as_str(),
+        setup: setup.as_str(),
+        script: script_word(more)?,
+    })
+}
+
+/// The script that words name, if they name one.
+fn script_word(words: &[String]) -> Option<Option<&str>>
+    ensures { option_map (λ named. option_map (λ name. name.now) named) result ≡ script_word (map string_bytes words.now) }
+{
+    match words {
+        [] => Some(None),
+        [name, script] if name.as_str() == "--script" && !script.is_empty() => {
+            Some(Some(script.as_str()))
+        }
+        _ => None,
+    }
+}
+
+/// Verifies a file with a setup, and a script if one is named.
+pub(crate) fn verify_report<S: Shelf>(
+    alloc: Global,
+    file: &str,
+    setup: &str,
+    script: Option<&str>,
+    shelf: &mut S,
+) -> Result<Answer, Stopped>
+    requires file { S.allows shelf.old file.now }
+    requires setup { S.allows shelf.old setup.now }
+    requires script { IfSome script (λ name. S.allows shelf.old name.now) }
+    ensures report { IfSome (S.files shelf.old) (λ files. IsReport result (verify_due (names_seen file.now setup.now script.entry) files)) }
+    ensures verdict { IfOk result (λ answer. IsVerdict answer.status) }
+    ensures sound { IfSome (S.files shelf.old) (λ files. IfOk result (λ answer.
+        IsTrueVerification (names_seen file.now setup.now script.entry) files answer.text.items)) }
+    ensures read { ReadsOnce S.files S.faults S.failures (is_read_fault result) shelf.old shelf.new }
+{
+    match read_task(alloc, file, setup, script, shelf) {
+        Ok(inputs) => verify_task(alloc, inputs),
+        Err(stopped) => Err(stopped),
+    }
+}
+
+/// Verifies what was read.
+fn verify_task(alloc: Global, inputs: TaskInputs) -> Result<Answer, Stopped>
+    ensures report { IsReport result (verified inputs) }
+    ensures verdict { IfOk result (λ answer. IsVerdict answer.status) }
+    ensures sound { IfOk result (λ answer. ReportsTruly inputs answer.text.items) }
+    ensures memory { is_read_fault result ≡ false }
+{
+    match do_task(alloc, inputs) {
+        Ok(facts) => report(alloc, &facts),
+        Err(NoMemory) => Err(Stopped::NoMemory),
+    }
+}
+
+/// Reports the facts of a job.
+fn report(alloc: Global, facts: &Facts) -> Result<Answer, Stopped>
+    requires { IsTrue (are_answered facts.now.answers) }
+    ensures report { IsReport result (reported facts.now) }
+    ensures verdict { IfOk result (λ answer. IsVerdict answer.status) }
+    ensures text { IfOk result (λ answer. answer.text.items ≡ report_of facts.now) }
+    ensures memory { is_read_fault result ≡ false }
+{
+    match report_text(alloc, facts) {
+        Ok(text) => Ok(Answer {
+            text,
+            status: status_by(facts.is_clean()),
+        }),
+        Err(NoMemory) => Err(Stopped::NoMemory),
+    }
+}
+
+/// Findings, where some move that is left isn't safe.
+fn status_by(clean: bool) -> Status
+    ensures status { result ≡ status_by clean }
+    ensures verdict { IsVerdict result }
+{
+    if clean {
+        Status::Clean
+    } else {
+        Status::Findings
+    }
+}

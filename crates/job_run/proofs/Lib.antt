@@ -1,0 +1,9 @@
+pub mod Sizes
+pub mod Parts
+pub mod Named
+pub mod Listed
+pub mod Asked
+pub mod Played
+pub mod Standing
+pub mod Counted
+pub mod FirstStrips

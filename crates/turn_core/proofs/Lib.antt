@@ -1,0 +1,5 @@
+pub mod Replaced
+pub mod Versions
+pub mod Parts
+pub mod ReadBack
+pub mod Steps
