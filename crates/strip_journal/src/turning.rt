@@ -57,12 +57,7 @@ impl Journal {
         self.entries.reserve(1)?;
         let (removed, possible) = self.totals_again(place, is_undo);
         let source = self.entries[place];
-        turn_changes(
-            &mut self.rays,
-            self.changes.as_slice(),
-            &source,
-            is_undo,
-        );
+        turn_changes(&mut self.rays, self.changes.as_slice(), &source, is_undo);
         let _noted = self.entries.push(Entry {
             edit: self.done,
             from: source.from,

@@ -20,7 +20,7 @@ mark_strip-requires-clause-rays c =
 pub returns-clause-marked : goal.returns-clause-marked
 returns-clause-marked c =
     let size : length c.mark_strip.new.rays ≡ c.args.self.now.rays.len =
-        c.mark_strip.ensures.same.many ∙ ap (λ (z : List KeptSets). length z) c.as_mut_slice.ensures.value ∙ sym c.args.self.now.rays.ok.0 in
+    c.mark_strip.ensures.same.many ∙ ap (λ (z : List KeptSets). length z) c.as_mut_slice.ensures.value ∙ sym c.args.self.now.rays.ok.0 in
     subst
     (λ (z : List KeptSets). IfOk c.mark_strip.result (λ m. (move : JobMove) → HasNumber c.args.plan.now c.args.number move
     → IsMarkedStrip c.args.plan.now move c.args.self.now.number c.args.self.now.rays.items z m.changes.items m.counts))

@@ -31,7 +31,7 @@ returns-clause-ok c =
     let stands = stands_next c.args.self.now Undo c.requires.journal c.requires.edit in
     let left = stands.left in
     let source : c.index-source.result.now ≡ slice_index c.args.self.now.line.items (c.args.self.now.at - 1) =
-        c.index-source.ensures ∙ get_or_default c.args.self.now.line.items (c.args.self.now.at - 1) c.index-source.result.now 0 (omega arith) in
+    c.index-source.ensures ∙ get_or_default c.args.self.now.line.items (c.args.self.now.at - 1) c.index-source.result.now 0 (omega arith) in
     let turned = subst (λ u. IsTurnedFrom c.args.self.now c.turn.new.self u true) source c.in_ok-turn.ensures.ok in
     undone_at c.args.self.now c.turn.new.self c.move_to-2.new.self c.requires.journal c.requires.edit (omega arith) turned
     (moved_on c.turn.new.self c.move_to-2.new.self _ _ c.args.self.now.done c.turn.ensures.line.done c.move_to-2.ensures)
