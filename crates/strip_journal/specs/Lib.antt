@@ -1,7 +1,0 @@
-pub mod Entries
-pub mod Fresh
-pub mod Found
-pub mod Journals
-pub mod Looking
-pub mod Steps
-pub mod Strips
