@@ -60,7 +60,8 @@ pub(crate) fn read_task<S: Shelf>(
     requires setup { S.allows shelf.old setup.now }
     requires script { IfSome script (λ name. S.allows shelf.old name.now) }
     ensures gives { IfSome (S.files shelf.old) (λ files. GivesInput result
-        (task_of (bytes_of files file.now) (bytes_of files setup.now) (option_map (bytes_of files) (option_map (λ name. name.now) script.entry)))) }
+        (task_of (bytes_of files file.now) (bytes_of files setup.now)
+        (option_map (bytes_of files) (option_map (λ name. name.now) script.entry)))) }
     ensures read { ReadsOnce S.files S.faults S.failures (is_read_fault result) shelf.old shelf.new }
 {
     match read_moves(alloc, file, shelf) {

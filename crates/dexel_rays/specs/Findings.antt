@@ -18,7 +18,7 @@ pub record Seen : Type 0 where
 abbrev pub is_removed : Seen → Bool
 is_removed p = p.stock && (p.sure && not p.sure_before)
 
--- stock at which this move is possible and no move ahead was; what is removed is among it
+-- stock at which this move is possible and no move ahead was; a point that is removed now may have been possible before
 abbrev pub is_new_possible : Seen → Bool
 is_new_possible p = p.stock && (p.possible && not p.possible_before)
 
