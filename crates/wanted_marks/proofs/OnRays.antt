@@ -75,12 +75,6 @@ width_small m p S sweep point few =
     (offset_within m p 0 S sweep point (omega arith) few) (offset_within m p S S sweep point (omega arith) few)
     (axis_within m 0 S sweep (omega arith) few) (axis_within m S S sweep (omega arith) few)).width
 
-pub height_small : (m : Motion) (p : List ℤ) (S : ℕ) → IsSweep m → IsPoint p → S ≤ scale_limit → unsigned_abs (at (u_between m p 0 S S) 2) ≤ 3 * (offset_limit * axis_limit)
-height_small m p S sweep point few =
-    (between_fits (offset_at m p (pos 0) (pos S)) (offset_at m p (pos S) (pos S)) (axis_at m (pos 0) (pos S)) (axis_at m (pos S) (pos S))
-    (offset_within m p 0 S sweep point (omega arith) few) (offset_within m p S S sweep point (omega arith) few)
-    (axis_within m 0 S sweep (omega arith) few) (axis_within m S S sweep (omega arith) few)).ahead.last
-
 pub heights_bounded : (m : Motion) (p : List ℤ) (S : ℕ) → IsSweep m → IsPoint p → S ≤ scale_limit → IsBounded2 (3 * (offset_limit * axis_limit)) (u_between m p 0 S S)
 heights_bounded m p S sweep point few =
     cross_bounded (offset_at m p (pos 0) (pos S)) (offset_at m p (pos S) (pos S)) (axis_at m (pos 0) (pos S)) (axis_at m (pos S) (pos S)) offset_limit axis_limit
@@ -112,7 +106,7 @@ line_of_ray line r k n S e few sweep is first last all =
     point_between o x y (point_of r.grid r.ray l) (point_of r.grid r.ray n) l n (omega (arith, below, all)) (along_ray r k l) (along_ray r k n) first last in record {
       fits = λ l below. record {
         width = small_as (forms l).width (width_small m (point_of r.grid r.ray l) S sweep (point l below) few);
-        height = subst (λ z. unsigned_abs z ≤ 3 * (offset_limit * axis_limit)) (sym (forms l).height) (height_small m (point_of r.grid r.ray l) S sweep (point l below) few);
+        height = subst (IsBounded2 (3 * (offset_limit * axis_limit))) (sym (forms l).height) (heights_bounded m (point_of r.grid r.ray l) S sweep (point l below) few);
       };
       forms = λ l below. subst (λ z. HasForms line (pos l) m (point_of r.grid r.ray l) z) e (forms l);
     }

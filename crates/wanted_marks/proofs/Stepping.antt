@@ -188,7 +188,7 @@ forms_are line m o first next p S l is on =
     let D : d_between m p 0 S S ≡ moved_twice d f g l = ap₂ (λ x y. dot_on_cell x y x y) start end ∙ d_moves P Q v l in record {
       width = ap (λ x. quadratics x line.first.c line.second.c l) is.constant_is ∙ ap₂ (λ x y. quadratics (whole_width m o S) x y l) is.first_is is.second_is
           ∙ width_moves n u w d f g l ∙ ap₂ (λ x y. spread_form (pos 4) x n y y) (sym D) (sym U);
-      height = ap₂ (λ x y. at x 2 +ℤ l *ℤ at y 2) is.height_is is.height_step_is ∙ ap (λ x. at x 2) (sym U);
+      height = ap₂ (λ x y. moved3 x y l) is.height_is is.height_step_is ∙ sym U;
     }
 
 -- a multiple of d n - u v where d and u are moved3

@@ -1,36 +1,39 @@
 -- The forms of the points of a line on a whole move, as they are kept, and at the point l steps on.
-use Rattle.std.specs.Prelude.{◌≡◌, ℕ, ◌*◌, ◌^◌, ◌<◌, ◌≤◌, List, ℤ, pos, ◌+ℤ◌, ◌*ℤ◌, unsigned_abs, All}
+use Rattle.std.specs.Prelude.{◌≡◌, ℕ, ◌*◌, ◌^◌, ◌<◌, List, ℤ, pos, ◌+ℤ◌, ◌*ℤ◌, All}
 use Rattle.space.specs.Motion.{Motion, axis_at, offset_at}
 use Rattle.space.specs.Vectors.{at}
 use Rattle.bern_form.specs.Between.{n_between, u_between}
 use Rattle.bern_form.specs.Cells.{dot_on_cell}
 use Rattle.bern_form.specs.Forms.{IsSmall}
-use Rattle.bern_form.specs.Sizes.{axis_limit, offset_limit}
+use Rattle.bern_form.specs.Sizes.{IsBounded2, axis_limit, offset_limit}
 use Rattle.ray_grid.specs.Lattice.{point_of, points_of}
 use Rattle.wanted_marks.specs.declared.line.Line.{Line}
 use Rattle.wanted_marks.specs.Rays.{MoveOf, RayOf}
-use Rattle.wanted_marks.specs.Widths.{quadratic, quadratics, spread_form, whole_width}
+use Rattle.wanted_marks.specs.Widths.{moved3, quadratic, quadratics, spread_form, whole_width}
 
--- the width form, and u at the last sample
+-- the width form, and u
 abbrev pub width_at : Line → ℤ → List ℤ
 width_at line l = quadratics line.constant.c line.first.c line.second.c l
 
-abbrev pub last_height_at : Line → ℤ → ℤ
-last_height_at line l = at line.height.c 2 +ℤ l *ℤ at line.height_step.c 2
+abbrev pub heights_at : Line → ℤ → List ℤ
+heights_at line l = moved3 line.height.c line.height_step.c l
 
--- a coefficient of the width form
+-- a coefficient of each
 abbrev pub coefficient_at : Line → ℕ → ℤ → ℤ
 coefficient_at line k l = quadratic (at line.constant.c k) (at line.first.c k) (at line.second.c k) l
+
+abbrev pub height_at : Line → ℕ → ℤ → ℤ
+height_at line k l = at line.height.c k +ℤ l *ℤ at line.height_step.c k
 
 -- they fit 128 bits
 pub record FitsAt (line : Line) (l : ℤ) : Type 0 where
   pub width : All IsSmall (width_at line l)
-  pub height : unsigned_abs (last_height_at line l) ≤ 3 * (offset_limit * axis_limit)
+  pub height : IsBounded2 (3 * (offset_limit * axis_limit)) (heights_at line l)
 
 -- they are those of the point p
 pub record HasForms (line : Line) (l : ℤ) (m : Motion) (p : List ℤ) (S : ℕ) : Type 0 where
   pub width : width_at line l ≡ whole_width m p S
-  pub height : last_height_at line l ≡ at (u_between m p 0 S S) 2
+  pub height : heights_at line l ≡ u_between m p 0 S S
 
 -- on a move of a cutter, at the cells of its depth
 abbrev pub HasFormsIn : Line → ℤ → MoveOf → List ℤ → Type 0

@@ -3,10 +3,10 @@ ghost use Rattle.std.specs.Int.{int_wrap};
 ghost use mir.Syntax.{w128};
 ghost use Rattle.space.specs.Ranges.{IsPoint};
 ghost use Rattle.space.specs.Vectors.{at};
-ghost use Rattle.bern_form.specs.Forms.{IsSmall, all_positive, difference4};
+ghost use Rattle.bern_form.specs.Forms.{IsSmall, all_negative, all_positive, difference4};
 ghost use Rattle.bern_form.specs.Sizes.{IsBounded2, axis_limit, offset_limit, scale_limit};
 ghost use Rattle.wanted_marks.specs.Ways.{scaled_way};
-ghost use Rattle.wanted_marks.specs.Lines.{FitsAt, IsThrough, coefficient_at, last_height_at, width_at};
+ghost use Rattle.wanted_marks.specs.Lines.{FitsAt, IsThrough, coefficient_at, height_at, heights_at, width_at};
 ghost use Rattle.wanted_marks.specs.Widths.{IsTurn, quadratic, spread_form};
 
 use crate::scaled::scaled_way;
@@ -111,13 +111,39 @@ impl Line {
         true
     }
 
+    /// A coefficient of u, of the point l steps on.
+    #[inline]
+    fn height(&self, k: usize, l: u32) -> i128
+        requires place { k < 3 }
+        requires small { IsSmall (height_at self.now k (pos l)) }
+        ensures { result ≡ height_at self.now k (pos l) }
+    {
+        wrapped(self.height.c[k], i128::from(l), self.height_step.c[k])
+    }
+
     /// u at the last sample, of the point l steps on.
     #[inline]
     pub fn last_height(&self, l: u32) -> i128
         requires { FitsAt self.now (pos l) }
-        ensures { result ≡ last_height_at self.now (pos l) }
+        ensures { result ≡ height_at self.now 2 (pos l) }
     {
-        wrapped(self.height.c[2], i128::from(l), self.height_step.c[2])
+        self.height(2, l)
+    }
+
+    /// Whether each coefficient of u is below 0 at the point l steps on. The last one is looked at first, for most points of a
+    /// line are ahead of the tip at the last sample or behind it throughout.
+    #[inline]
+    pub fn is_behind(&self, l: u32) -> bool
+        requires { FitsAt self.now (pos l) }
+        ensures { result ≡ all_negative (heights_at self.now (pos l)) }
+    {
+        if 0 <= self.last_height(l) {
+            return false;
+        }
+        if 0 <= self.height(0, l) {
+            return false;
+        }
+        self.height(1, l) < 0
     }
 
     /// 4 (d n - u^2) at the last sample, of the point l steps on.

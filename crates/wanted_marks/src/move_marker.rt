@@ -143,13 +143,18 @@ impl<'a> MoveMarker<'a> {
         Some(sheet.line(ray.j))
     }
 
-    /// Whether the point l steps on is beside every outer slab throughout the move. It is then neither sure nor possible.
+    /// Whether the point l steps on is behind the tip throughout the move, or beside every outer slab. It is then neither sure nor
+    /// possible.
     #[inline]
-    pub(crate) fn is_beside(&self, line: &Line, l: u32) -> bool
+    pub(crate) fn is_apart(&self, line: &Line, l: u32) -> bool
         requires { FitsAt line.now (pos l) }
         ensures { IsTrue result → (p : List ℤ) → HasFormsIn line.now (pos l) self.now p → IsClearOf self.now p }
     {
-        line.exceed(l, &self.limits)
+        let limits = &self.limits;
+        if line.is_behind(l) {
+            return true;
+        }
+        line.exceed(l, limits)
     }
 
     /// Whether some inner slab holds the point l steps on at the last sample. It is then sure.

@@ -64,16 +64,16 @@ impl<'a> RayMarker<'a> {
         }
     }
 
-    /// Whether the point at an index is beside every outer slab throughout the move. It is then neither sure nor
-    /// possible.
+    /// Whether the point at an index is behind the tip throughout the move, or beside every outer slab. It is then neither sure
+    /// nor possible.
     #[inline]
-    fn is_beside(&self, l: u32) -> bool
+    fn is_apart(&self, l: u32) -> bool
         requires { l < points_of self.now.grid self.now.ray.family }
         ensures { IsTrue result → IsClearOf self.now.sweep (point_of self.now.grid self.now.ray l) }
     {
         match &self.line {
             None => false,
-            Some(line) => self.mover.is_beside(line, l),
+            Some(line) => self.mover.is_apart(line, l),
         }
     }
 
@@ -95,7 +95,7 @@ impl<'a> RayMarker<'a> {
         ensures sure { tells_sure result ≡ is_sure_at self.now l }
         ensures possible { tells_possible result ≡ is_possible_at self.now l }
     {
-        if self.is_beside(l) {
+        if self.is_apart(l) {
             return Mark::Clear;
         }
         if self.is_held_last(l) {

@@ -22,6 +22,6 @@ returns c = λ yes p forms.
     let f2 : FitsSigned w128 (at s.turn.n.c 2) = search rules in
     let four = to_z-of_z w128 c.last_width.result f0 ∙ c.last_width.ensures ∙ ap (λ l. at l 4) forms.width ∙ last_width_is v.motion p S in
     let held = simp to_z-of_z at (c.is_covered_by_some.ensures yes w four) in
-    is_removed v p c.inner.result.now c.last_height.result (at s.turn.n.c 2) stack (ready.both p) (c.last_height.ensures ∙ forms.height)
+    is_removed v p c.inner.result.now c.last_height.result (at s.turn.n.c 2) stack (ready.both p) (c.last_height.ensures ∙ ap (λ l. at l 2) forms.height)
     (ap (λ l. at l 2) ready.turn.n_is ∙ ap (λ k. at (n_between v.motion 0 k k) 2) ready.scale_is)
     (ap (λ k. covered_by_some (pos k) c.last_height.result (at s.turn.n.c 2) w c.inner.result.now) (sym ready.scale_is) ∙ held)

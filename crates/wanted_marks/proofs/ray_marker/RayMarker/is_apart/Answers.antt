@@ -5,10 +5,10 @@ use Rattle.wanted_marks.specs.declared.line.Line.{Line}
 use Rattle.wanted_marks.specs.Lines.{HasForms, IsLineOf}
 use Rattle.wanted_marks.specs.Rays.{IsClearOf, MoveOf}
 use Rattle.wanted_marks.specs.ReadyRay.{IsReadyRay}
-use Rattle.wanted_marks.proofs.ray_marker.RayMarker.is_beside.Goals as goal
+use Rattle.wanted_marks.proofs.ray_marker.RayMarker.is_apart.Goals as goal
 
-pub is_beside-requires : goal.is_beside-requires
-is_beside-requires c =
+pub is_apart-requires : goal.is_apart-requires
+is_apart-requires c =
     let ready = subst (IsReadyRay c.self.inside.line) c.self.view_is c.self.invariant in
     let line = subst (λ (o : Option Line). IfSome o (λ x. IsLineOf x c.args.self.now)) c.in-Some.is ready.line_of in
     line.fits c.args.l c.requires
@@ -21,4 +21,4 @@ returns-in-Some c = λ yes.
     let p = point_of r.grid r.ray c.args.l in
     let here : c.self.inside.mover.now ≡ r.sweep = ap (λ x. x.sweep) c.self.view_is in
     subst (λ (v : MoveOf). IsClearOf v p) here
-    (c.is_beside.ensures yes p (subst (λ (v : MoveOf). HasForms c.in-Some.line (pos c.args.l) v.motion p (2 ^ v.depth)) (sym here) (line.forms c.args.l c.requires)))
+    (c.is_apart.ensures yes p (subst (λ (v : MoveOf). HasForms c.in-Some.line (pos c.args.l) v.motion p (2 ^ v.depth)) (sym here) (line.forms c.args.l c.requires)))
