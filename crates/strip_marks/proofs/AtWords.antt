@@ -1,10 +1,11 @@
--- A move that is asked about the wanted points of a word alone changes and finds there what it would if it were asked about all.
-use Rattle.std.proofs.Common.{◌≡◌, ℕ, ◌+◌, ◌-◌, ◌*◌, ◌<◌, ◌≤◌, Bool, true, false, not, ◌&&◌, ◌||◌, IsTrue, List, length, arith, refl, sym, ap, ap₂, ◌∙◌, ◌⊎◌, inl, inr, ⊎_elim, ltb}
+-- A move that is asked about the wanted points of its window in a word alone changes and finds there what it would if it were asked
+-- about all.
+use Rattle.std.proofs.Common.{◌≡◌, ℕ, ◌+◌, ◌*◌, ◌<◌, ◌≤◌, Bool, true, false, not, ◌&&◌, ◌||◌, IsTrue, List, length, arith, refl, sym, ap, ap₂, ◌∙◌, ◌⊎◌, inl, inr, ⊎_elim, leb, ltb}
 use Rattle.std.specs.List.{range_with_len}
-use Rattle.std.proofs.lemmas.Bool.{and_parts, and_right, cases_lt, lt-ltb}
+use Rattle.std.proofs.lemmas.Bool.{and_parts, and_right, cases_lt, false_from_ne_true, le-leb, le-ltb, lt-leb, lt-ltb}
 use Rattle.std.proofs.lemmas.List.{get_or_past}
 use borrow.Author.Tests.{ltb-true}
-use Rattle.vf_spans.specs.Members.{has}
+use Rattle.vf_spans.specs.Members.{has, in_range}
 use Rattle.vf_spans.specs.Words.{has_bit}
 use Rattle.vf_spans.proofs.WordBits.{has_bit-zero}
 use Rattle.job_facts.specs.declared.counts.Counts.{Counts}
@@ -19,10 +20,12 @@ use Rattle.dexel_rays.proofs.Asked.{agree_new_possible, agree_new_sure}
 use Rattle.dexel_rays.proofs.Laws.{point}
 use Rattle.dexel_rays.proofs.WordLaws.{agree_found, asked_word}
 use Rattle.ray_words.specs.Rays.{IsWordAt}
-use Rattle.wanted_marks.specs.Rays.{AreOnRay, RayOf, is_possible_at, is_sure_at, is_sure_bit, is_told_bit}
+use Rattle.wanted_marks.specs.Rays.{AreOnRay, RayOf, is_possible_at, is_sure_at, is_sure_bit, is_told_at, is_told_bit}
+use Rattle.ray_grid.specs.Lattice.{points_of}
 use Rattle.strip_marks.specs.Marks.{seen_on}
+use Rattle.strip_marks.specs.RayMarks.{IsWindow}
 use Rattle.strip_marks.specs.Words.{AreSetsOf, IsWordMarked}
-use Rattle.strip_marks.proofs.Counting.{found_as, found_none}
+use Rattle.strip_marks.proofs.Counting.{found_as, found_none, inside_or}
 
 -- beyond its bound a set has no index
 pub past : (set : List Bool) (bound l : ℕ) → length set ≡ bound → bound ≤ l → has set l ≡ false
@@ -41,12 +44,42 @@ and_yes : (x y : Bool) → y ≡ true → (x && y) ≡ x
 and_yes true y e = e
 and_yes false y e = refl
 
--- the wanted bits are points of the ray
-pub wanted_on_ray : (r : RayOf) (d : Sets) (n all wanted : ℕ) → AreSetsOf r d
-    → ((b : ℕ) → b < 64 → has_bit wanted b ≡ (has_bit all b && ltb b (length d.stock - 64 * n))) → AreOnRay r (64 * n) wanted
-wanted_on_ray r d n all wanted h is b lt t =
-    let both = and_parts (has_bit all b) (ltb b (length d.stock - 64 * n)) (sym (is b lt) ∙ t) in
-    omega (arith, ltb-true b (length d.stock - 64 * n) both.1, h.bound.stock)
+-- beside its window the move is possible at no point of the ray, and so sure of none
+pub not_possible_beside : (r : RayOf) (lo hi l : ℕ) → IsWindow r lo hi → l < points_of r.grid r.ray.family → (l < lo) ⊎ (hi ≤ l)
+    → is_possible_at r l ≡ false
+not_possible_beside r lo hi l w lt out =
+    false_from_ne_true (is_possible_at r l)
+    (λ t. let inside = w.holds l lt t in
+    ⊎_elim (λ (low : l < lo). omega (arith, inside.0)) (λ (high : hi ≤ l). omega (arith, inside.1)) out)
+
+pub not_sure_beside : (r : RayOf) (lo hi l : ℕ) → IsWindow r lo hi → l < points_of r.grid r.ray.family → (l < lo) ⊎ (hi ≤ l)
+    → is_sure_at r l ≡ false
+not_sure_beside r lo hi l w lt out =
+    false_from_ne_true (is_sure_at r l) (λ t. let met' = w.both l t in let none = not_possible_beside r lo hi l w lt out in cc)
+
+-- an index is in a range or beside it
+inside : (lo hi l : ℕ) → lo ≤ l → l < hi → in_range l (lo, hi) ≡ true
+inside lo hi l ge lt = ap₂ (λ x y. x && y) (le-leb lo l ge) (lt-ltb l hi lt)
+
+beside : (lo hi l : ℕ) → (l < lo) ⊎ (hi ≤ l) → in_range l (lo, hi) ≡ false
+beside lo hi l out =
+    ⊎_elim (λ (low : l < lo). ap (λ x. x && ltb l hi) (lt-leb lo l low))
+    (λ (high : hi ≤ l). ap (λ x. leb lo l && x) (le-ltb l hi high) ∙ and_right (leb lo l) false refl) out
+
+-- the wanted bits are indices of the window, and so points of the ray
+abbrev pub AreAsked : ℕ → ℕ → ℕ → ℕ → ℕ → Type 0
+AreAsked n lo hi all wanted = (b : ℕ) → b < 64 → has_bit wanted b ≡ (has_bit all b && in_range (64 * n + b) (lo, hi))
+
+wanted_inside : (n lo hi all wanted b : ℕ) → AreAsked n lo hi all wanted → b < 64 → has_bit wanted b ≡ true → 64 * n + b < hi
+wanted_inside n lo hi all wanted b is lt t =
+    let both = and_parts (has_bit all b) (in_range (64 * n + b) (lo, hi)) (sym (is b lt) ∙ t) in
+    let within = and_parts (leb lo (64 * n + b)) (ltb (64 * n + b) hi) both.1 in
+    ltb-true (64 * n + b) hi within.1
+
+pub wanted_on_ray : (r : RayOf) (n lo hi all wanted : ℕ) → IsWindow r lo hi → AreAsked n lo hi all wanted → AreOnRay r (64 * n) wanted
+wanted_on_ray r n lo hi all wanted w is b lt t =
+    let below = wanted_inside n lo hi all wanted b is lt t in
+    omega (arith, w.within)
 
 -- a point of which the move is neither sure nor possible meets none of the rules
 pub unmarked_meets_none : (a b c S P s p rapid : Bool) → s ≡ false → p ≡ false → met (point a b c S P s p rapid) ≡ none_met
@@ -67,13 +100,13 @@ unmarked_meets_none a b c S P s p rapid es ep =
 unmarked_bit : (word b : ℕ) → word ≡ 0 → has_bit word b ≡ false
 unmarked_bit word b e = ap (λ x. has_bit x b) e ∙ has_bit-zero b
 
-nothing_new : (mark before b : ℕ) → mark ≡ 0 → has_bit 0 b ≡ (has_bit mark b && not (has_bit before b))
-nothing_new mark before b e = has_bit-zero b ∙ sym (ap (λ x. x && not (has_bit before b)) (unmarked_bit mark b e))
+pub nothing : (word b : ℕ) (mark : Bool) → word ≡ 0 → has_bit 0 b ≡ (has_bit word b && mark)
+nothing word b mark e = has_bit-zero b ∙ sym (ap (λ x. x && mark) (unmarked_bit word b e))
 
 pub no_delta : (w : WordSets) (sure possible : ℕ) → sure ≡ 0 → possible ≡ 0 → IsWordDelta w sure possible record { sure = 0; possible = 0 }
 no_delta w sure possible s p = record {
-  new_sure = λ b lt. nothing_new sure w.sure b s;
-  new_possible = λ b lt. nothing_new possible w.possible b p;
+  new_sure = λ b lt. nothing sure b (not (has_bit w.sure b)) s;
+  new_possible = λ b lt. nothing possible b (not (has_bit w.possible b)) p;
 }
 
 pub no_found : (w : WordSets) (sure possible : ℕ) (rapid : Bool) (counts : Counts) → sure ≡ 0 → possible ≡ 0 → counts ≡ no_counts
@@ -84,7 +117,7 @@ no_found w sure possible rapid counts s p e =
     (λ b ge lt. unmarked_meets_none (has_bit w.stock b) (has_bit w.part b) (has_bit w.fixture b) (has_bit w.sure b) (has_bit w.possible b)
     (has_bit sure b) (has_bit possible b) rapid (unmarked_bit sure b s) (unmarked_bit possible b p)))
 
-module _ (r : RayOf) (d : Sets) (n : ℕ) (w : WordSets) (h : AreSetsOf r d) (at : IsWordAt d n w) where
+module _ (r : RayOf) (d : Sets) (n lo hi : ℕ) (w : WordSets) (h : AreSetsOf r d) (window : IsWindow r lo hi) (at : IsWordAt d n w) where
   ordered : SureIsPossible w
   ordered b lt t = at.possible b lt ∙ h.ordered (64 * n + b) (sym (at.sure b lt) ∙ t)
 
@@ -112,19 +145,35 @@ module _ (r : RayOf) (d : Sets) (n : ℕ) (w : WordSets) (h : AreSetsOf r d) (at
 
   module _ (all wanted only sure possible : ℕ) (rapid : Bool)
       (is_all : (b : ℕ) → b < 64 → has_bit all b ≡ is_wanted (seen_bit w 0 0 false b))
-      (is_asked : (b : ℕ) → b < 64 → has_bit wanted b ≡ (has_bit all b && ltb b (length d.stock - 64 * n)))
+      (is_asked : AreAsked n lo hi all wanted)
       (is_only : (b : ℕ) → b < 64 → has_bit only b ≡ is_sure_only (seen_bit w 0 0 rapid b))
       (is_sure : (b : ℕ) → b < 64 → has_bit sure b ≡ is_sure_bit r (64 * n) wanted b)
       (is_told : (b : ℕ) → b < 64 → has_bit possible b ≡ is_told_bit r (64 * n) wanted only b) where
-    -- at each point of the ray the marks agree with all marks
+    -- a bit beside the window isn't wanted
+    unasked : (b : ℕ) → b < 64 → (64 * n + b < lo) ⊎ (hi ≤ 64 * n + b) → has_bit wanted b ≡ false
+    unasked b lt out =
+        is_asked b lt ∙ ap (λ x. has_bit all b && x) (beside lo hi (64 * n + b) out) ∙ and_right (has_bit all b) false refl
+
+    -- at each point of the ray the marks agree with all marks: beside the window there are none
     agree : (b : ℕ) → b < 64 → 64 * n + b < length d.stock
         → Agree (seen_by w (λ k. is_sure_at r (64 * n + k)) (λ k. is_possible_at r (64 * n + k)) rapid b) (has_bit sure b)
         (has_bit possible b)
     agree b lt below =
-        asked_word w wanted only sure possible (λ k. is_sure_at r (64 * n + k)) (λ k. is_possible_at r (64 * n + k)) rapid b
-        (is_asked b lt ∙ and_yes (has_bit all b) (ltb b (length d.stock - 64 * n)) (lt-ltb b (length d.stock - 64 * n) (omega arith))
-        ∙ is_all b lt)
-        (is_only b lt) (is_sure b lt) (is_told b lt)
+        let l = 64 * n + b in
+        let point : l < points_of r.grid r.ray.family = omega (arith, h.bound.stock) in
+        inside_or lo hi l
+        (Agree (seen_by w (λ k. is_sure_at r (64 * n + k)) (λ k. is_possible_at r (64 * n + k)) rapid b) (has_bit sure b)
+        (has_bit possible b))
+        (λ ge less. asked_word w wanted only sure possible (λ k. is_sure_at r (64 * n + k)) (λ k. is_possible_at r (64 * n + k)) rapid b
+        (is_asked b lt ∙ and_yes (has_bit all b) (in_range l (lo, hi)) (inside lo hi l ge less) ∙ is_all b lt)
+        (is_only b lt) (is_sure b lt) (is_told b lt))
+        (λ out. record {
+          same_sure = λ t.
+              is_sure b lt ∙ ap (λ x. x && is_sure_at r l) (unasked b lt out) ∙ sym (not_sure_beside r lo hi l window point out);
+          same_possible = λ t o.
+              is_told b lt ∙ ap (λ x. x && is_told_at r (has_bit only b) l) (unasked b lt out)
+              ∙ sym (not_possible_beside r lo hi l window point out);
+        })
 
     each : (b : ℕ) → b < 64
         → Agree (seen_by w (λ k. is_sure_at r (64 * n + k)) (λ k. is_possible_at r (64 * n + k)) rapid b) (has_bit sure b)
@@ -146,6 +195,9 @@ module _ (r : RayOf) (d : Sets) (n : ℕ) (w : WordSets) (h : AreSetsOf r d) (at
         (let e : 0 + b ≡ b = omega arith in e)
         ∙ same_seen (is_sure_at r) (is_possible_at r) rapid b lt))
 
+    on_ray : (b : ℕ) → b < 64 → has_bit wanted b ≡ true → 64 * n + b < length d.stock
+    on_ray b lt t = omega (arith, wanted_on_ray r n lo hi all wanted window is_asked b lt t, h.bound.stock)
+
     pub word_marked : (delta : WordDelta) (counts : Counts) → IsWordDelta w sure possible delta
         → counts ≡ findings (seen_bit w sure possible rapid) (range_with_len 0 64)
         → IsWordMarked d (is_sure_at r) (is_possible_at r) rapid n delta counts
@@ -163,19 +215,9 @@ module _ (r : RayOf) (d : Sets) (n : ℕ) (w : WordSets) (h : AreSetsOf r d) (at
           ∙ ap (λ x. is_possible_at r (64 * n + b) && not x) (at.possible b lt);
       sure_below = λ b lt t.
           let marked = left_of (has_bit sure b) (not (has_bit w.sure b)) (sym (is_delta.new_sure b lt) ∙ t) in
-          omega (
-            arith,
-            wanted_on_ray r d n all wanted h is_asked b lt
-                (left_of (has_bit wanted b) (is_sure_at r (64 * n + b)) (sym (is_sure b lt) ∙ marked)),
-            h.bound.stock,
-          );
+          on_ray b lt (left_of (has_bit wanted b) (is_sure_at r (64 * n + b)) (sym (is_sure b lt) ∙ marked));
       possible_below = λ b lt t.
           let marked = left_of (has_bit possible b) (not (has_bit w.possible b)) (sym (is_delta.new_possible b lt) ∙ t) in
-          omega (
-            arith,
-            wanted_on_ray r d n all wanted h is_asked b lt
-                (left_of (has_bit wanted b) _ (sym (is_told b lt) ∙ marked)),
-            h.bound.stock,
-          );
+          on_ray b lt (left_of (has_bit wanted b) (is_told_at r (has_bit only b) (64 * n + b)) (sym (is_told b lt) ∙ marked));
       found = is_found ∙ found;
     }

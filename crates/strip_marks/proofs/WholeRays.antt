@@ -1,7 +1,7 @@
 -- What a move changes on a ray: its words in the window are enough.
 use Rattle.std.proofs.Common.{◌≡◌, ℕ, ◌+◌, ◌-◌, ◌*◌, ◌^◌, ◌<◌, ◌≤◌, Bool, false, not, ◌&&◌, List, [], length, arith, refl, sym, ap, ◌∙◌, subst, ◌⊎◌, inl, inr, ⊎_elim}
 use Rattle.std.specs.List.{All, range_with_len}
-use Rattle.std.proofs.lemmas.Bool.{cases_lt, false_from_ne_true}
+use Rattle.std.proofs.lemmas.Bool.{cases_lt}
 use Rattle.std.proofs.lemmas.List.Elements.{All-nil}
 use Rattle.vf_spans.specs.Members.{has}
 use Rattle.job_facts.specs.declared.counts.Counts.{Counts}
@@ -15,7 +15,7 @@ use Rattle.strip_marks.specs.declared.change.WordChange.{WordChange}
 use Rattle.strip_marks.specs.Marks.{among, possible_of, seen_on, sure_of}
 use Rattle.strip_marks.specs.RayMarks.{AreWordsMarked, IsAtKept, IsChangeOf, IsRayMarked, IsWindow}
 use Rattle.strip_marks.specs.Words.{AreSetsOf}
-use Rattle.strip_marks.proofs.AtWords.{none_of_three, past, unmarked_meets_none}
+use Rattle.strip_marks.proofs.AtWords.{none_of_three, not_possible_beside, not_sure_beside, past, unmarked_meets_none}
 use Rattle.strip_marks.proofs.Counting.{found_none, found_window, inside_or}
 use Rattle.strip_marks.proofs.Growing.{beside}
 use Rattle.strip_marks.proofs.Lists.{order_few}
@@ -50,16 +50,15 @@ no_ray after sure possible rapid n few no_sure no_possible =
 module _ (r : RayOf) (after : KeptSets) (rapid : Bool) (n first end lo hi : ℕ) (changes : List WordChange) (counts : Counts)
     (h : AreSetsOf r after.sets) (w : IsWindow r first end) (from : 64 * lo ≤ first) (to : end ≤ 64 * hi) (order : lo ≤ hi)
     (m : AreWordsMarked after.sets (is_sure_at r) (is_possible_at r) rapid n lo hi changes counts) where
+  beside_window : (l : ℕ) → (l < 64 * lo) ⊎ (64 * hi ≤ l) → (l < first) ⊎ (end ≤ l)
+  beside_window l out = ⊎_elim (λ (low : l < 64 * lo). inl (omega arith)) (λ (high : 64 * hi ≤ l). inr (omega arith)) out
+
   -- beyond the words of the window the move is possible at no point of the ray, and so sure of none
   not_possible : (l : ℕ) → l < length after.sets.stock → (l < 64 * lo) ⊎ (64 * hi ≤ l) → is_possible_at r l ≡ false
-  not_possible l lt out =
-      false_from_ne_true (is_possible_at r l)
-      (λ t. let inside = w.holds l (omega (arith, h.bound.stock)) t in
-      ⊎_elim (λ (low : l < 64 * lo). omega (arith, inside.0)) (λ (high : 64 * hi ≤ l). omega (arith, inside.1)) out)
+  not_possible l lt out = not_possible_beside r first end l w (omega (arith, h.bound.stock)) (beside_window l out)
 
   not_sure : (l : ℕ) → l < length after.sets.stock → (l < 64 * lo) ⊎ (64 * hi ≤ l) → is_sure_at r l ≡ false
-  not_sure l lt out =
-      false_from_ne_true (is_sure_at r l) (λ t. let met' = w.both l t in let none = not_possible l lt out in cc)
+  not_sure l lt out = not_sure_beside r first end l w (omega (arith, h.bound.stock)) (beside_window l out)
 
   -- so it changes nothing there
   none_beside : (pick : WordChange → ℕ) (l : ℕ) → (l < 64 * lo) ⊎ (64 * hi ≤ l) → among pick changes n l ≡ false

@@ -45,8 +45,7 @@ fn mark_at<'x>(
     if window.0 >= window.1 {
         return Ok(Counts::none());
     }
-    let on_ray = marker.on_ray(n);
-    let counts = mark_ray(&on_ray, ray, n, window, plan.is_rapid(number), changes)?;
+    let counts = mark_ray(marker, ray, n, window, plan.is_rapid(number), changes)?;
     Ok(counts)
 }
 
