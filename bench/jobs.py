@@ -7,7 +7,7 @@ medium, large and huge are a block that gets a pocket with a flat floor and wall
 by layer, a smaller one goes round with its flank along the walls, and a ball cutter finishes the floor. The tool axis tilts all the
 way. Two clamps hold the block at its ends. 1,000, 5,000 and 20,000 moves.
 
-fine and finest have one short cut on a grid with 1,000 points for each node, the most that a setup may ask for; finest has the most
+fine and limit have one short cut on a grid with 1,000 points for each node, the most that a setup may ask for; limit has the most
 nodes too.
 
 The same name gives the same bytes each time.
@@ -40,7 +40,7 @@ JOBS = {
     "large": LARGE,
     "huge": HUGE,
     "fine": LARGE._replace(points=1_000, moves=1),
-    "finest": HUGE._replace(nodes=(400, 400, 400), points=1_000, moves=1),
+    "limit": HUGE._replace(nodes=(400, 400, 400), points=1_000, moves=1),
 }
 LEAN = 1 / 8  # of the walls: a millimetre outwards for eight upwards, some seven degrees
 
