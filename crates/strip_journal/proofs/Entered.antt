@@ -9,7 +9,7 @@ use Rattle.strip_marks.specs.Marks.{HaveSameSets, IsMarkedStrip, possible_there,
 use Rattle.strip_journal.specs.declared.journal.Journal.{Journal}
 use Rattle.strip_journal.specs.Entries.{hits_of, possible_ahead, removed_ahead}
 use Rattle.strip_journal.specs.Journals.{IsJournal, found_at, job_of}
-use Rattle.strip_journal.specs.Steps.{HasSameEdits, IsEntered, IsStood, applied_entry, noted}
+use Rattle.strip_journal.specs.Steps.{HasSameEdits, IsEntered, IsStood, applied_entry, does_nothing, noted}
 use Rattle.strip_journal.proofs.EnteredParts.{IsNextMove, entered_held, entered_parts, new_entry}
 use Rattle.strip_journal.proofs.KeptParts.{Parts, held_of, journal_by, parts_of}
 use Rattle.strip_journal.proofs.KeptSame.{same_held}
@@ -75,7 +75,8 @@ entered_is j m k l changes counts edits entered stood =
     let number = stood.strip.number ∙ entered.strip.number ∙ edits.strip.number in
     let of = stood.strip.of ∙ entered.strip.of ∙ edits.strip.of in
     let all = stood.changes ∙ entered.changes_are ∙ ap (λ (c : List WordChange). c ++ changes) edits.changes in
-    let entries = stood.entries ∙ entered.entries ∙ ap₂ noted edits.entries (same_entry j m changes counts edits) in
+    let entries =
+    stood.entries ∙ entered.entries ∙ ap₂ (noted (does_nothing changes counts)) edits.entries (same_entry j m changes counts edits) in
     let numbers : k.line.items ≡ j.line.items = line.line ∙ edits.line in
     let at : k.at ≡ j.at = line.at ∙ edits.at in
     let done : k.done ≡ j.done = line.done ∙ edits.done in

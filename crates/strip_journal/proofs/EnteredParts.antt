@@ -1,6 +1,6 @@
 -- What a strip holds after a move was entered: with its entry, or, where it changes and finds nothing, without one.
-use Rattle.std.proofs.Common.{◌≡◌, ℕ, ◌+◌, ◌-◌, ◌^◌, ◌<◌, ◌≤◌, ◌==◌, true, false, Bool, All, not, ◌&&◌, nat_lt, List, [], ◌∷◌, ◌++◌, length, take, Some, slice_get, slice_index, arith, length-append, refl, sym, ap, ◌∙◌, subst}
-use Rattle.std.proofs.lemmas.Bool.{and_parts, cond_both, eqb-true, ltb-false, not-true}
+use Rattle.std.proofs.Common.{◌≡◌, ℕ, ◌+◌, ◌^◌, ◌<◌, ◌≤◌, ◌==◌, true, false, Bool, All, ◌&&◌, List, [], ◌∷◌, ◌++◌, length, take, Some, slice_get, slice_index, arith, length-append, refl, sym, ap, ◌∙◌, subst}
+use Rattle.std.proofs.lemmas.Bool.{and_parts, cond_both, eqb-true}
 use Rattle.std.proofs.lemmas.List.{nil_from_length}
 use Rattle.std.proofs.lemmas.List.Elements.{All-append}
 use Rattle.std.proofs.lemmas.Option.{same_Some, slice_get_within}
@@ -19,7 +19,7 @@ use Rattle.strip_marks.specs.Marks.{AreInOrder, IsChangeOn, among, points_at, po
 use Rattle.strip_journal.specs.declared.entry.Entry.{Entry}
 use Rattle.strip_journal.specs.Entries.{AreEntries, IsPlace, changes_of, entry_at, hits_of, possible_ahead, removed_ahead}
 use Rattle.strip_journal.specs.Journals.{AreFound, HaveTotals, IsTracked, found_at, possible_at, sure_at}
-use Rattle.strip_journal.specs.Steps.{AreRaysTurned, is_nothing, noted}
+use Rattle.strip_journal.specs.Steps.{AreRaysTurned, does_nothing, noted}
 use Rattle.strip_journal.proofs.Ahead.{possible_ahead_is, possible_by, possible_total, removed_ahead_is, removed_by, sure_total}
 use Rattle.strip_journal.proofs.EntryAdded.{kept_noted, kept_unnoted, sorted_noted, sorted_unnoted, totals_noted}
 use Rattle.strip_journal.proofs.FoundAdded.{IsFoundFor, each_edit, found_each, found_from, found_noted, found_still, found_unnoted}
@@ -50,7 +50,7 @@ entered_parts p after changes counts = record {
   of = p.of;
   rays = after;
   changes = p.changes ++ changes;
-  entries = noted p.entries (new_entry p changes counts);
+  entries = noted (does_nothing changes counts) p.entries (new_entry p changes counts);
   line = take p.at p.line ++ p.done ∷ [];
   at = p.at + 1;
   done = p.done + 1;
@@ -209,8 +209,8 @@ entered_noted job p number move changes counts h next =
           })));
     }
 
--- an entry that tells nothing has no changes and no hits
-pub record TellsNothing (changes : List WordChange) (counts : Counts) : Type 0 where
+-- a move that does nothing has no changes and no hits
+pub record DoesNothing (changes : List WordChange) (counts : Counts) : Type 0 where
   pub changes_are : changes ≡ []
   pub part_sure : counts.part_sure ≡ 0
   pub part_possible : counts.part_possible ≡ 0
@@ -219,24 +219,21 @@ pub record TellsNothing (changes : List WordChange) (counts : Counts) : Type 0 w
   pub rapid_sure : counts.rapid_sure ≡ 0
   pub rapid_possible : counts.rapid_possible ≡ 0
 
-nothing_told : (p : Parts) (changes : List WordChange) (counts : Counts) → is_nothing (new_entry p changes counts) ≡ true
-    → TellsNothing changes counts
-nothing_told p changes counts is =
+pub nothing_done : (changes : List WordChange) (counts : Counts) → does_nothing changes counts ≡ true → DoesNothing changes counts
+nothing_done changes counts is =
     let rapid : Bool = counts.rapid_sure == 0 && counts.rapid_possible == 0 in
     let later : Bool = counts.fix_possible == 0 && rapid in
     let fix : Bool = counts.fix_sure == 0 && later in
     let second : Bool = counts.part_possible == 0 && fix in
     let part : Bool = counts.part_sure == 0 && second in
-    let a = and_parts (not (nat_lt (length p.changes) (length p.changes + length changes))) part is in
+    let a = and_parts (length changes == 0) part is in
     let b = and_parts (counts.part_sure == 0) second a.1 in
     let c = and_parts (counts.part_possible == 0) fix b.1 in
     let d = and_parts (counts.fix_sure == 0) later c.1 in
     let e = and_parts (counts.fix_possible == 0) rapid d.1 in
     let f = and_parts (counts.rapid_sure == 0) (counts.rapid_possible == 0) e.1 in
-    let end = length p.changes + length changes in
-    let none = ltb-false (length p.changes) end (not-true (nat_lt (length p.changes) end) a.0) in
     record {
-      changes_are = nil_from_length changes (omega (arith, none));
+      changes_are = nil_from_length changes (eqb-true (length changes) 0 a.0);
       part_sure = eqb-true counts.part_sure 0 b.0;
       part_possible = eqb-true counts.part_possible 0 c.0;
       fix_sure = eqb-true counts.fix_sure 0 d.0;
@@ -263,7 +260,7 @@ possible_stays job p number move changes counts next none n l ray point =
 
 -- so nothing is found
 none_found : (job : Job) (p : Parts) (number : ℕ) (move : JobMove) (changes : List WordChange) (counts : Counts) → IsHeld job p
-    → IsNextMove job p number move changes counts → TellsNothing changes counts → counts ≡ no_counts
+    → IsNextMove job p number move changes counts → DoesNothing changes counts → counts ≡ no_counts
 none_found job p number move changes counts h next told =
     let stays =
     (sure_total job p.number (length p.rays) h.newest.rays.many).same p.done (p.done + 1)
@@ -290,7 +287,7 @@ none_found job p number move changes counts h next told =
 
 -- without an entry
 entered_unnoted : (job : Job) (p : Parts) (number : ℕ) (move : JobMove) (changes : List WordChange) (counts : Counts) → IsHeld job p
-    → IsNextMove job p number move changes counts → TellsNothing changes counts
+    → IsNextMove job p number move changes counts → DoesNothing changes counts
     → HoldsEdits job p.number (length p.rays) (p.changes ++ changes) (take p.at p.line ++ p.done ∷ []) (p.done + 1) p.entries
 entered_unnoted job p number move changes counts h next told =
     let size = length-append p.changes changes in
@@ -318,12 +315,12 @@ entered_unnoted job p number move changes counts h next told =
 entered_edits : (job : Job) (p : Parts) (number : ℕ) (move : JobMove) (changes : List WordChange) (counts : Counts) → IsHeld job p
     → IsNextMove job p number move changes counts
     → HoldsEdits job p.number (length p.rays) (p.changes ++ changes) (take p.at p.line ++ p.done ∷ []) (p.done + 1)
-    (noted p.entries (new_entry p changes counts))
+    (noted (does_nothing changes counts) p.entries (new_entry p changes counts))
 entered_edits job p number move changes counts h next =
     let e = new_entry p changes counts in
-    cond_both (is_nothing e) p.entries (p.entries ++ e ∷ [])
+    cond_both (does_nothing changes counts) p.entries (p.entries ++ e ∷ [])
     (HoldsEdits job p.number (length p.rays) (p.changes ++ changes) (take p.at p.line ++ p.done ∷ []) (p.done + 1))
-    (λ nothing. entered_unnoted job p number move changes counts h next (nothing_told p changes counts nothing))
+    (λ nothing. entered_unnoted job p number move changes counts h next (nothing_done changes counts nothing))
     (λ something. entered_noted job p number move changes counts h next)
 
 -- the line with an edit that stands behind what is left
@@ -342,7 +339,7 @@ pub entered_held : (job : Job) (p : Parts) (after : List KeptSets) (number : ℕ
     → IsHeld job (entered_parts p after changes counts)
 entered_held job p after number move changes counts h next turned =
     let edits = entered_edits job p number move changes counts h next in
-    let noted_entries : List Entry = noted p.entries (new_entry p changes counts) in
+    let noted_entries : List Entry = noted (does_nothing changes counts) p.entries (new_entry p changes counts) in
     record {
       valid = h.valid;
       grid = h.grid;

@@ -16,18 +16,12 @@ use Rattle.strip_journal.specs.declared.entry.Entry.{Entry}
 use Rattle.strip_journal.specs.declared.journal.Journal.{Journal}
 use Rattle.strip_journal.specs.Entries.{possible_ahead, removed_ahead}
 use Rattle.strip_journal.specs.Journals.{IsAt, IsJournal, found_at, job_of}
-use Rattle.strip_journal.specs.Steps.{HasSameEdits, IsEntered, IsStood}
+use Rattle.strip_journal.specs.Steps.{FitsEntry, HasSameEdits, IsEntered, IsStood}
 use Rattle.strip_journal.proofs.Ahead.{possible_by, possible_totals_ahead_are, removed_by, totals_ahead_are}
 use Rattle.strip_journal.proofs.Entered.{counts_are, entered_journal, named_move}
 use Rattle.strip_journal.proofs.EnteredParts.{at_end, possible_step, removed_step}
 use Rattle.strip_journal.proofs.KeptSame.{same_journal}
 use Rattle.strip_journal.proofs.StripSizes.{found_few, points_few}
-
--- the counts of a move, and the totals with them, are what an entry can hold
-pub record FitsEntry (j : Journal) (counts : Counts) : Type 0 where
-  pub within : AreWithin (2 ^ 32 - 1) counts
-  pub removed : removed_ahead j.entries.items (length j.entries.items) + counts.removed < 2 ^ 32
-  pub possible : possible_ahead j.entries.items (length j.entries.items) + counts.possible < 2 ^ 32
 
 -- no total of a strip is above how many points it has
 removed_few : (job : Job) (j : Journal) (version : ℕ) → IsJournal job j → removed_by job j.number version < 2 ^ 32

@@ -177,7 +177,8 @@ first_on grid other strip stock part fixture rays same fresh =
 pub first_journal : (j : Journal) (plan : PlanOf) (stock part fixture : Solid) → j.plan.value ≡ plan → j.stock.value ≡ stock
     → j.part.value ≡ part → j.fixture.value ≡ fixture → IsPlan plan → IsGrid plan.grid → j.number < length (strips_of plan.grid)
     → length plan.edits ≤ most_edits
-    → All (AppliesBelow (length plan.moves)) plan.edits → AreFreshRays plan.grid j.number (length (strip_at plan.grid j.number)) stock part fixture j.rays.items
+    → All (AppliesBelow (length plan.moves)) plan.edits
+    → AreFreshRays plan.grid j.number (length (strip_at plan.grid j.number)) stock part fixture j.rays.items
     → IsUnedited j → IsJournal (job_of j) j
 first_journal j plan stock part fixture p s q f valid grid strip few named fresh unedited =
     let job : Job = record { plan = plan; stock = stock; part = part; fixture = fixture } in

@@ -28,7 +28,6 @@ pub mod TotalsFound
 pub mod LeftPlaces
 pub mod AddedFound
 pub mod Looked
-pub mod TurnedMore
 pub mod MarkedBy
 pub mod MovedAt
 pub mod ToldFound

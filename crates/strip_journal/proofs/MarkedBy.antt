@@ -6,15 +6,13 @@ use Rattle.edit_plan.specs.declared.edit.Edit.TheVariants.{Apply}
 use Rattle.job_facts.specs.declared.counts.Counts.{Counts}
 use Rattle.job_model.specs.Tasks.{JobMove, PlanOf}
 use Rattle.strip_plan.specs.Plans.{HasNumber}
-use Rattle.ray_words.specs.Rays.{KeptSets}
 use Rattle.strip_marks.specs.declared.change.WordChange.{WordChange}
 use Rattle.strip_marks.specs.Marks.{HaveSameSets, IsChangeOn, IsMarkedStrip}
 use Rattle.strip_journal.specs.declared.journal.Journal.{Journal}
 use Rattle.strip_journal.specs.Journals.{IsAt, IsJournal, job_of}
-use Rattle.strip_journal.specs.Steps.{HasRoom, HasSameEdits, IsEntered, IsStood}
+use Rattle.strip_journal.specs.Steps.{FitsEntry, HasSameEdits, IsEntered, IsStood}
 use Rattle.strip_journal.proofs.Entered.{named_move}
-use Rattle.strip_journal.proofs.EnteredRoom.{CanStand, FitsEntry, can_stand, entered_at, marked_fits}
-use Rattle.strip_journal.proofs.KeptSame.{same_edits_through}
+use Rattle.strip_journal.proofs.EnteredRoom.{CanStand, can_stand, entered_at, marked_fits}
 
 -- what is known when a move was marked: by a journal j, as it is afterwards, m
 pub record IsMarking (plan : PlanOf) (j m : Journal) (number : ℕ) (changes : List WordChange) (counts : Counts) : Type 0 where
@@ -50,21 +48,7 @@ own_marking plan j m number changes counts is =
     let own = own_by (job_of j).plan plan j m number changes counts (sym is.plan_is) is.applies is.low is.marked in
     record { applies = own.0; low = own.1; marked = own.2 }
 
--- with room made for it
-pub with_room : (plan : PlanOf) (j m r : Journal) (number : ℕ) (changes : List WordChange) (counts : Counts)
-    → IsMarking plan j m number changes counts → HasSameEdits m r → r.rays.items ≡ m.rays.items → IsMarking plan j r number changes counts
-with_room plan j m r number changes counts is edits rays = record {
-  journal = is.journal;
-  plan_is = is.plan_is;
-  applies = is.applies;
-  low = is.low;
-  same = subst (λ (z : List KeptSets). HaveSameSets j.rays.items z) (sym rays) is.same;
-  edits = same_edits_through j m r is.edits edits;
-  marked = λ move named.
-      subst (λ (z : List KeptSets). IsMarkedStrip plan move j.number j.rays.items z changes counts) (sym rays) (is.marked move named);
-}
-
--- what `enter` asks
+-- what `take_over` asks
 pub marking_fits : (plan : PlanOf) (j m : Journal) (number : ℕ) (changes : List WordChange) (counts : Counts)
     → IsMarking plan j m number changes counts → FitsEntry m counts
 marking_fits plan j m number changes counts is =
@@ -85,9 +69,10 @@ marking_stands plan j m k number changes counts is entered =
 
 -- and the journal behind both
 pub marking_at : (plan : PlanOf) (j m k l : Journal) (number : ℕ) (changes : List WordChange) (counts : Counts)
-    → IsMarking plan j m number changes counts → HasRoom m (length changes) → IsEntered m k changes counts → IsStood k l → IsAt j l (j.done + 1)
-marking_at plan j m k l number changes counts is room entered stood =
+    → IsMarking plan j m number changes counts → length m.changes.items + length changes < 2 ^ 32 → IsEntered m k changes counts
+    → IsStood k l → IsAt j l (j.done + 1)
+marking_at plan j m k l number changes counts is few entered stood =
     let own = own_marking plan j m number changes counts is in
     let size : length m.changes.items ≡ length j.changes.items = ap (λ (z : List WordChange). length z) is.edits.changes in
-    let few = room.few in
-    entered_at j m k l number changes counts is.journal own.applies own.low is.same is.edits own.marked entered (omega (arith, size, few)) stood
+    entered_at j m k l number changes counts is.journal own.applies own.low is.same is.edits own.marked entered (omega (arith, size, few))
+    stood

@@ -1,5 +1,5 @@
 -- Journals at which only the place in the line, or nothing that a caller sees, is another.
-use Rattle.std.proofs.Common.{◌≡◌, ℕ, ◌+◌, ◌<◌, ◌≤◌, Bool, List, Some, length, slice_get, arith, refl, sym, subst}
+use Rattle.std.proofs.Common.{◌≡◌, ℕ, ◌+◌, ◌<◌, Bool, List, Some, length, slice_get, arith, refl, sym, subst}
 use Rattle.std.specs.Prelude.{Result, Ok, Err, OnOk}
 use Rattle.vf_io.specs.declared.answers.NoMemory.{NoMemory}
 use mathlib.Core.Logic.{dite}

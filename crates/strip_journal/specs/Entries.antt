@@ -1,5 +1,5 @@
 -- What is kept of the edits that had an effect on a strip.
-use Rattle.std.specs.Prelude.{◌≡◌, ℕ, ◌+◌, ◌-◌, ◌<◌, ◌≤◌, false, Bool, not, ◌&&◌, ◌||◌, ◌==◌, if◌then◌else◌, List, length, slice_index_or, slice_range}
+use Rattle.std.specs.Prelude.{◌≡◌, ℕ, ◌-◌, ◌<◌, ◌≤◌, false, Bool, not, ◌&&◌, ◌||◌, ◌==◌, if◌then◌else◌, List, length, slice_index_or, slice_range}
 use Rattle.job_facts.specs.declared.counts.Counts.{Counts}
 use Rattle.strip_marks.specs.declared.change.WordChange.{WordChange}
 use Rattle.strip_journal.specs.declared.entry.Entry.{Entry}

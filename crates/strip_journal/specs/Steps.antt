@@ -1,7 +1,8 @@
 -- What one edit makes of what a strip keeps.
-use Rattle.std.specs.Prelude.{◌≡◌, ℕ, ◌+◌, ◌-◌, ◌^◌, ◌<◌, ◌≤◌, ◌&&◌, not, Bool, false, if◌then◌else◌, List, [], ◌∷◌, ◌++◌, length, nat_lt, take, vec_capacity, vec_len}
+use Rattle.std.specs.Prelude.{◌≡◌, ℕ, ◌+◌, ◌-◌, ◌^◌, ◌<◌, ◌≤◌, ◌&&◌, ◌==◌, not, Bool, false, if◌then◌else◌, List, [], ◌∷◌, ◌++◌, length, take, vec_capacity, vec_len}
 use Rattle.vf_spans.specs.Members.{has}
 use Rattle.job_facts.specs.declared.counts.Counts.{Counts}
+use Rattle.job_facts.specs.Counts.{AreWithin}
 use Rattle.ray_words.specs.Rays.{KeptSets}
 use Rattle.strip_marks.specs.declared.change.WordChange.{WordChange}
 use Rattle.strip_marks.specs.Marks.{among, kept_of, possible_of, sure_of}
@@ -28,13 +29,13 @@ pub record AreRaysTurned (before after : List KeptSets) (changes : List WordChan
   pub many : length after ≡ length before
   pub each : (n : ℕ) → n < length before → IsRayTurned (kept_of before n) (kept_of after n) changes n is_undo
 
--- nothing changed, and nothing was found
-abbrev pub is_nothing : Entry → Bool
-is_nothing entry = not (nat_lt entry.from entry.to) && are_none entry.hits
+-- a move with these changes and counts changes nothing and finds nothing
+abbrev pub does_nothing : List WordChange → Counts → Bool
+does_nothing changes counts = length changes == 0 && are_none (hits_of counts)
 
--- the entries with one more, unless it tells nothing
-abbrev pub noted : List Entry → Entry → List Entry
-noted entries entry = if is_nothing entry then entries else entries ++ entry ∷ []
+-- the entries with that of a move, unless it does nothing
+abbrev pub noted : Bool → List Entry → Entry → List Entry
+noted nothing entries entry = if nothing then entries else entries ++ entry ∷ []
 
 -- the entry of an edit that applies a move with these changes and counts
 abbrev pub applied_entry : Journal → List WordChange → Counts → Entry
@@ -47,6 +48,12 @@ applied_entry j changes counts = record {
   removed = removed_ahead j.entries.items (length j.entries.items) + counts.removed;
   possible = possible_ahead j.entries.items (length j.entries.items) + counts.possible;
 }
+
+-- the counts of a move, and the totals with them, are what an entry can hold
+pub record FitsEntry (j : Journal) (counts : Counts) : Type 0 where
+  pub within : AreWithin (2 ^ 32 - 1) counts
+  pub removed : removed_ahead j.entries.items (length j.entries.items) + counts.removed < 2 ^ 32
+  pub possible : possible_ahead j.entries.items (length j.entries.items) + counts.possible < 2 ^ 32
 
 -- the same strip of the same job
 pub record IsSameStrip (j k : Journal) : Type 0 where
@@ -70,11 +77,9 @@ pub record HasRoom (j : Journal) (changes : ℕ) : Type 0 where
   pub entry : vec_len j.entries < vec_capacity j.entries
   pub line : vec_len j.line < vec_capacity j.line
 
--- the line and the number of edits done stay, and so does the room in the line
+-- the line and the number of edits done stay
 pub record HasSameLine (j k : Journal) : Type 0 where
   pub line : k.line.items ≡ j.line.items
-  pub len : vec_len k.line ≡ vec_len j.line
-  pub capacity : vec_capacity k.line ≡ vec_capacity j.line
   pub at : k.at ≡ j.at
   pub done : k.done ≡ j.done
 
@@ -83,7 +88,7 @@ pub record IsEntered (j k : Journal) (changes : List WordChange) (counts : Count
   pub strip : IsSameStrip j k
   pub rays : AreRaysTurned j.rays.items k.rays.items changes false
   pub changes_are : k.changes.items ≡ j.changes.items ++ changes
-  pub entries : k.entries.items ≡ noted j.entries.items (applied_entry j changes counts)
+  pub entries : k.entries.items ≡ noted (does_nothing changes counts) j.entries.items (applied_entry j changes counts)
   pub line : HasSameLine j k
 
 -- a journal after this edit was added to those that are left

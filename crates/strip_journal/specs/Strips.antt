@@ -18,7 +18,8 @@ pub record StripOf : Type 0 where
 -- the counts are what the j-th of the moves that are left finds on the strip, with those that are left ahead of it
 pub record IsFoundAt (s : StripOf) (j : ℕ) (counts : Counts) : Type 0 where
   pub is : (number : ℕ) (move : JobMove) → slice_get (left_at s.job.plan.edits s.done) j ≡ Some number → HasNumber s.job.plan number move
-      → counts ≡ found_over s.job (strip_points s.job.plan.grid s.number) (moves_of s.job.plan (take j (left_at s.job.plan.edits s.done))) move
+      → counts
+      ≡ found_over s.job (strip_points s.job.plan.grid s.number) (moves_of s.job.plan (take j (left_at s.job.plan.edits s.done))) move
 
 -- so large a count leaves room for what a strip has
 abbrev pub most_before : ℕ

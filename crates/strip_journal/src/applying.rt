@@ -5,9 +5,8 @@ ghost use Rattle.job_facts.specs.Counts.{AreWithin};
 ghost use Rattle.job_model.specs.Tasks.{JobMove};
 ghost use Rattle.strip_plan.specs.Plans.{HasNumber};
 ghost use Rattle.strip_marks.specs.Marks.{HaveSameSets, IsChangeOn, IsMarkedStrip};
-ghost use Rattle.strip_journal.specs.Entries.{possible_ahead, removed_ahead};
 ghost use Rattle.strip_journal.specs.Journals.{IsAt, IsJournal, job_of};
-ghost use Rattle.strip_journal.specs.Steps.{HasRoom, HasSameEdits, IsEntered, IsStood, noted};
+ghost use Rattle.strip_journal.specs.Steps.{FitsEntry, HasRoom, HasSameEdits, IsEntered, IsStood, does_nothing};
 
 use crate::entry::{Entry, Hits};
 use crate::journal::Journal;
@@ -19,14 +18,12 @@ use vf_io::NoMemory;
 /// The most changes that a strip keeps.
 const MOST_CHANGES: usize = u32::MAX as usize;
 
-/// Adds an entry, unless nothing changed and nothing was found.
-fn note(entries: &mut Vec<Entry>, entry: Entry)
-    requires { vec_len entries.old < vec_capacity entries.old }
-    ensures { entries.new.items ≡ noted entries.old.items entry }
+/// Whether a move changes nothing and finds nothing.
+fn does_nothing(marked: &Marked) -> bool
+    requires { AreWithin (2 ^ 32 - 1) marked.now.counts }
+    ensures { result ≡ does_nothing marked.now.changes.items marked.now.counts }
 {
-    if entry.from < entry.to || !entry.hits.is_none() {
-        let _noted = entries.push(entry);
-    }
+    marked.changes.is_empty() && Hits::of_counts(&marked.counts).is_none()
 }
 
 impl Journal {
@@ -46,14 +43,14 @@ impl Journal {
         Ok(())
     }
 
-    /// Takes over what a move changes, and its entry. It takes no memory.
+    /// Takes over what a move changes or finds, with its entry. It takes no memory.
     fn enter(&mut self, marked: Marked)
         requires room { HasRoom self.old (length marked.changes.items) }
         requires on { All (IsChangeOn self.old.rays.items) marked.changes.items }
-        requires counts { AreWithin (2 ^ 32 - 1) marked.counts }
-        requires removed { removed_ahead self.old.entries.items (length self.old.entries.items) + marked.counts.removed < 2 ^ 32 }
-        requires possible { possible_ahead self.old.entries.items (length self.old.entries.items) + marked.counts.possible < 2 ^ 32 }
-        ensures { IsEntered self.old self.new marked.changes.items marked.counts }
+        requires fits { FitsEntry self.old marked.counts }
+        requires some { does_nothing marked.changes.items marked.counts ≡ false }
+        ensures entered { IsEntered self.old self.new marked.changes.items marked.counts }
+        ensures room { vec_len self.new.line < vec_capacity self.new.line }
     {
         let Marked {
             mut changes,
@@ -72,7 +69,27 @@ impl Journal {
             removed: removed + counts.removed as u32,
             possible: possible + counts.possible as u32,
         };
-        note(&mut self.entries, entry);
+        let _noted = self.entries.push(entry);
+    }
+
+    /// Takes over what a move changes or finds, if it does, and makes room for an edit in the line. Most moves leave a strip alone.
+    fn take_over(&mut self, marked: Marked) -> Result<(), NoMemory>
+        requires few { length self.old.changes.items < 2 ^ 32 }
+        requires on { All (IsChangeOn self.old.rays.items) marked.changes.items }
+        requires fits { FitsEntry self.old marked.counts }
+        ensures entered { OnOk result (IsEntered self.old self.new marked.changes.items marked.counts) }
+        ensures few { OnOk result (length self.old.changes.items + length marked.changes.items < 2 ^ 32) }
+        ensures room { OnOk result (vec_len self.new.line < vec_capacity self.new.line) }
+        ensures edits { OnErr result (HasSameEdits self.old self.new) }
+        ensures rays { OnErr result (self.new.rays.items ≡ self.old.rays.items) }
+    {
+        if does_nothing(&marked) {
+            self.line.reserve(1)?;
+            return Ok(());
+        }
+        self.make_room(marked.changes.len())?;
+        self.enter(marked);
+        Ok(())
     }
 
     /// Cuts off the edits that are dropped, and adds this one to those that are left. It takes no memory.
@@ -118,8 +135,7 @@ impl Journal {
         ensures unchanged { OnErr result (IsAt self.old self.new self.old.done) }
     {
         let marked = self.mark(plan, number)?;
-        self.make_room(marked.changes.len())?;
-        self.enter(marked);
+        self.take_over(marked)?;
         self.stand();
         Ok(())
     }

@@ -3,3 +3,4 @@ pub mod Versions
 pub mod Parts
 pub mod ReadBack
 pub mod Steps
+pub mod Between

@@ -72,3 +72,13 @@ answers_to job queries (ask_step query ∷ steps) = answer_of job (query_at quer
 pub record AreStripsAt (job : Job) (strips : List StripOf) (versions : List ℕ) : Type 0 where
   pub strips_are : AreStrips job strips
   pub versions_are : versions_of strips ≡ versions
+
+-- each version of the one list is at most the one at its place in the other
+pub record AreUpTo (low high : List ℕ) : Type 0 where
+  pub many : length high ≡ length low
+  pub each : (k : ℕ) → slice_index low k ≤ slice_index high k
+
+-- each version is at least that of the one list and at most that of the other
+pub record AreBetween (low high versions : List ℕ) : Type 0 where
+  pub later : AreUpTo low versions
+  pub short : AreUpTo versions high

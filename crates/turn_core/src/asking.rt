@@ -1,4 +1,4 @@
-ghost use Rattle.std.specs.Prelude.{◌≡◌, ◌<◌, ◌≤◌, Some, IfOk, OnOk, length, slice_get};
+ghost use Rattle.std.specs.Prelude.{◌≡◌, ◌<◌, ◌≤◌, Some, IfOk, OnErr, OnOk, length, slice_get};
 ghost use Rattle.ray_grid.specs.declared.ray.Ray.{Ray};
 ghost use Rattle.ray_grid.specs.Lattice.{IsRay, points_of};
 ghost use Rattle.ray_grid.specs.Strips.{strip_at};
@@ -6,7 +6,7 @@ ghost use Rattle.edit_plan.specs.Queries.{IsQuery};
 ghost use Rattle.edit_plan.specs.declared.query.Ask.TheVariants.{Count, Probe};
 ghost use Rattle.job_model.specs.Points.{left_moves, point_in, state_after, totals_after};
 ghost use Rattle.job_model.specs.Tasks.{Job};
-ghost use Rattle.turn_core.specs.World.{AreOfPlan, AreStrips, AreStripsAt, after_ask, answer_of, versions_of};
+ghost use Rattle.turn_core.specs.World.{AreBetween, AreOfPlan, AreStrips, AreStripsAt, after_ask, answer_of, versions_of};
 
 use crate::turning::raise;
 use edit_plan::{Ask, Query};
@@ -63,6 +63,8 @@ fn probe(
     ensures strips { OnOk result ((job : Job) → AreStrips job strips.old
         → AreStripsAt job strips.new (after_ask plan.now version (Probe ray.now l) (versions_of strips.old))) }
     ensures still { (job : Job) → AreStrips job strips.old → AreStrips job strips.new }
+    ensures stopped { OnErr result (AreBetween (versions_of strips.old)
+        (after_ask plan.now version (Probe ray.now l) (versions_of strips.old)) (versions_of strips.new)) }
     ensures state { IfOk result (λ state. (job : Job) → AreStrips job strips.old
         → state ≡ state_after job (left_moves job.plan version) (point_in job.plan.grid ray.now l)) }
 {
@@ -79,6 +81,8 @@ fn count(strips: &mut [Strip], plan: &Plan, version: u32) -> Result<Totals, NoMe
     ensures strips { OnOk result ((job : Job) → AreStrips job strips.old
         → AreStripsAt job strips.new (after_ask plan.now version Count (versions_of strips.old))) }
     ensures still { (job : Job) → AreStrips job strips.old → AreStrips job strips.new }
+    ensures stopped { OnErr result (AreBetween (versions_of strips.old)
+        (after_ask plan.now version Count (versions_of strips.old)) (versions_of strips.new)) }
     ensures totals { IfOk result (λ totals. (job : Job) → AreStrips job strips.old
         → totals ≡ totals_after job (left_moves job.plan version)) }
 {
@@ -101,6 +105,8 @@ pub fn ask(strips: &mut [Strip], plan: &Plan, query: &Query) -> Result<Answer, N
     ensures strips { OnOk result ((job : Job) → AreStrips job strips.old
         → AreStripsAt job strips.new (after_ask plan.now query.now.version query.now.ask (versions_of strips.old))) }
     ensures still { (job : Job) → AreStrips job strips.old → AreStrips job strips.new }
+    ensures stopped { OnErr result (AreBetween (versions_of strips.old)
+        (after_ask plan.now query.now.version query.now.ask (versions_of strips.old)) (versions_of strips.new)) }
     ensures answer { IfOk result (λ answer. (job : Job) → AreStrips job strips.old → answer ≡ answer_of job query.now) }
 {
     match &query.ask {

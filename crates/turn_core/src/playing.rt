@@ -1,7 +1,7 @@
-ghost use Rattle.std.specs.Prelude.{◌≡◌, ◌∷◌, [], ◌++◌, All, IfOk, OnOk, length};
+ghost use Rattle.std.specs.Prelude.{◌≡◌, ◌∷◌, [], ◌++◌, All, IfOk, OnErr, OnOk, length};
 ghost use Rattle.edit_plan.specs.Queries.{IsQuery};
 ghost use Rattle.job_model.specs.Tasks.{Job};
-ghost use Rattle.turn_core.specs.World.{AreOfPlan, AreStrips, AreStripsAt, IsStepOf, after_step, after_steps, answers_to, versions_of};
+ghost use Rattle.turn_core.specs.World.{AreBetween, AreOfPlan, AreStrips, AreStripsAt, IsStepOf, after_step, after_steps, answers_to, versions_of};
 
 use crate::asking::ask;
 use crate::step::Step;
@@ -28,6 +28,8 @@ fn take_step(
     ensures strips { OnOk result ((job : Job) → AreStrips job strips.old
         → AreStripsAt job strips.new (after_step plan.now queries.now (versions_of strips.old) step)) }
     ensures still { (job : Job) → AreStrips job strips.old → AreStrips job strips.new }
+    ensures stopped { OnErr result ((job : Job) → AreStrips job strips.old
+        → AreBetween (versions_of strips.old) (after_step plan.now queries.now (versions_of strips.old) step) (versions_of strips.new)) }
     ensures answers { OnOk result ((job : Job) → AreStrips job strips.old
         → answers.new.items ≡ answers.old.items ++ answers_to job queries.now (step ∷ [])) }
 {
@@ -59,6 +61,9 @@ pub fn play(
     ensures strips { OnOk result ((job : Job) → AreStrips job strips.old
         → AreStripsAt job strips.new (after_steps plan.now queries.now (versions_of strips.old) steps.now)) }
     ensures still { (job : Job) → AreStrips job strips.old → AreStrips job strips.new }
+    // After want of memory each strip stands where it stood, or further, and not past where the steps lead.
+    ensures stopped { OnErr result ((job : Job) → AreStrips job strips.old → AreBetween (versions_of strips.old)
+        (after_steps plan.now queries.now (versions_of strips.old) steps.now) (versions_of strips.new)) }
     // Each answer is the one at its own query's version.
     ensures answers { IfOk result (λ answers. (job : Job) → AreStrips job strips.old
         → answers.items ≡ answers_to job queries.now steps.now) }

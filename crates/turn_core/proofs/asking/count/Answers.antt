@@ -7,6 +7,7 @@ use Rattle.job_facts.specs.Totals.{TotalsWithin, plus_totals}
 use Rattle.job_model.specs.Points.{left_moves, strip_points, totals_over}
 use Rattle.strip_journal.specs.Strips.{StripOf}
 use Rattle.turn_core.specs.World.{versions_of}
+use Rattle.turn_core.proofs.Between.{raised_one}
 use Rattle.turn_core.proofs.Parts.{first_all, first_more, first_points, first_within, plus_within, totals_more}
 use Rattle.turn_core.proofs.ReadBack.{counts_set, lattice_same, within_set}
 use Rattle.turn_core.proofs.Replaced.{plan_set, raised_moved, stopped_moved, strips_set}
@@ -59,6 +60,10 @@ loop-k-preserved c =
       versions = raised_more strips c.args.version k c.index-strips-k.result c.raise.new.strip (versions_of c.args.strips.now) lt
           (let long = length-map c.args.strips.now (λ (s : StripOf). s.done) in
           omega arith) c.loop-k.invariant.versions c.in_ok-raise.ensures.ok.done;
+      between =
+          let done = c.in_ok-raise.ensures.ok.done in
+          raised_one strips c.args.version k c.index-strips-k.result c.raise.new.strip (versions_of c.args.strips.now) lt
+          (omega (arith, done)) (omega (arith, done)) c.loop-k.invariant.between;
       totals = λ job all.
           c.plus-totals.ensures
           ∙ ap₂ plus_totals (c.loop-k.invariant.totals job all)
@@ -94,3 +99,15 @@ returns-clause-totals c = λ job all.
     (first_all c.args.plan.now.grid c.loop-k.k (omega (arith, c.loop-k-test.false)))
     ∙ ap (λ points. totals_over job points (left_moves job.plan c.args.version))
     (lattice_same c.args.plan.now job c.args.strips.now c.requires.strips all)
+
+pub returns-in_err-raise-clause-stopped : goal.returns-in_err-raise-clause-stopped
+returns-in_err-raise-clause-stopped c =
+    let many = c.loop-k.invariant.plan.many in
+    let before = c.requires.strips.many in
+    let stopped = c.in_err-raise.ensures.err in
+    let later = stopped.later in
+    let short = stopped.short in
+    let between = raised_one c.loop-k.strips c.args.version c.loop-k.k c.index-strips-k.result c.raise.new.strip
+    (versions_of c.args.strips.now) (omega (arith, c.loop-k-test.true, many, before)) later (omega (arith, short))
+    c.loop-k.invariant.between in
+    search (rules, between)

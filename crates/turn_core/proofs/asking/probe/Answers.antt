@@ -1,11 +1,12 @@
-use Rattle.std.proofs.Common.{get_or, slice_get, set, max, arith, sym, ap, ◌∙◌}
+use Rattle.std.proofs.Common.{get_or, slice_get, set, max, rules, arith, sym, ap, ◌∙◌, subst}
 use Rattle.std.proofs.lemmas.Option.{slice_get_within}
 use Rattle.ray_grid.specs.Grids.{GridSize}
 use Rattle.ray_grid.specs.Strips.{strip_at}
 use Rattle.ray_grid.proofs.Rows.{only_place}
 use Rattle.job_model.specs.Points.{left_moves, point_in, state_after}
 use Rattle.job_model.specs.Tasks.{Job}
-use Rattle.turn_core.specs.World.{versions_of}
+use Rattle.turn_core.specs.World.{AreBetween, versions_of}
+use Rattle.turn_core.proofs.Between.{stopped_one}
 use Rattle.turn_core.proofs.ReadBack.{job_set, point_set, rays_set}
 use Rattle.turn_core.proofs.Replaced.{number_in, plan_set, raised_moved, stopped_moved, strips_set}
 use Rattle.turn_core.proofs.Versions.{version_at, versions_set}
@@ -91,3 +92,17 @@ returns-clause-state c = λ job all.
     c.state_at.ensures c.args.ray.now (ap (λ rays. slice_get rays n) rays ∙ at)
     ∙ ap (λ (j : Job). state_after j (left_moves j.plan c.args.version) (point_in j.plan.grid c.args.ray.now c.args.l))
     (job_set job strips k c.index-strips-strip.result c.raise.new.strip c.index-strips-strip-2.result all lt moved)
+
+pub returns-in_err-raise-clause-stopped : goal.returns-in_err-raise-clause-stopped
+returns-in_err-raise-clause-stopped c =
+    let strips = c.args.strips.now in
+    let vs = versions_of strips in
+    let k = c.place-strip.result.0 in
+    let lt = number_in c.args.plan.now c.grid.result.now strips k c.requires.strips c.grid.ensures c.place-strip.ensures.strip in
+    let at = ap (λ (g : GridSize). slice_get (strip_at g k) c.place-strip.result.1) (sym c.grid.ensures) ∙ c.place-strip.ensures.there in
+    let number = (only_place c.args.plan.now.grid c.args.ray.now k c.place-strip.result.1 at).0 in
+    let one = stopped_one strips k c.index-strips-strip.result c.raise.new.strip c.args.version (max (get_or vs k 0) c.args.version) lt
+    c.in_err-raise.ensures.err (omega arith) in
+    let between = subst (λ n. AreBetween vs (set vs n (max (get_or vs n 0) c.args.version)) (versions_of (set strips k c.raise.new.strip)))
+    number one in
+    search (rules, between)

@@ -1,5 +1,7 @@
-use Rattle.std.proofs.Common.{arith}
-use Rattle.turn_core.specs.World.{versions_of}
+use Rattle.std.proofs.Common.{rules, arith}
+use Rattle.job_model.specs.Tasks.{Job}
+use Rattle.turn_core.specs.World.{AreStrips, versions_of}
+use Rattle.turn_core.proofs.Between.{stopped_at}
 use Rattle.turn_core.proofs.Steps.{answers_more, strips_more}
 use Rattle.turn_core.proofs.playing.play.Goals as goal
 
@@ -16,3 +18,12 @@ loop-step-preserved c = record {
       (omega (arith, c.loop-step-test.true)) (c.loop-step.invariant.answers job all)
       (c.in_ok-take_step.ensures.answers job (c.loop-step.invariant.strips job all).strips_are);
 }
+
+pub returns-in_err-take_step-clause-stopped : goal.returns-in_err-take_step-clause-stopped
+returns-in_err-take_step-clause-stopped c =
+    let between = λ (job : Job) (all : AreStrips job c.args.strips.now).
+    let before = c.loop-step.invariant.strips job all in
+    stopped_at c.args.plan.now job c.args.queries.now c.args.strips.now c.loop-step.strips c.take_step.new.strips c.args.steps.now
+    c.loop-step.step-index _ (omega (arith, c.loop-step-test.true)) c.requires.queries c.requires.strips all before.versions_are
+    (c.in_err-take_step.ensures.stopped job before.strips_are) in
+    search (rules, between)

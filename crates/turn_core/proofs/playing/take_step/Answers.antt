@@ -1,5 +1,10 @@
-use Rattle.std.proofs.Common.{◌+◌, length, set, min, arith, refl, sym, ap, ◌∙◌, subst}
-use Rattle.turn_core.specs.World.{IsStepOf, after_step, versions_of}
+use Rattle.std.proofs.Common.{◌+◌, List, ℕ, length, get_or, set, min, rules, arith, refl, sym, ap, ◌∙◌, subst}
+use Rattle.std.proofs.lemmas.List.{get_or_default}
+use Rattle.edit_plan.specs.declared.query.Ask.TheVariants.{Count}
+use Rattle.edit_plan.specs.declared.query.Query.{Query}
+use Rattle.job_model.specs.Tasks.{Job}
+use Rattle.turn_core.specs.World.{AreBetween, AreStrips, IsStepOf, after_ask, after_step, versions_of}
+use Rattle.turn_core.proofs.Between.{asked_between, stopped_one}
 use Rattle.turn_core.proofs.Replaced.{number_in, plan_set, raised_moved, stopped_moved, strips_set}
 use Rattle.turn_core.proofs.Versions.{version_at, versions_set}
 use Rattle.turn_core.proofs.playing.take_step.Goals as goal
@@ -45,3 +50,39 @@ returns-in-Err-clause-still c = λ job all.
     let stopped = c.in-Err.ensures.err.2 in
     strips_set c.args.plan.now job c.args.strips.now k c.index-strips-strip.result c.turn_strip.new.strip c.requires.strips lt
     (stopped_moved _ _ _ stopped) (omega (arith, stopped.short)) all
+
+pub returns-in-Ok-clause-plan : goal.returns-in-Ok-clause-plan
+returns-in-Ok-clause-plan c =
+    let k = c.in-Turn.strip in
+    let step = subst (IsStepOf c.args.plan.now (length c.args.queries.now)) c.in-Turn.is c.requires.step in
+    let lt = number_in c.args.plan.now c.args.plan.now.grid c.args.strips.now k c.requires.strips refl step in
+    plan_set c.args.plan.now c.args.strips.now k c.index-strips-strip.result c.turn_strip.new.strip c.requires.strips lt
+    (raised_moved _ _ _ c.in-Ok.ensures.ok.2)
+
+pub returns-in-Err-clause-stopped : goal.returns-in-Err-clause-stopped
+returns-in-Err-clause-stopped c = λ job all.
+    let plan = c.args.plan.now in
+    let strips = c.args.strips.now in
+    let vs = versions_of strips in
+    let k = c.in-Turn.strip in
+    let step = subst (IsStepOf plan (length c.args.queries.now)) c.in-Turn.is c.requires.step in
+    let lt = number_in plan plan.grid strips k c.requires.strips refl step in
+    let top = ap (λ n. min (n + 8) (length plan.edits)) (version_at strips k c.index-strips-strip.result lt) in
+    subst (λ (z : List ℕ). AreBetween vs z (versions_of (set strips k c.turn_strip.new.strip)))
+    (ap (after_step plan c.args.queries.now vs) (sym c.in-Turn.is))
+    (stopped_one strips k c.index-strips-strip.result c.turn_strip.new.strip _ (min (get_or vs k 0 + 8) (length plan.edits)) lt
+    c.in-Err.ensures.err.2 (omega (arith, top)))
+
+pub returns-in_err-push-in-Ask-clause-stopped : goal.returns-in_err-push-in-Ask-clause-stopped
+returns-in_err-push-in-Ask-clause-stopped c =
+    let plan = c.args.plan.now in
+    let queries = c.args.queries.now in
+    let vs = versions_of c.args.strips.now in
+    let n = c.in-Ask.query in
+    let low = subst (IsStepOf plan (length queries)) c.in-Ask.is c.requires.step in
+    let query = get_or_default queries n _ (record { version = 0; ask = Count }) low in
+    let step = ap (λ (q : Query). after_ask plan q.version q.ask vs) query ∙ ap (after_step plan queries vs) (sym c.in-Ask.is) in
+    let between = λ (job : Job) (all : AreStrips job c.args.strips.now).
+    asked_between plan job queries c.args.strips.now c.ask.new.strips c.args.step c.requires.queries c.requires.strips all
+    ((c.in_ok-answer-in-Ask.ensures.strips job all).versions_are ∙ step) in
+    search (rules, between)

@@ -15,7 +15,8 @@ mark_strip-requires-clause-strip c =
 pub mark_strip-requires-clause-rays : goal.mark_strip-requires-clause-rays
 mark_strip-requires-clause-rays c =
     subst (λ (z : List KeptSets). AreRays c.args.plan.now.grid c.args.self.now.number z) (sym c.as_mut_slice.ensures.value)
-    (subst (λ (p : PlanOf). AreRays p.grid c.args.self.now.number c.args.self.now.rays.items) c.requires.plan c.requires.journal.newest.rays)
+    (subst (λ (p : PlanOf). AreRays p.grid c.args.self.now.number c.args.self.now.rays.items) c.requires.plan
+    c.requires.journal.newest.rays)
 
 pub returns-clause-marked : goal.returns-clause-marked
 returns-clause-marked c =

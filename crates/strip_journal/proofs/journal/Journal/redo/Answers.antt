@@ -15,7 +15,8 @@ returns-then-at-len-clause-ok c =
 
 pub returns-in_err-turn-clause-unchanged : goal.returns-in_err-turn-clause-unchanged
 returns-in_err-turn-clause-unchanged c =
-    let at = unmoved_at c.args.self.now c.turn.new.self c.requires.journal c.in_err-turn.ensures.edits c.in_err-turn.ensures.rays in search (rules, at)
+    let at = unmoved_at c.args.self.now c.turn.new.self c.requires.journal c.in_err-turn.ensures.edits c.in_err-turn.ensures.rays in
+    search (rules, at)
 
 pub overflow_add-at : goal.overflow_add-at
 overflow_add-at c =

@@ -19,7 +19,8 @@ index-source-requires c =
 
 pub returns-in_err-turn-clause-unchanged : goal.returns-in_err-turn-clause-unchanged
 returns-in_err-turn-clause-unchanged c =
-    let at = unmoved_at c.args.self.now c.turn.new.self c.requires.journal c.in_err-turn.ensures.edits c.in_err-turn.ensures.rays in search (rules, at)
+    let at = unmoved_at c.args.self.now c.turn.new.self c.requires.journal c.in_err-turn.ensures.edits c.in_err-turn.ensures.rays in
+    search (rules, at)
 
 pub move_to-requires-2 : goal.move_to-requires-2
 move_to-requires-2 c =
