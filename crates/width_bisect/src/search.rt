@@ -1,102 +1,80 @@
-use crate::held::is_held;
-use crate::length::{product, scaled_square};
-use crate::stretch::{Halves, Stretch};
-use crate::whole::{raised_of, square_of};
+ghost use Rattle.std.specs.Prelude.{◌≡◌, ℕ, ℤ, List, ◌+◌, ◌^◌, ◌≤◌, length};
+ghost use Rattle.space.specs.Motion.{Motion};
+ghost use Rattle.bern_form.specs.Sizes.{scale_limit};
+ghost use Rattle.cutter_slabs.specs.Rising.{IsRising};
+ghost use Rattle.box_bisect.specs.Between.{IsMarkBetween, is_removed_mark, joined_mark};
+ghost use Rattle.width_bisect.specs.Searches.{IsWidthSearch};
+
+use crate::lists::Lists;
+use crate::sample::Sample;
+use crate::stretch::Stretch;
+use crate::turn::walk_down;
 use axis_cells::Mark;
 use bern_form::Slab;
 
-#[derive(Drop)]
-pub struct Search<'a> {
-    pub inner: &'a [Slab],
-    pub outer: &'a [Slab],
-    pub scale: u32,
-    pub limit: i64,
-}
-
-#[derive(Drop)]
-pub struct CellSearch {
-    pub raised: [i64; 5],
-    pub height: [i128; 5],
-}
-
-impl CellSearch {
-    #[inline]
-    fn reaches(&self, slab: &Slab, scale: u32) -> bool {
-        let low = scaled_square(scale, slab.lo);
-        for i in 0..5 {
-            if product(low, self.raised[i]) <= self.height[i] {
-                return true;
-            }
-        }
-        false
-    }
-
-    pub fn reached(&self, slabs: &[Slab], scale: u32) -> usize {
-        let mut low = 0;
-        let mut high = slabs.len();
-        while low < high {
-            let middle = low + (high - low) / 2;
-            if self.reaches(&slabs[middle], scale) {
-                low = middle + 1;
-            } else {
-                high = middle;
-            }
-        }
-        low
-    }
-
-    pub fn is_above(&self, slab: &Slab, scale: u32) -> bool {
-        let high = scaled_square(scale, slab.hi);
-        for i in 0..5 {
-            if self.height[i] <= product(high, self.raised[i]) {
-                return false;
-            }
-        }
-        true
-    }
-}
-
-fn mark_of_cell(stretch: &Stretch, search: &Search) -> Mark {
-    let cells = CellSearch { raised: raised_of(&stretch.n), height: square_of(&stretch.u) };
-    let reached = cells.reached(search.outer, search.scale);
-    if reached == 0 {
-        return Mark::Clear;
-    }
-    let slab = &search.outer[reached - 1];
-    if cells.is_above(slab, search.scale) {
-        return Mark::Clear;
-    }
-    let less = search.limit - scaled_square(search.scale, slab.dia);
-    for i in 0..5 {
-        if stretch.excess[i] + product(less, cells.raised[i]) <= 0 {
-            return Mark::Possible;
-        }
-    }
-    Mark::Clear
-}
-
-pub fn mark_between(stretch: &Stretch, search: &Search, levels: u32) -> Mark {
-    if stretch.is_beside() {
-        return Mark::Clear;
-    }
+/// The mark of the point whose forms these are on a stretch of 2^`levels` cells, at whose two ends no inner slab holds it. The point
+/// is below the outer slab with the number `high` throughout, where there is one. Where all outer slabs are excluded on the stretch,
+/// they are on all its cells, and none of its samples need be tried. Else the sample in the middle is tried, and then both halves,
+/// the late one first: a tool that goes on takes nearly all of what is new near the end of its move.
+pub fn mark_between(
+    stretch: &Stretch,
+    inner: &[Slab],
+    outer: &[Slab],
+    scale: u32,
+    high: usize,
+    levels: u32,
+) -> Mark
+    requires scale { scale ≤ scale_limit }
+    requires high { high ≤ length outer.now }
+    requires inner { IsRising inner.now }
+    requires outer { IsRising outer.now }
+    ensures { let s = stretch.now in (m : Motion) (p : List ℤ) (j : ℕ)
+        → IsWidthSearch inner.now outer.now s.u s.n s.width m p scale high levels j
+        → IsMarkBetween result inner.now outer.now m p j (j + 2 ^ levels) scale }
+{
     if stretch.is_behind() {
         return Mark::Clear;
     }
+    let lists = Lists::of_stretch(stretch, scale);
+    let reached = walk_down(&lists, outer, high);
+    if !lists.leaves_some(outer, reached) {
+        return Mark::Clear;
+    }
     if levels == 0 {
-        return mark_of_cell(stretch, search);
+        return Mark::Possible;
     }
-    let Halves { first, last } = stretch.halves();
-    let excess = last.excess[0];
-    if excess <= 0 && is_held(last.u[0], last.n[0], excess + product(search.limit, last.n[0]), search.inner, search.scale) {
+    let first = stretch.first_half();
+    if Sample::last_of(&first, scale).is_held(inner, reached) {
         return Mark::Removed;
     }
-    let late = mark_between(&last, search, levels - 1);
-    if late == Mark::Removed {
+    let late = mark_between(&stretch.last_half(), inner, outer, scale, reached, levels - 1);
+    if is_removed(late) {
         return Mark::Removed;
     }
-    match mark_between(&first, search, levels - 1) {
+    let early = mark_between(&first, inner, outer, scale, reached, levels - 1);
+    joined(early, late)
+}
+
+/// The greater of the marks of two halves, of which the late one isn't Removed.
+#[inline]
+fn joined(early: Mark, late: Mark) -> Mark
+    ensures { result ≡ joined_mark early late }
+{
+    match early {
         Mark::Removed => Mark::Removed,
         Mark::Possible => Mark::Possible,
         Mark::Clear => late,
+    }
+}
+
+/// Whether a mark is Removed.
+#[inline]
+fn is_removed(mark: Mark) -> bool
+    ensures { result ≡ is_removed_mark mark }
+{
+    match mark {
+        Mark::Removed => true,
+        Mark::Possible => false,
+        Mark::Clear => false,
     }
 }

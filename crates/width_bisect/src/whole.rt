@@ -1,81 +1,59 @@
-use bern_form::{Form2, Form4};
-use crate::held::is_held;
-use crate::length::{product, scaled_square};
-use crate::search::{CellSearch, Search, mark_between};
+ghost use Rattle.std.specs.Prelude.{◌≡◌, ℕ, ℤ, List, ◌^◌, ◌≤◌, length, not, true};
+ghost use Rattle.space.specs.Motion.{Motion};
+ghost use Rattle.bern_form.specs.Forms.{all_positive, lifted, product22};
+ghost use Rattle.bern_form.specs.Marks.{some_holds};
+ghost use Rattle.bern_form.specs.Sizes.{scale_limit};
+ghost use Rattle.cutter_slabs.specs.Rising.{IsRising};
+ghost use Rattle.box_bisect.specs.Between.{IsMarkBetween};
+ghost use Rattle.box_bisect.specs.SlabTests.{TurnsAt, is_below_by};
+ghost use Rattle.width_bisect.specs.Forms.{AreWidthForms};
+
+use crate::lists::Lists;
+use crate::sample::Sample;
+use crate::search::mark_between;
 use crate::stretch::Stretch;
+use crate::turn::{turn, walk_up};
 use axis_cells::Mark;
 use bern_form::Slab;
 
-/// The forms of a point on a whole move
-#[derive(Drop)]
-pub struct WholeForms {
-    pub u: Form2,
-    pub n: Form2,
-    pub width: Form4,
-}
-
+/// The number of the slab above the highest that the point isn't below throughout the move. It is looked for at the last sample,
+/// which costs one product a slab, and from there upwards.
 #[inline]
-pub fn raised_of(n: &[i64; 3]) -> [i64; 5] {
-    let [a, b, c] = *n;
-    [a, 2 * a + b, a + 2 * b + c, b + 2 * c, c]
-}
-
-#[inline]
-pub fn square_of(u: &[i64; 3]) -> [i128; 5] {
-    let [a, b, c] = *u;
-    [product(a, a), 2 * product(a, b), 2 * product(a, c) + product(b, b), 2 * product(b, c), product(c, c)]
-}
-
-#[inline]
-fn narrow3(c: &[i128; 3]) -> [i64; 3] {
-    [c[0] as i64, c[1] as i64, c[2] as i64]
-}
-
-#[inline]
-fn excess_at(w: i128, f: i64, r: i64) -> i128 {
-    w - product(f, r)
-}
-
-pub fn mark_whole(whole: &WholeForms, inner: &[Slab], outer: &[Slab], scale: u32, depth: u32) -> Mark
+pub fn reached_on_whole(whole: &Stretch, lists: &Lists, slabs: &[Slab]) -> usize
+    requires raised { lists.now.raised ≡ lifted whole.now.n }
+    requires height { lists.now.height ≡ product22 whole.now.u whole.now.u }
+    ensures { let l = lists.now in TurnsAt (λ s. not (is_below_by l.scale l.raised l.height s)) slabs.now result }
 {
-    let u = narrow3(&whole.u.c);
-    if u[0] < 0 && u[1] < 0 && u[2] < 0 {
-        return Mark::Clear;
-    }
-    let n = narrow3(&whole.n.c);
-    let raised = raised_of(&n);
-    let height = square_of(&u);
-    let cells = CellSearch { raised, height };
-    let reached = cells.reached(outer, scale);
-    if reached == 0 {
-        return Mark::Clear;
-    }
-    let slab = &outer[reached - 1];
-    let limit = scaled_square(scale, slab.dia);
-    let w = &whole.width.c;
-    let stretch = Stretch {
-        u,
-        n,
-        excess: [
-            excess_at(w[0], limit, raised[0]),
-            excess_at(w[1], limit, raised[1]),
-            excess_at(w[2], limit, raised[2]),
-            excess_at(w[3], limit, raised[3]),
-            excess_at(w[4], limit, raised[4]),
-        ],
-    };
-    if stretch.is_beside() {
-        return Mark::Clear;
-    }
-    if cells.is_above(slab, scale) {
-        return Mark::Clear;
-    }
-    if stretch.excess[4] <= 0 && is_held(u[2], n[2], w[4], inner, scale) {
+    let last = Sample::last_of(whole, lists.scale);
+    walk_up(lists, slabs, turn(&last, slabs))
+}
+
+/// The mark of the point whose forms these are on a whole move of 2^`depth` cells: both ends are tried, and then what is between
+/// them. n raised to degree 4 is above 0, and the point is below the outer slab with the number `high` throughout, where there is
+/// one.
+pub fn mark_of_whole(
+    whole: &Stretch,
+    inner: &[Slab],
+    outer: &[Slab],
+    scale: u32,
+    high: usize,
+    depth: u32,
+) -> Mark
+    requires scale { scale ≤ scale_limit }
+    requires cells { scale ≡ 2 ^ depth }
+    requires inner { IsRising inner.now }
+    requires outer { IsRising outer.now }
+    requires open { all_positive (lifted whole.now.n) ≡ true }
+    requires high { TurnsAt (λ s. not (is_below_by scale (lifted whole.now.n) (product22 whole.now.u whole.now.u) s)) outer.now high }
+    ensures { (m : Motion) (p : List ℤ) → AreWidthForms whole.now.u whole.now.n whole.now.width m p 0 scale scale
+        → ((i : ℕ) → some_holds inner.now m p i scale ≡ true → some_holds outer.now m p i scale ≡ true)
+        → IsMarkBetween result inner.now outer.now m p 0 scale scale }
+{
+    if Sample::last_of(whole, scale).is_held(inner, high) {
         return Mark::Removed;
     }
-    if stretch.excess[0] <= 0 && is_held(u[0], n[0], w[0], inner, scale) {
+    if Sample::first_of(whole, scale).is_held(inner, high) {
         return Mark::Removed;
     }
-    let search = Search { inner, outer, scale, limit };
-    mark_between(&stretch, &search, depth)
+    mark_between(whole, inner, outer, scale, high, depth)
 }
