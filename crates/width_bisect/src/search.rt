@@ -44,10 +44,11 @@ pub fn mark_between(
         return Mark::Possible;
     }
     let first = stretch.first_half();
+    let last = stretch.last_half();
     if Sample::last_of(&first, scale).is_held(inner, reached) {
         return Mark::Removed;
     }
-    let late = mark_between(&stretch.last_half(), inner, outer, scale, reached, levels - 1);
+    let late = mark_between(&last, inner, outer, scale, reached, levels - 1);
     if is_removed(late) {
         return Mark::Removed;
     }

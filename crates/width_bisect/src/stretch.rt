@@ -1,8 +1,8 @@
 ghost use Rattle.std.specs.Prelude.{◌≡◌, ◌*◌};
 ghost use Rattle.bern_form.specs.Forms.{all_negative, lifted, product22};
-ghost use Rattle.bern_form.specs.Sizes.{IsBounded2, axis_limit, offset_limit};
+ghost use Rattle.bern_form.specs.Sizes.{IsBounded2, axis_limit};
 ghost use Rattle.width_bisect.specs.Halved.{first2, first4, last2, last4};
-ghost use Rattle.width_bisect.specs.Sizes.{IsWeighted4, width_limit};
+ghost use Rattle.width_bisect.specs.Sizes.{IsWeighted4, height_limit, width_limit};
 
 use crate::forms::WholeForms;
 use crate::halves::{first2, first4, last2, last4};
@@ -14,7 +14,7 @@ pub struct Stretch {
     pub u: [i64; 3],
     pub n: [i64; 3],
     pub width: [i128; 5],
-    ghost u_small: { IsBounded2 (3 * (offset_limit * axis_limit)) u },
+    ghost u_small: { IsBounded2 height_limit u },
     ghost n_small: { IsBounded2 (3 * (axis_limit * axis_limit)) n },
     ghost width_small: { IsWeighted4 width_limit width },
 }
@@ -23,7 +23,7 @@ impl Stretch {
     /// The whole move.
     #[inline]
     pub fn whole(forms: &WholeForms) -> Stretch
-        requires u { IsBounded2 (3 * (offset_limit * axis_limit)) forms.now.u.c }
+        requires u { IsBounded2 height_limit forms.now.u.c }
         requires n { IsBounded2 (3 * (axis_limit * axis_limit)) forms.now.n.c }
         requires width { IsWeighted4 width_limit forms.now.width.c }
         ensures u { result.u ≡ forms.now.u.c }

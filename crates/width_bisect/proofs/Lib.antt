@@ -1,0 +1,3 @@
+pub mod Shifting
+pub mod Terms4
+pub mod Halving
