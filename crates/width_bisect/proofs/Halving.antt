@@ -147,7 +147,7 @@ open_last n h e above =
 limit_form : (S : ℕ) (u n : List ℤ) (s : SlabSize) → is_below_by S (lifted n) (product22 u u) s ≡ all_negative (height_less (scaled_square S s.lo) u n)
 limit_form S u n s = ap (λ l. all_negative (difference4 (product22 u u) l)) (raised_is (scaled_square S s.lo) n)
 
-below_first : (S : ℕ) (u n g h : List ℤ) (s : SlabSize) → u ≡ whole_of_first g → n ≡ whole_of_first h → is_below_by S (lifted n) (product22 u u) s ≡ true
+pub below_first : (S : ℕ) (u n g h : List ℤ) (s : SlabSize) → u ≡ whole_of_first g → n ≡ whole_of_first h → is_below_by S (lifted n) (product22 u u) s ≡ true
     → is_below_by S (lifted h) (product22 g g) s ≡ true
 below_first S u n g h s eu en below =
     let f = scaled_square S s.lo in
@@ -156,7 +156,7 @@ below_first S u n g h s eu en below =
     ∙ (decides_negative (height_less f g h)).1 (first_negative4 (height_less f (whole_of_first g) (whole_of_first h)) (height_less f g h) (omega arith) (height_first f g h)
     ((decides_negative (height_less f (whole_of_first g) (whole_of_first h))).0 whole))
 
-below_last : (S : ℕ) (u n g h : List ℤ) (s : SlabSize) → u ≡ whole_of_last g → n ≡ whole_of_last h → is_below_by S (lifted n) (product22 u u) s ≡ true
+pub below_last : (S : ℕ) (u n g h : List ℤ) (s : SlabSize) → u ≡ whole_of_last g → n ≡ whole_of_last h → is_below_by S (lifted n) (product22 u u) s ≡ true
     → is_below_by S (lifted h) (product22 g g) s ≡ true
 below_last S u n g h s eu en below =
     let f = scaled_square S s.lo in

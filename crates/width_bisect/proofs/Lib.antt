@@ -1,3 +1,6 @@
 pub mod Shifting
 pub mod Terms4
 pub mod Halving
+pub mod Fitting
+pub mod Sampling
+pub mod Searching

@@ -10,6 +10,14 @@ use crate::stretch::Stretch;
 use crate::turn::Reaches;
 use bern_form::Slab;
 
+/// Whether every number is above 0.
+#[inline]
+fn each_above(numbers: &[i64]) -> bool
+    ensures { result ≡ all_positive numbers.now }
+{
+    numbers.iter().all(|c| *c > 0)
+}
+
 /// The coefficients that the slabs' tests between two samples compare: n raised to degree 4, u^2, and the width.
 #[derive(Drop)]
 pub struct Lists {
@@ -52,8 +60,7 @@ impl Lists {
     pub fn is_open(&self) -> bool
         ensures { result ≡ all_positive self.now.raised }
     {
-        let [a, b, c, d, e] = self.raised;
-        0 < a && 0 < b && 0 < c && 0 < d && 0 < e
+        each_above(&self.raised)
     }
 
     /// Whether the point is beside the slab throughout, or above it.

@@ -1,7 +1,7 @@
-ghost use Rattle.std.specs.Prelude.{◌≡◌, ◌≤◌, ◌≤ℤ◌, ◌*ℤ◌, ℤ, pos, true};
+ghost use Rattle.std.specs.Prelude.{◌≡◌, ◌≤◌, ◌&&◌, ◌*ℤ◌, ℤ, pos, int_le, unsigned_abs};
 ghost use Rattle.space.specs.Vectors.{at};
+ghost use Rattle.bern_form.specs.Cells.{scaled_square};
 ghost use Rattle.bern_form.specs.Sizes.{scale_limit};
-ghost use Rattle.bern_form.specs.Slab.{covers};
 ghost use Rattle.cutter_slabs.specs.Rising.{IsRising};
 ghost use Rattle.box_bisect.specs.SlabTests.{is_reached, some_covers};
 
@@ -26,7 +26,7 @@ impl Reaches for Sample {
     /// Whether the point is as high as the slab begins, where it is ahead of the tip.
     #[inline]
     fn reaches(&self, slab: &Slab) -> bool {
-        product(scaled_square(self.scale, slab.lo), self.n) <= product(self.u, self.u)
+        self.squared(slab.lo) <= self.height()
     }
 }
 
@@ -65,17 +65,49 @@ impl Sample {
         }
     }
 
-    /// Whether a slab that the point reaches holds it, where it is ahead of the tip.
+    /// n times the square of a length.
+    #[inline]
+    fn squared(&self, length: i32) -> i128
+        requires { unsigned_abs length ≤ 300000 }
+        ensures { result ≡ scaled_square self.now.scale length *ℤ self.now.n }
+    {
+        product(scaled_square(self.scale, length), self.n)
+    }
+
+    /// u^2.
+    #[inline]
+    fn height(&self) -> i128
+        ensures { result ≡ self.now.u *ℤ self.now.u }
+    {
+        product(self.u, self.u)
+    }
+
+    /// Whether the point is no higher than the slab ends.
+    #[inline]
+    fn is_under_top(&self, slab: &Slab) -> bool
+        ensures { let at = self.now in result ≡ int_le (at.u *ℤ at.u) (scaled_square at.scale slab.now.hi *ℤ at.n) }
+    {
+        self.height() <= self.squared(slab.hi)
+    }
+
+    /// Whether it is no farther from the axis than the slab is wide.
+    #[inline]
+    fn is_near(&self, slab: &Slab) -> bool
+        ensures { let at = self.now in result ≡ int_le at.width (scaled_square at.scale slab.now.dia *ℤ at.n) }
+    {
+        self.width <= self.squared(slab.dia)
+    }
+
+    /// Whether the slab that the point reaches holds it, where it is ahead of the tip.
     #[inline]
     fn is_within(&self, slab: &Slab) -> bool
-        requires ahead { pos 0 ≤ℤ self.now.u }
-        requires reached { is_reached (pos self.now.scale) self.now.u self.now.n slab.now ≡ true }
-        ensures { (w : ℤ) → self.now.width ≡ pos 4 *ℤ w → result ≡ covers slab.now (pos self.now.scale) self.now.u self.now.n w }
+        ensures { let at = self.now in result
+            ≡ (int_le (at.u *ℤ at.u) (scaled_square at.scale slab.now.hi *ℤ at.n) && int_le at.width (scaled_square at.scale slab.now.dia *ℤ at.n)) }
     {
-        if product(scaled_square(self.scale, slab.dia), self.n) < self.width {
+        if !self.is_near(slab) {
             return false;
         }
-        product(self.u, self.u) <= product(scaled_square(self.scale, slab.hi), self.n)
+        self.is_under_top(slab)
     }
 
     /// Whether some of the slabs holds the point at this sample. The highest that it reaches decides, which is looked for from any

@@ -43,7 +43,7 @@ pub fn mark_of_whole(
     requires cells { scale ≡ 2 ^ depth }
     requires inner { IsRising inner.now }
     requires outer { IsRising outer.now }
-    requires open { all_positive (lifted whole.now.n) ≡ true }
+    requires positive { all_positive (lifted whole.now.n) ≡ true }
     requires high { TurnsAt (λ s. not (is_below_by scale (lifted whole.now.n) (product22 whole.now.u whole.now.u) s)) outer.now high }
     ensures { (m : Motion) (p : List ℤ) → AreWidthForms whole.now.u whole.now.n whole.now.width m p 0 scale scale
         → ((i : ℕ) → some_holds inner.now m p i scale ≡ true → some_holds outer.now m p i scale ≡ true)
