@@ -4,3 +4,4 @@ pub mod Halving
 pub mod Fitting
 pub mod Sampling
 pub mod Searching
+pub mod Beginning
