@@ -5,3 +5,4 @@ pub mod Fitting
 pub mod Sampling
 pub mod Searching
 pub mod Beginning
+pub mod Closing

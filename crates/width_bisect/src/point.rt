@@ -1,5 +1,6 @@
-ghost use Rattle.std.specs.Prelude.{◌≡◌, ◌^◌, ◌≤◌};
+ghost use Rattle.std.specs.Prelude.{◌≡◌, ◌^◌, ◌≤◌, false};
 ghost use Rattle.space.specs.Ranges.{IsPoint};
+ghost use Rattle.bern_form.specs.Forms.{all_negative};
 ghost use Rattle.cutter_marks.specs.MarkBy.{mark_by};
 ghost use Rattle.width_bisect.specs.Forms.{AreWidthForms};
 
@@ -22,6 +23,7 @@ fn mark_ahead(
     requires point { IsPoint point }
     requires depth { depth ≤ 10 }
     requires forms { AreWidthForms forms.now.u.c forms.now.n.c forms.now.width.c sweep.now point 0 (2 ^ depth) (2 ^ depth) }
+    requires ahead { all_negative forms.now.u.c ≡ false }
     ensures { result ≡ mark_by stacks.now.cutter stacks.now.slabs sweep.now point (2 ^ depth) }
 {
     // A sweep is valid by its type, which is known where a field of it is seen.
@@ -32,6 +34,7 @@ fn mark_ahead(
     if !lists.is_open() {
         return mark_point_uncounted(sweep, stacks, point, depth);
     }
+    let inner = stacks.inner();
     let outer = stacks.outer();
     let reached = reached_on_whole(&whole, &lists, outer);
     if !lists.leaves_some(outer, reached) {
@@ -41,7 +44,7 @@ fn mark_ahead(
     if !in_reach(sweep, reach, point) {
         return Mark::Clear;
     }
-    mark_of_whole(&whole, stacks.inner(), outer, scale, reached, depth)
+    mark_of_whole(&whole, inner, outer, scale, reached, depth)
 }
 
 /// The mark of a point by the stacks and the reach of a cutter, at the samples and on the cells of a depth, from its forms on the
