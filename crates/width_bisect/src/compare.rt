@@ -1,0 +1,46 @@
+ghost use Rattle.std.specs.Prelude.{◌≡◌, ◌*ℤ◌, int_lt};
+ghost use Rattle.bern_form.specs.Forms.{all_negative, all_positive, difference4, scaled4};
+
+use crate::length::product;
+
+/// Whether a is above the limit times r.
+#[inline]
+fn is_above(a: i128, limit: i64, r: i64) -> bool
+    ensures { result ≡ int_lt (limit *ℤ r) a }
+{
+    product(limit, r) < a
+}
+
+/// Whether a is below the limit times r.
+#[inline]
+fn is_below(a: i128, limit: i64, r: i64) -> bool
+    ensures { result ≡ int_lt a (limit *ℤ r) }
+{
+    a < product(limit, r)
+}
+
+/// Whether each coefficient is above the limit times the other form's.
+#[inline]
+pub fn all_above(form: &[i128; 5], limit: i64, raised: &[i64; 5]) -> bool
+    ensures { result ≡ all_positive (difference4 form.now (scaled4 limit raised.now)) }
+{
+    for i in 0..5 {
+        if !is_above(form[i], limit, raised[i]) {
+            return false;
+        }
+    }
+    true
+}
+
+/// Whether each coefficient is below the limit times the other form's.
+#[inline]
+pub fn all_below(form: &[i128; 5], limit: i64, raised: &[i64; 5]) -> bool
+    ensures { result ≡ all_negative (difference4 form.now (scaled4 limit raised.now)) }
+{
+    for i in 0..5 {
+        if !is_below(form[i], limit, raised[i]) {
+            return false;
+        }
+    }
+    true
+}

@@ -1,0 +1,17 @@
+//! The mark of a point from its forms on a whole move, by halving its time, with nothing counted.
+#![tactic(auto)]
+
+mod compare;
+mod forms;
+mod halves;
+mod length;
+mod lists;
+mod point;
+mod sample;
+mod search;
+mod stretch;
+mod turn;
+mod whole;
+
+pub use forms::WholeForms;
+pub use point::mark_by_forms;

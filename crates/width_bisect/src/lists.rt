@@ -1,0 +1,91 @@
+ghost use Rattle.std.specs.Prelude.{◌≡◌, ◌≤◌, length, not, true, false};
+ghost use Rattle.bern_form.specs.Forms.{all_positive, lifted, product22};
+ghost use Rattle.bern_form.specs.Sizes.{scale_limit};
+ghost use Rattle.cutter_slabs.specs.Rising.{IsRising};
+ghost use Rattle.box_bisect.specs.SlabTests.{TurnsAt, is_below_by, is_left_by, is_past_by};
+
+use crate::compare::{all_above, all_below};
+use crate::length::scaled_square;
+use crate::stretch::Stretch;
+use crate::turn::Reaches;
+use bern_form::Slab;
+
+/// Whether every number is above 0.
+#[inline]
+fn each_above(numbers: &[i64]) -> bool
+    ensures { result ≡ all_positive numbers.now }
+{
+    numbers.iter().all(|c| *c > 0)
+}
+
+/// The coefficients that the slabs' tests between two samples compare: n raised to degree 4, u^2, and the width.
+#[derive(Drop)]
+pub struct Lists {
+    pub scale: u32,
+    pub raised: [i64; 5],
+    pub height: [i128; 5],
+    pub width: [i128; 5],
+    ghost scale_small: { scale ≤ scale_limit },
+}
+
+impl Reaches for Lists {
+    ghost reached = { λ l. λ s. not (is_below_by l.scale l.raised l.height s) };
+
+    /// Whether the point isn't below the slab throughout.
+    #[inline]
+    fn reaches(&self, slab: &Slab) -> bool {
+        !all_below(&self.height, scaled_square(self.scale, slab.lo), &self.raised)
+    }
+}
+
+impl Lists {
+    #[inline]
+    pub fn of_stretch(stretch: &Stretch, scale: u32) -> Lists
+        requires { scale ≤ scale_limit }
+        ensures scale { result.scale ≡ scale }
+        ensures raised { result.raised ≡ lifted stretch.now.n }
+        ensures height { result.height ≡ product22 stretch.now.u stretch.now.u }
+        ensures width { result.width ≡ stretch.now.width }
+    {
+        Lists {
+            scale,
+            raised: stretch.raised(),
+            height: stretch.height(),
+            width: stretch.width,
+        }
+    }
+
+    /// Whether n raised to degree 4 is above 0 by its coefficients, so that one slab decides.
+    #[inline]
+    pub fn is_open(&self) -> bool
+        ensures { result ≡ all_positive self.now.raised }
+    {
+        each_above(&self.raised)
+    }
+
+    /// Whether the point is beside the slab throughout, or above it.
+    #[inline]
+    fn is_past(&self, slab: &Slab) -> bool
+        ensures { let l = self.now in result ≡ is_past_by l.scale l.raised l.height l.width slab.now }
+    {
+        if all_above(&self.width, scaled_square(self.scale, slab.dia), &self.raised) {
+            return true;
+        }
+        all_above(&self.height, scaled_square(self.scale, slab.hi), &self.raised)
+    }
+
+    /// Whether some of the slabs is not excluded, by the highest of them that the point isn't below: it is below those above that
+    /// one, and those below it are no wider.
+    #[inline]
+    pub fn leaves_some(&self, slabs: &[Slab], reached: usize) -> bool
+        requires within { reached ≤ length slabs.now }
+        ensures { let l = self.now in IsRising slabs.now → all_positive l.raised ≡ true
+            → TurnsAt (λ s. not (is_below_by l.scale l.raised l.height s)) slabs.now reached
+            → result ≡ is_left_by l.scale false l.raised l.height l.width slabs.now }
+    {
+        if reached == 0 {
+            return false;
+        }
+        !self.is_past(&slabs[reached - 1])
+    }
+}

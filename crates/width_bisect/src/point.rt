@@ -1,0 +1,69 @@
+ghost use Rattle.std.specs.Prelude.{◌≡◌, ◌^◌, ◌≤◌, false};
+ghost use Rattle.space.specs.Ranges.{IsPoint};
+ghost use Rattle.bern_form.specs.Forms.{all_negative};
+ghost use Rattle.cutter_marks.specs.MarkBy.{mark_by};
+ghost use Rattle.width_bisect.specs.Forms.{AreWidthForms};
+
+use crate::forms::WholeForms;
+use crate::lists::Lists;
+use crate::stretch::Stretch;
+use crate::whole::{mark_of_whole, reached_on_whole};
+use axis_cells::{Mark, Sweep, cells_of, in_reach};
+use box_bisect::mark_point_uncounted;
+use cutter_slabs::Stacks;
+
+/// The mark of a point that is not behind the tip throughout.
+fn mark_ahead(
+    sweep: &Sweep,
+    stacks: &Stacks,
+    point: [i32; 3],
+    forms: &WholeForms,
+    depth: u32,
+) -> Mark
+    requires point { IsPoint point }
+    requires depth { depth ≤ 10 }
+    requires forms { AreWidthForms forms.now.u.c forms.now.n.c forms.now.width.c sweep.now point 0 (2 ^ depth) (2 ^ depth) }
+    requires ahead { all_negative forms.now.u.c ≡ false }
+    ensures { result ≡ mark_by stacks.now.cutter stacks.now.slabs sweep.now point (2 ^ depth) }
+{
+    // A sweep is valid by its type, which is known where a field of it is seen.
+    let _valid = &sweep.from;
+    let scale = cells_of(depth);
+    let whole = Stretch::whole(forms);
+    let lists = Lists::of_stretch(&whole, scale);
+    if !lists.is_open() {
+        return mark_point_uncounted(sweep, stacks, point, depth);
+    }
+    let inner = stacks.inner();
+    let outer = stacks.outer();
+    let reached = reached_on_whole(&whole, &lists, outer);
+    if !lists.leaves_some(outer, reached) {
+        return Mark::Clear;
+    }
+    let reach = stacks.reach();
+    if !in_reach(sweep, reach, point) {
+        return Mark::Clear;
+    }
+    mark_of_whole(&whole, inner, outer, scale, reached, depth)
+}
+
+/// The mark of a point by the stacks and the reach of a cutter, at the samples and on the cells of a depth, from its forms on the
+/// whole move: that of `mark_point_uncounted`, with less work. A point that is behind the tip throughout, as most are that stand
+/// below a tool's way, costs next to nothing.
+pub fn mark_by_forms(
+    sweep: &Sweep,
+    stacks: &Stacks,
+    point: [i32; 3],
+    forms: &WholeForms,
+    depth: u32,
+) -> Mark
+    requires point { IsPoint point }
+    requires depth { depth ≤ 10 }
+    requires forms { AreWidthForms forms.now.u.c forms.now.n.c forms.now.width.c sweep.now point 0 (2 ^ depth) (2 ^ depth) }
+    ensures { result ≡ mark_by stacks.now.cutter stacks.now.slabs sweep.now point (2 ^ depth) }
+{
+    if forms.u.all_negative() {
+        return Mark::Clear;
+    }
+    mark_ahead(sweep, stacks, point, forms, depth)
+}

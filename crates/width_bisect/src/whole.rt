@@ -1,0 +1,59 @@
+ghost use Rattle.std.specs.Prelude.{◌≡◌, ℕ, ℤ, List, ◌^◌, ◌≤◌, length, not, true};
+ghost use Rattle.space.specs.Motion.{Motion};
+ghost use Rattle.bern_form.specs.Forms.{all_positive, lifted, product22};
+ghost use Rattle.bern_form.specs.Marks.{some_holds};
+ghost use Rattle.bern_form.specs.Sizes.{scale_limit};
+ghost use Rattle.cutter_slabs.specs.Rising.{IsRising};
+ghost use Rattle.box_bisect.specs.Between.{IsMarkBetween};
+ghost use Rattle.box_bisect.specs.SlabTests.{TurnsAt, is_below_by};
+ghost use Rattle.width_bisect.specs.Forms.{AreWidthForms};
+
+use crate::lists::Lists;
+use crate::sample::Sample;
+use crate::search::mark_between;
+use crate::stretch::Stretch;
+use crate::turn::{turn, walk_up};
+use axis_cells::Mark;
+use bern_form::Slab;
+
+/// The number of the slab above the highest that the point isn't below throughout the move. It is looked for at the last sample,
+/// which costs one product a slab, and from there upwards.
+#[inline]
+pub fn reached_on_whole(whole: &Stretch, lists: &Lists, slabs: &[Slab]) -> usize
+    requires raised { lists.now.raised ≡ lifted whole.now.n }
+    requires height { lists.now.height ≡ product22 whole.now.u whole.now.u }
+    ensures { let l = lists.now in TurnsAt (λ s. not (is_below_by l.scale l.raised l.height s)) slabs.now result }
+{
+    let last = Sample::last_of(whole, lists.scale);
+    walk_up(lists, slabs, turn(&last, slabs))
+}
+
+/// The mark of the point whose forms these are on a whole move of 2^`depth` cells: both ends are tried, and then what is between
+/// them. n raised to degree 4 is above 0, and the point is below the outer slab with the number `high` throughout, where there is
+/// one.
+pub fn mark_of_whole(
+    whole: &Stretch,
+    inner: &[Slab],
+    outer: &[Slab],
+    scale: u32,
+    high: usize,
+    depth: u32,
+) -> Mark
+    requires scale { scale ≤ scale_limit }
+    requires cells { scale ≡ 2 ^ depth }
+    requires inner { IsRising inner.now }
+    requires outer { IsRising outer.now }
+    requires positive { all_positive (lifted whole.now.n) ≡ true }
+    requires high { TurnsAt (λ s. not (is_below_by scale (lifted whole.now.n) (product22 whole.now.u whole.now.u) s)) outer.now high }
+    ensures { (m : Motion) (p : List ℤ) → AreWidthForms whole.now.u whole.now.n whole.now.width m p 0 scale scale
+        → ((i : ℕ) → some_holds inner.now m p i scale ≡ true → some_holds outer.now m p i scale ≡ true)
+        → IsMarkBetween result inner.now outer.now m p 0 scale scale }
+{
+    if Sample::last_of(whole, scale).is_held(inner, high) {
+        return Mark::Removed;
+    }
+    if Sample::first_of(whole, scale).is_held(inner, high) {
+        return Mark::Removed;
+    }
+    mark_between(whole, inner, outer, scale, high, depth)
+}
