@@ -2,7 +2,7 @@ use crate::limits::{greatest_diameter, limits_of};
 use crate::line::Line;
 use crate::ray_marker::RayMarker;
 use crate::sample::is_covered_by_some;
-use crate::sheet::Sheet;
+use crate::sheet::{Sheet, heights_on, width_on};
 use crate::strip_marker::StripMarker;
 use crate::turn::Turn;
 use axis_cells::{Mark, Sweep, cells_of};
@@ -10,6 +10,7 @@ use box_bisect::mark_point_uncounted;
 use cutter_slabs::Stacks;
 use ray_grid::{Family, Grid, Ray};
 use std::marker::Model;
+use width_bisect::{WholeForms, mark_by_forms};
 
 /// A move of a cutter, ready to mark points of rays. It keeps what is the same for all of them: how the axis turns, and the
 /// limits beyond which a point is beside every outer slab throughout the move.
@@ -90,6 +91,22 @@ impl<'a> MoveMarker<'a> {
         ensures possible { tells_possible result ≡ is_possible_in self.now point }
     {
         mark_point_uncounted(self.sweep, self.stacks, point, self.depth)
+    }
+
+    /// The mark of the point l steps on along a line, by the forms that the line has there.
+    pub(crate) fn mark_on(&self, line: &Line, l: u32, point: [i32; 3]) -> Mark
+        requires point { IsPoint point }
+        requires fits { FitsAt line.now (pos l) }
+        requires forms { HasFormsIn line.now (pos l) self.now point }
+        ensures sure { tells_sure result ≡ is_sure_in self.now point }
+        ensures possible { tells_possible result ≡ is_possible_in self.now point }
+    {
+        let forms = WholeForms {
+            u: heights_on(line, l),
+            n: self.turn.n,
+            width: width_on(line, l),
+        };
+        mark_by_forms(self.sweep, self.stacks, point, &forms, self.depth)
     }
 
     /// The line through the points of a ray, where it has two or more.

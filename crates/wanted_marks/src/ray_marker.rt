@@ -101,7 +101,11 @@ impl<'a> RayMarker<'a> {
         if self.is_held_last(l) {
             return Mark::Removed;
         }
-        self.mover.mark_point(self.grid.point(&self.ray, l))
+        let point = self.grid.point(&self.ray, l);
+        match &self.line {
+            None => self.mover.mark_point(point),
+            Some(line) => self.mover.mark_on(line, l, point),
+        }
     }
 
     /// Which of the wanted points are sure, and which are possible.

@@ -2,7 +2,7 @@ ghost use Rattle.std.specs.Prelude.{◌≡◌, ◌≤◌, pos, ◌+ℤ◌, ◌*�
 ghost use Rattle.space.specs.Ranges.{IsPoint};
 ghost use Rattle.bern_form.specs.Forms.{IsSmall};
 ghost use Rattle.bern_form.specs.Sizes.{scale_limit};
-ghost use Rattle.wanted_marks.specs.Lines.{width_at};
+ghost use Rattle.wanted_marks.specs.Lines.{FitsAt, heights_at, width_at};
 ghost use Rattle.wanted_marks.specs.Sheets.{FitsOn, IsLineOn, IsSheetThrough};
 ghost use Rattle.wanted_marks.specs.Widths.{IsTurn, moved3, moved5};
 
@@ -51,8 +51,16 @@ fn moved4(a: &Form4, b: &Form4, l: u32) -> Form4
     }
 }
 
+/// u of the point l steps on along a line.
+pub fn heights_on(line: &Line, l: u32) -> Form2
+    requires { FitsAt line.now (pos l) }
+    ensures { result.c ≡ heights_at line.now (pos l) }
+{
+    moved2(&line.height, &line.height_step, l)
+}
+
 /// The width form of the point l steps on along a line.
-fn width_at(line: &Line, l: u32) -> Form4
+pub fn width_on(line: &Line, l: u32) -> Form4
     requires { All IsSmall (width_at line.now (pos l)) }
     ensures { result.c ≡ width_at line.now (pos l) }
 {
@@ -114,7 +122,7 @@ impl Sheet {
         ensures { IsLineOn result self.now (pos j) }
     {
         Line {
-            constant: width_at(&self.across, j),
+            constant: width_on(&self.across, j),
             first: moved4(&self.along.first, &self.mixed, j),
             second: self.along.second,
             height: moved2(&self.across.height, &self.across.height_step, j),

@@ -2,7 +2,7 @@ use Rattle.std.proofs.Common.{pos, FitsSigned, arith, rules, refl}
 use Rattle.std.proofs.lemmas.Int.{to_z-of_z}
 use mir.Syntax.{w128}
 use Rattle.space.proofs.Facts.{back5}
-use Rattle.wanted_marks.proofs.sheet.width_at.Goals as goal
+use Rattle.wanted_marks.proofs.sheet.width_on.Goals as goal
 
 pub quadratic-requires : goal.quadratic-requires
 quadratic-requires c =
