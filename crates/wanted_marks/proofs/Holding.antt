@@ -40,16 +40,7 @@ pub covered_at : (slabs : List SlabSize) (i : ℕ) (d : SlabSize) (scale u n w :
 covered_at slabs i d scale u n w l held =
     (decides_among (λ s. covers s scale u n w) (λ s. covers s scale u n w ≡ true) slabs (λ s. (λ e. e, λ e. e))).1 (get_or slabs i d, Contains-get_or slabs i d l, held)
 
--- of four tests one says no, or the first three say yes
-pub first_no : (a b c d : Bool) → a ≡ false → false ≡ (a && (b && (c && d)))
-first_no true b c d e = cc
-first_no false b c d e = refl
-
-pub second_no : (a b c d : Bool) → b ≡ false → false ≡ (a && (b && (c && d)))
-second_no true true c d e = cc
-second_no true false c d e = refl
-second_no false b c d e = refl
-
+-- of four tests the third says no, or the first three say yes
 pub third_no : (a b c d : Bool) → c ≡ false → false ≡ (a && (b && (c && d)))
 third_no true true true d e = cc
 third_no true true false d e = refl
