@@ -2,7 +2,7 @@ ghost use Rattle.std.specs.Prelude.{◌≡◌, ℕ};
 ghost use Rattle.ray_grid.specs.Families.{second_axis};
 ghost use Rattle.ray_grid.specs.Grids.{GridSize};
 ghost use Rattle.ray_grid.specs.Lattice.{nodes_of, points_of};
-ghost use Rattle.strip_plan.specs.IndexBoxes.{HasPoint, IsBoxOf, JoinsBoxes, rays_of};
+ghost use Rattle.strip_plan.specs.IndexBoxes.{HasPoint, IsBoxOf, JoinsBoxes, ranges_for};
 ghost use Rattle.strip_plan.specs.Ranges.{IsIn, IsRangeOf, Joins};
 
 use crate::ranges::{hull, is_in};
@@ -67,7 +67,7 @@ impl IndexBox {
     /// The first nodes of a family's rays.
     #[inline]
     fn first(&self, family: Family) -> (u32, u32)
-        ensures { result ≡ (rays_of self.now family).first }
+        ensures { result ≡ (ranges_for self.now family).first }
     {
         match family {
             Family::X => self.y.nodes,
@@ -78,7 +78,7 @@ impl IndexBox {
     /// The second nodes of a family's rays.
     #[inline]
     fn second(&self, family: Family) -> (u32, u32)
-        ensures { result ≡ (rays_of self.now family).second }
+        ensures { result ≡ (ranges_for self.now family).second }
     {
         match family {
             Family::X | Family::Y => self.z.nodes,
@@ -89,7 +89,7 @@ impl IndexBox {
     /// The points along a family's rays.
     #[inline]
     fn along(&self, family: Family) -> (u32, u32)
-        ensures { result ≡ (rays_of self.now family).along }
+        ensures { result ≡ (ranges_for self.now family).along }
     {
         match family {
             Family::X => self.x.points,

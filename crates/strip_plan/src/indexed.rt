@@ -1,10 +1,9 @@
 ghost use Rattle.std.specs.Prelude.{◌≡◌, ℕ, ◌*◌, ◌≤◌, ◌&&◌, int_le};
-ghost use Rattle.space.specs.Ranges.{IsBetween};
 ghost use Rattle.space.specs.Vectors.{at};
 ghost use Rattle.ray_grid.specs.Families.{ray_axis};
 ghost use Rattle.ray_grid.specs.Lattice.{per_node, place_at, point_of};
 ghost use Rattle.sweep_boxes.specs.Boxes.{IsInBox};
-ghost use Rattle.strip_plan.specs.IndexBoxes.{AreOnAxis, IsIndexed};
+ghost use Rattle.strip_plan.specs.IndexBoxes.{AreOnAxis, IsBetweenEnds, IsIndexed};
 ghost use Rattle.strip_plan.specs.Ranges.{IsIn, IsRangeOf};
 
 use crate::index_box::{AxisRanges, IndexBox};
@@ -38,8 +37,7 @@ fn nodes_among(points: (u32, u32), per_node: u32) -> (u32, u32)
 
 /// A box on the first ray of a family, which has the first nodes of the two other axes: where the box is along the ray.
 fn on_first_ray(grid: &Grid, family: Family, held: &PointBox) -> PointBox
-    ensures { let axis = ray_axis family in (l : ℕ)
-        → IsBetween (at held.now.low axis) (at held.now.high axis) (place_at grid.now axis l)
+    ensures { (l : ℕ) → IsBetweenEnds held.now (ray_axis family) (place_at grid.now (ray_axis family) l)
         → IsInBox result (point_of grid.now record { family = family; i = 0; j = 0 } l) }
 {
     let (low, high, first) = (held.low, held.high, grid.origin);
