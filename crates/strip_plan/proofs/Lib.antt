@@ -1,6 +1,9 @@
 pub mod Places
 pub mod Marked
 pub mod Extents
+pub mod Reached
+pub mod Joined
+pub mod FirstRays
 pub mod Boxed
-pub mod Ranges
 pub mod Windowed
+pub mod Rows

@@ -1,4 +1,6 @@
 pub mod Plans
 pub mod Cutters
-pub mod Boxed
 pub mod Windows
+pub mod Ranges
+pub mod IndexBoxes
+pub mod Boxed

@@ -1,11 +1,16 @@
-ghost use Rattle.std.specs.Prelude.{◌≡◌, ◌≤◌, IfOk, OnOk, length, take};
+ghost use Rattle.std.specs.Prelude.{◌≡◌, ◌<◌, ◌≤◌, ℕ, IfOk, OnOk, length};
 ghost use Rattle.space.specs.Ranges.{IsWithin};
+ghost use Rattle.ray_grid.specs.declared.ray.Ray.{Ray};
+ghost use Rattle.ray_grid.specs.Grids.{GridSize};
 ghost use Rattle.sweep_boxes.specs.Limits.{place_limit};
-ghost use Rattle.strip_plan.specs.Boxed.{Covers, HasBoxes};
+ghost use Rattle.strip_plan.specs.Boxed.{AreHeld, ArePushed, Covers, HasBoxes, IsInOneOf};
 ghost use Rattle.strip_plan.specs.Cutters.{HasStacks};
+ghost use Rattle.strip_plan.specs.IndexBoxes.{AreBoxesOf, HasPoint, IsBoxOf};
 
 use crate::bounds::bounds;
 use crate::cutters::Cutters;
+use crate::index_box::IndexBox;
+use crate::indexed::indexed;
 use crate::plan_move::PlanMove;
 use axis_cells::Sweep;
 use cutter_slabs::Stacks;
@@ -14,28 +19,71 @@ use std::alloc::Global;
 use sweep_boxes::{PointBox, push_boxes};
 use vf_io::NoMemory;
 
-/// The boxes of moves, one behind the other: those of move n from `starts[n]` to `starts[n + 1]`.
+/// For each move the least box that holds its boxes; and where they are several, those too: of move n from `starts[n]` to
+/// `starts[n + 1]`. Most moves have one, which is then its own hull.
 #[derive(Drop)]
 pub(crate) struct Boxes {
-    pub(crate) boxes: Vec<PointBox>,
+    pub(crate) hulls: Vec<IndexBox>,
+    pub(crate) boxes: Vec<IndexBox>,
     pub(crate) starts: Vec<usize>,
 }
 
-/// Pushes the boxes of a move in a region.
-fn push_move(
-    boxes: &mut Vec<PointBox>,
+/// The boxes of a move in a region.
+fn boxes_in(
+    alloc: Global,
     sweep: &Sweep,
     stacks: &Stacks,
     depth: u32,
     region: &PointBox,
-) -> Result<(), NoMemory>
+) -> Result<Vec<PointBox>, NoMemory>
     requires depth { depth ≤ 10 }
     requires low { IsWithin place_limit region.now.low }
     requires high { IsWithin place_limit region.now.high }
-    ensures covered { OnOk result (Covers boxes.new.items (length boxes.old.items) region.now stacks.now sweep.now depth) }
-    ensures kept { take (length boxes.old.items) boxes.new.items ≡ boxes.old.items }
+    ensures { IfOk result (λ held. Covers held.items region.now stacks.now sweep.now depth) }
 {
-    push_boxes(boxes, sweep, stacks, depth, region)
+    let mut held = Vec::new(alloc);
+    push_boxes(&mut held, sweep, stacks, depth, region)?;
+    Ok(held)
+}
+
+/// Pushes boxes by their indices.
+fn push_each(boxes: &mut Vec<IndexBox>, grid: &Grid, held: &[PointBox]) -> Result<(), NoMemory>
+    ensures { OnOk result (ArePushed grid.now held.now boxes.old.items boxes.new.items (length held.now)) }
+{
+    for places in held {
+        boxes.push(indexed(grid, places))?;
+    }
+    Ok(())
+}
+
+/// The least box that holds those from a place on.
+fn hull_from(boxes: &[IndexBox], start: usize) -> IndexBox
+    ensures fits { (grid : GridSize) → AreBoxesOf grid boxes.now → IsBoxOf grid result }
+    ensures has { (ray : Ray) (l : ℕ) → IsInOneOf boxes.now start (length boxes.now) ray l → HasPoint result ray l }
+{
+    let mut hull = IndexBox::none();
+    for place in start..boxes.len() {
+        hull = hull.hull(&boxes[place]);
+    }
+    hull
+}
+
+/// Pushes the boxes of a move by their indices, where they are several. Tells the least box that holds them.
+fn push_several(
+    boxes: &mut Vec<IndexBox>,
+    grid: &Grid,
+    held: &[PointBox],
+) -> Result<IndexBox, NoMemory>
+    requires { AreBoxesOf grid.now boxes.old.items }
+    ensures { IfOk result (λ hull. AreHeld grid.now held.now hull boxes.old.items boxes.new.items) }
+{
+    let start = boxes.len();
+    push_each(boxes, grid, held)?;
+    let hull = hull_from(boxes, start);
+    if held.len() == 1 {
+        boxes.truncate(start);
+    }
+    Ok(hull)
 }
 
 /// The boxes of moves. Fails only for want of memory.
@@ -48,24 +96,24 @@ pub(crate) fn boxes_of(
 ) -> Result<Boxes, NoMemory>
     requires depth { depth ≤ 10 }
     requires stacks { HasStacks cutters.now.slabs moves.now cutters.now.stacks.items cutters.now.places.items (length moves.now) }
-    ensures { IfOk result (λ made.
-        HasBoxes grid.now cutters.now.slabs depth moves.now made.boxes.items made.starts.items (length moves.now)) }
+    ensures { IfOk result (λ made. HasBoxes grid.now cutters.now.slabs depth moves.now made.hulls.items made.boxes.items
+        made.starts.items (length moves.now)) }
 {
     let region = bounds(grid);
+    let mut hulls = Vec::with_capacity(alloc, moves.len())?;
     let mut boxes = Vec::new(alloc);
     let mut starts = Vec::new(alloc);
     starts.push(0)?;
     for n in 0..moves.len() {
         let next = &moves[n];
         let place = cutters.places[n];
-        push_move(
-            &mut boxes,
-            &next.sweep,
-            &cutters.stacks[place],
-            depth,
-            &region,
-        )?;
+        let held = boxes_in(alloc, &next.sweep, &cutters.stacks[place], depth, &region)?;
+        hulls.push(push_several(&mut boxes, grid, &held)?)?;
         starts.push(boxes.len())?;
     }
-    Ok(Boxes { boxes, starts })
+    Ok(Boxes {
+        hulls,
+        boxes,
+        starts,
+    })
 }

@@ -4,8 +4,11 @@
 mod bounds;
 mod boxes;
 mod cutters;
+mod index_box;
+mod indexed;
 mod plan;
 mod plan_move;
+mod ranges;
 mod windows;
 
 pub use plan::Plan;

@@ -10,7 +10,7 @@ ghost use Rattle.strip_plan.specs.Windows.{HoldsEntered, HoldsPossible};
 use crate::boxes::{Boxes, boxes_of};
 use crate::cutters::{Cutters, cutters_of};
 use crate::plan_move::PlanMove;
-use crate::windows::{boxes_strip_window, boxes_window};
+use crate::windows::{boxes_ray_window, boxes_strip_window, row};
 use edit_plan::{Edit, Edits};
 use ray_grid::{Grid, Ray};
 use std::alloc::Global;
@@ -44,7 +44,8 @@ impl Model for Plan {
     ghost invariant = { λ p. (p.depth ≤ 10) × (length p.moves.items ≤ most_script_moves) × (length p.edits ≤ most_edits)
         × All (AppliesBelow (length p.moves.items)) p.edits
         × HasStacks p.cutters.slabs p.moves.items p.cutters.stacks.items p.cutters.places.items (length p.moves.items)
-        × HasBoxes p.grid p.cutters.slabs p.depth p.moves.items p.boxes.boxes.items p.boxes.starts.items (length p.moves.items)
+        × HasBoxes p.grid p.cutters.slabs p.depth p.moves.items p.boxes.hulls.items p.boxes.boxes.items p.boxes.starts.items
+        (length p.moves.items)
         × IsPlan record { grid = p.grid; slabs = p.cutters.slabs; depth = p.depth; moves = p.moves.items; edits = p.edits } };
 }
 
@@ -151,9 +152,16 @@ impl Plan {
         ensures within { result.1 ≤ points_of self.now.grid ray.now.family }
         ensures holds { (move : JobMove) → HasNumber self.now number move → HoldsPossible self.now move ray.now result.0 result.1 }
     {
+        let window = self.boxes.hulls[number as usize].ray_window(ray);
+        if window.0 == window.1 {
+            return window;
+        }
         let start = self.boxes.starts[number as usize];
         let end = self.boxes.starts[number as usize + 1];
-        boxes_window(&self.grid, ray, &self.boxes.boxes, start, end)
+        if start == end {
+            return window;
+        }
+        boxes_ray_window(&self.boxes.boxes, start, end, ray)
     }
 
     /// From the one number of a strip's rays to the other stand all with a point at which a move is possible. The second is
@@ -165,8 +173,16 @@ impl Plan {
         ensures within { result.1 ≤ length (strip_at self.now.grid strip) }
         ensures holds { (move : JobMove) → HasNumber self.now number move → HoldsEntered self.now move strip result.0 result.1 }
     {
+        let (family, i) = row(&self.grid, strip);
+        let window = self.boxes.hulls[number as usize].strip_window(family, i);
+        if window.0 == window.1 {
+            return window;
+        }
         let start = self.boxes.starts[number as usize];
         let end = self.boxes.starts[number as usize + 1];
-        boxes_strip_window(&self.grid, strip, &self.boxes.boxes, start, end)
+        if start == end {
+            return window;
+        }
+        boxes_strip_window(&self.boxes.boxes, start, end, family, i)
     }
 }

@@ -1,15 +1,13 @@
-use Rattle.std.proofs.Common.{◌≡◌, ℕ, ◌<◌, ◌≤◌, Some, get_or, length, slice_get}
-use Rattle.ray_grid.specs.declared.ray.Ray.{Ray}
-use Rattle.ray_grid.specs.Lattice.{point_of, points_of}
-use Rattle.ray_grid.specs.Strips.{strip_at}
-use Rattle.sweep_boxes.specs.declared.point_box.PointBox.{PointBox}
-use Rattle.sweep_boxes.specs.Boxes.{IsInBox}
-use Rattle.strip_plan.specs.Windows.{IsFrom}
+use Rattle.std.proofs.Common.{ℕ}
+use Rattle.ray_grid.specs.Grids.{GridSize}
+use Rattle.ray_grid.specs.Families.{second_axis}
+use Rattle.ray_grid.specs.Lattice.{nodes_of}
+use Rattle.strip_plan.specs.Boxed.{IsInOneOf}
+use Rattle.strip_plan.specs.IndexBoxes.{AreBoxesOf}
+use Rattle.strip_plan.specs.Ranges.{IsIn, IsRangeOf}
 use Rattle.strip_plan.proofs.windows.boxes_strip_window.Given as goal
 
 abbrev pub invariant-loop-place : goal.invariant-loop-place
 invariant-loop-place l =
-    (l.window.0 ≤ l.window.1)
-    × (l.window.1 ≤ length (strip_at l.grid l.strip))
-    × ((n k : ℕ) (ray : Ray) (x : ℕ) → slice_get (strip_at l.grid l.strip) n ≡ Some ray → x < points_of l.grid ray.family → l.start ≤ k → k < l.place
-    → ((d : PointBox) → IsInBox (get_or l.boxes k d) (point_of l.grid ray x)) → IsFrom l.window.0 l.window.1 n)
+    ((grid : GridSize) → AreBoxesOf grid l.boxes → IsRangeOf (nodes_of grid (second_axis l.family)) l.window)
+    × ((j x : ℕ) → IsInOneOf l.boxes l.start l.place (record { family = l.family; i = l.i; j = j }) x → IsIn l.window j)

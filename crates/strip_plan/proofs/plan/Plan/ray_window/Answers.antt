@@ -1,35 +1,55 @@
-use Rattle.std.proofs.Common.{List, ℕ, ◌<◌, ap, length, subst, sym}
-use Rattle.ray_grid.specs.Grids.{GridSize}
-use Rattle.ray_grid.specs.Lattice.{IsRay, point_of, points_of}
-use Rattle.sweep_boxes.specs.declared.point_box.PointBox.{PointBox}
+use Rattle.std.proofs.Common.{◌≤◌, List, length, subst, sym}
 use Rattle.job_model.specs.Tasks.{PlanOf}
-use Rattle.strip_plan.specs.contracts.plan.Plan.{the_view}
+use Rattle.strip_plan.specs.declared.index_box.IndexBox.{IndexBox}
 use Rattle.strip_plan.specs.Boxed.{HasBoxes, IsInOneOf}
-use Rattle.strip_plan.specs.Windows.{IsFrom}
-use Rattle.strip_plan.proofs.Windowed.{in_own, ends_within}
+use Rattle.strip_plan.specs.IndexBoxes.{AreBoxesOf}
+use Rattle.strip_plan.proofs.Windowed.{hull_fits, ends_within, in_hull, in_own}
 use Rattle.strip_plan.proofs.plan.Plan.ray_window.Goals as goal
+
+pub returns-then-window-clause-holds : goal.returns-then-window-clause-holds
+returns-then-window-clause-holds c move named l is =
+    let plan = c.args.self.now in
+    let own = c.self.inside.boxes in
+    let has = subst (λ (p : PlanOf). HasBoxes p.grid p.slabs p.depth p.moves own.hulls.items own.boxes.items own.starts.items (length p.moves)) c.self.view_is c.self.invariant.5 in
+    c.ray_window-window.ensures.has l
+    (in_hull plan own.hulls.items own.boxes.items own.starts.items c.args.number c.index.result.now move c.args.ray.now l has c.requires.number c.index.ensures named is)
+
+pub returns-then-start-end-clause-holds : goal.returns-then-start-end-clause-holds
+returns-then-start-end-clause-holds c move named l is =
+    let plan = c.args.self.now in
+    let own = c.self.inside.boxes in
+    let has = subst (λ (p : PlanOf). HasBoxes p.grid p.slabs p.depth p.moves own.hulls.items own.boxes.items own.starts.items (length p.moves)) c.self.view_is c.self.invariant.5 in
+    c.ray_window-window.ensures.has l
+    (in_hull plan own.hulls.items own.boxes.items own.starts.items c.args.number c.index.result.now move c.args.ray.now l has c.requires.number c.index.ensures named is)
+
+pub returns-then-start-end-clause-order : goal.returns-then-start-end-clause-order
+returns-then-start-end-clause-order c =
+    let plan = c.args.self.now in
+    let own = c.self.inside.boxes in
+    let has = subst (λ (p : PlanOf). HasBoxes p.grid p.slabs p.depth p.moves own.hulls.items own.boxes.items own.starts.items (length p.moves)) c.self.view_is c.self.invariant.5 in
+    let fits = hull_fits plan own.hulls.items own.boxes.items own.starts.items c.args.number c.index.result.now has c.requires.number c.index.ensures in
+    (c.ray_window-window.ensures.range plan.grid fits).order
+
+pub boxes_ray_window-requires : goal.boxes_ray_window-requires
+boxes_ray_window-requires c =
+    let plan = c.args.self.now in
+    let own = c.self.inside.boxes in
+    let has = subst (λ (p : PlanOf). HasBoxes p.grid p.slabs p.depth p.moves own.hulls.items own.boxes.items own.starts.items (length p.moves)) c.self.view_is c.self.invariant.5 in
+    subst (λ (boxes : List IndexBox). c.index-end.result.now ≤ length boxes) (sym c.deref.ensures.value)
+    (ends_within plan own.hulls.items own.boxes.items own.starts.items c.args.number c.index-end.result.now has c.requires.number c.index-end.ensures)
+
+pub returns-clause-order : goal.returns-clause-order
+returns-clause-order c =
+    let plan = c.args.self.now in
+    let own = c.self.inside.boxes in
+    let has = subst (λ (p : PlanOf). HasBoxes p.grid p.slabs p.depth p.moves own.hulls.items own.boxes.items own.starts.items (length p.moves)) c.self.view_is c.self.invariant.5 in
+    (c.boxes_ray_window.ensures.range plan.grid (subst (AreBoxesOf plan.grid) (sym c.deref.ensures.value) has.boxes_fit)).order
 
 pub returns-clause-holds : goal.returns-clause-holds
 returns-clause-holds c move named l is =
     let plan = c.args.self.now in
-    let boxes = c.deref.result.now in
-    let starts = c.self.inside.boxes.starts.items in
-    let kept = subst (λ (bs : List PointBox). HasBoxes (the_view c.self.inside).grid (the_view c.self.inside).slabs (the_view c.self.inside).depth (the_view c.self.inside).moves bs starts (length (the_view c.self.inside).moves))
-    (sym c.deref.ensures.value) c.self.invariant.5 in
-    let has = subst (λ (p : PlanOf). HasBoxes p.grid p.slabs p.depth p.moves boxes starts (length p.moves)) c.self.view_is kept in
-    let lt : c.args.number < length plan.moves = c.requires.number in
-    let holds = subst (λ (g : GridSize). (x : ℕ) → x < points_of g c.args.ray.now.family → IsInOneOf boxes c.index-start.result.now c.index-end.result.now (point_of g c.args.ray.now x)
-    → IsFrom c.boxes_window.result.0 c.boxes_window.result.1 x) (ap (λ (p : PlanOf). p.grid) c.self.view_is) c.boxes_window.ensures.holds in
-    holds l is.index (in_own plan boxes starts c.args.number c.index-start.result.now c.index-end.result.now move c.args.ray.now l has lt c.index-start.ensures c.index-end.ensures named is)
-
-pub boxes_window-requires-clause-ray : goal.boxes_window-requires-clause-ray
-boxes_window-requires-clause-ray c = subst (λ (g : GridSize). IsRay g c.args.ray.now) (sym (ap (λ (p : PlanOf). p.grid) c.self.view_is)) c.requires.ray
-
-pub boxes_window-requires-clause-end : goal.boxes_window-requires-clause-end
-boxes_window-requires-clause-end c =
-    let boxes = c.deref.result.now in
-    let starts = c.self.inside.boxes.starts.items in
-    let kept = subst (λ (bs : List PointBox). HasBoxes (the_view c.self.inside).grid (the_view c.self.inside).slabs (the_view c.self.inside).depth (the_view c.self.inside).moves bs starts (length (the_view c.self.inside).moves))
-    (sym c.deref.ensures.value) c.self.invariant.5 in
-    let has = subst (λ (p : PlanOf). HasBoxes p.grid p.slabs p.depth p.moves boxes starts (length p.moves)) c.self.view_is kept in
-    ends_within c.args.self.now boxes starts c.args.number c.index-end.result.now has c.requires.number c.index-end.ensures
+    let own = c.self.inside.boxes in
+    let has = subst (λ (p : PlanOf). HasBoxes p.grid p.slabs p.depth p.moves own.hulls.items own.boxes.items own.starts.items (length p.moves)) c.self.view_is c.self.invariant.5 in
+    let inside = in_own plan own.hulls.items own.boxes.items own.starts.items c.args.number c.index-start.result.now c.index-end.result.now c.index.result.now move c.args.ray.now l has c.requires.number
+    c.index-start.ensures c.index-end.ensures c.if-start-end.false named is in
+    c.boxes_ray_window.ensures.has l (subst (λ (boxes : List IndexBox). IsInOneOf boxes c.index-start.result.now c.index-end.result.now c.args.ray.now l) (sym c.deref.ensures.value) inside)

@@ -1,37 +1,106 @@
-use Rattle.std.proofs.Common.{List, ◌≡◌, ℕ, ◌<◌, Some, ap, length, slice_get, subst, sym}
+use Rattle.std.proofs.Common.{◌≡◌, ◌≤◌, List, ap, length, arith, subst, sym}
 use Rattle.ray_grid.specs.Grids.{GridSize}
 use Rattle.ray_grid.specs.declared.ray.Ray.{Ray}
-use Rattle.ray_grid.specs.Lattice.{point_of, points_of}
-use Rattle.ray_grid.specs.Strips.{strip_at, strips_of}
-use Rattle.sweep_boxes.specs.declared.point_box.PointBox.{PointBox}
+use Rattle.ray_grid.specs.Strips.{strip_at, strip_of}
 use Rattle.job_model.specs.Tasks.{PlanOf}
-use Rattle.strip_plan.specs.contracts.plan.Plan.{the_view}
+use Rattle.strip_plan.specs.declared.index_box.IndexBox.{IndexBox}
 use Rattle.strip_plan.specs.Boxed.{HasBoxes, IsInOneOf}
-use Rattle.strip_plan.specs.Windows.{IsFrom}
-use Rattle.strip_plan.proofs.Windowed.{ends_within, in_own}
+use Rattle.strip_plan.specs.IndexBoxes.{AreBoxesOf, HasPoint}
+use Rattle.strip_plan.proofs.Rows.{ray_is, rays_in}
+use Rattle.strip_plan.proofs.Windowed.{hull_fits, ends_within, in_hull, in_own}
 use Rattle.strip_plan.proofs.plan.Plan.strip_window.Goals as goal
 
-pub returns-clause-holds : goal.returns-clause-holds
-returns-clause-holds c move named n ray l at is =
+pub returns-then-window-clause-within : goal.returns-then-window-clause-within
+returns-then-window-clause-within c =
     let plan = c.args.self.now in
-    let boxes = c.deref.result.now in
-    let starts = c.self.inside.boxes.starts.items in
-    let kept = subst (λ (bs : List PointBox). HasBoxes (the_view c.self.inside).grid (the_view c.self.inside).slabs (the_view c.self.inside).depth (the_view c.self.inside).moves bs starts (length (the_view c.self.inside).moves))
-    (sym c.deref.ensures.value) c.self.invariant.5 in
-    let has = subst (λ (p : PlanOf). HasBoxes p.grid p.slabs p.depth p.moves boxes starts (length p.moves)) c.self.view_is kept in
-    let holds = subst (λ (g : GridSize). (k : ℕ) (r : Ray) (x : ℕ) → slice_get (strip_at g c.args.strip) k ≡ Some r → x < points_of g r.family
-    → IsInOneOf boxes c.index-start.result.now c.index-end.result.now (point_of g r x) → IsFrom c.boxes_strip_window.result.0 c.boxes_strip_window.result.1 k)
-    (ap (λ (p : PlanOf). p.grid) c.self.view_is) c.boxes_strip_window.ensures.holds in
-    holds n ray l at is.index (in_own plan boxes starts c.args.number c.index-start.result.now c.index-end.result.now move ray l has c.requires.number c.index-start.ensures c.index-end.ensures named is)
+    let own = c.self.inside.boxes in
+    let has = subst (λ (p : PlanOf). HasBoxes p.grid p.slabs p.depth p.moves own.hulls.items own.boxes.items own.starts.items (length p.moves)) c.self.view_is c.self.invariant.5 in
+    let family = c.row-family.result.0 in
+    let i = c.row-family.result.1 in
+    let row = subst (λ (g : GridSize). strip_at g c.args.strip ≡ strip_of g family i) (ap (λ (p : PlanOf). p.grid) c.self.view_is) c.row-family.ensures in
+    let fits = hull_fits plan own.hulls.items own.boxes.items own.starts.items c.args.number c.index.result.now has c.requires.number c.index.ensures in
+    let many = rays_in plan.grid c.args.strip family i row in
+    let within = (c.strip_window-window.ensures.range plan.grid fits).within in omega (arith, many, within)
 
-pub boxes_strip_window-requires-clause-strip : goal.boxes_strip_window-requires-clause-strip
-boxes_strip_window-requires-clause-strip c = subst (λ (g : GridSize). c.args.strip < length (strips_of g)) (sym (ap (λ (p : PlanOf). p.grid) c.self.view_is)) c.requires.strip
+pub returns-then-window-clause-holds : goal.returns-then-window-clause-holds
+returns-then-window-clause-holds c move named n ray l there is =
+    let plan = c.args.self.now in
+    let own = c.self.inside.boxes in
+    let has = subst (λ (p : PlanOf). HasBoxes p.grid p.slabs p.depth p.moves own.hulls.items own.boxes.items own.starts.items (length p.moves)) c.self.view_is c.self.invariant.5 in
+    let family = c.row-family.result.0 in
+    let i = c.row-family.result.1 in
+    let row = subst (λ (g : GridSize). strip_at g c.args.strip ≡ strip_of g family i) (ap (λ (p : PlanOf). p.grid) c.self.view_is) c.row-family.ensures in
+    let point = in_hull plan own.hulls.items own.boxes.items own.starts.items c.args.number c.index.result.now move ray l has c.requires.number c.index.ensures named is in
+    c.strip_window-window.ensures.has n l (subst (λ (r : Ray). HasPoint c.index.result.now r l) (ray_is plan.grid c.args.strip n family i ray row there) point)
 
-pub boxes_strip_window-requires-clause-end : goal.boxes_strip_window-requires-clause-end
-boxes_strip_window-requires-clause-end c =
-    let boxes = c.deref.result.now in
-    let starts = c.self.inside.boxes.starts.items in
-    let kept = subst (λ (bs : List PointBox). HasBoxes (the_view c.self.inside).grid (the_view c.self.inside).slabs (the_view c.self.inside).depth (the_view c.self.inside).moves bs starts (length (the_view c.self.inside).moves))
-    (sym c.deref.ensures.value) c.self.invariant.5 in
-    let has = subst (λ (p : PlanOf). HasBoxes p.grid p.slabs p.depth p.moves boxes starts (length p.moves)) c.self.view_is kept in
-    ends_within c.args.self.now boxes starts c.args.number c.index-end.result.now has c.requires.number c.index-end.ensures
+pub returns-then-start-end-clause-order : goal.returns-then-start-end-clause-order
+returns-then-start-end-clause-order c =
+    let plan = c.args.self.now in
+    let own = c.self.inside.boxes in
+    let has = subst (λ (p : PlanOf). HasBoxes p.grid p.slabs p.depth p.moves own.hulls.items own.boxes.items own.starts.items (length p.moves)) c.self.view_is c.self.invariant.5 in
+    let fits = hull_fits plan own.hulls.items own.boxes.items own.starts.items c.args.number c.index.result.now has c.requires.number c.index.ensures in
+    (c.strip_window-window.ensures.range plan.grid fits).order
+
+pub returns-then-start-end-clause-within : goal.returns-then-start-end-clause-within
+returns-then-start-end-clause-within c =
+    let plan = c.args.self.now in
+    let own = c.self.inside.boxes in
+    let has = subst (λ (p : PlanOf). HasBoxes p.grid p.slabs p.depth p.moves own.hulls.items own.boxes.items own.starts.items (length p.moves)) c.self.view_is c.self.invariant.5 in
+    let family = c.row-family.result.0 in
+    let i = c.row-family.result.1 in
+    let row = subst (λ (g : GridSize). strip_at g c.args.strip ≡ strip_of g family i) (ap (λ (p : PlanOf). p.grid) c.self.view_is) c.row-family.ensures in
+    let fits = hull_fits plan own.hulls.items own.boxes.items own.starts.items c.args.number c.index.result.now has c.requires.number c.index.ensures in
+    let many = rays_in plan.grid c.args.strip family i row in
+    let within = (c.strip_window-window.ensures.range plan.grid fits).within in omega (arith, many, within)
+
+pub returns-then-start-end-clause-holds : goal.returns-then-start-end-clause-holds
+returns-then-start-end-clause-holds c move named n ray l there is =
+    let plan = c.args.self.now in
+    let own = c.self.inside.boxes in
+    let has = subst (λ (p : PlanOf). HasBoxes p.grid p.slabs p.depth p.moves own.hulls.items own.boxes.items own.starts.items (length p.moves)) c.self.view_is c.self.invariant.5 in
+    let family = c.row-family.result.0 in
+    let i = c.row-family.result.1 in
+    let row = subst (λ (g : GridSize). strip_at g c.args.strip ≡ strip_of g family i) (ap (λ (p : PlanOf). p.grid) c.self.view_is) c.row-family.ensures in
+    let point = in_hull plan own.hulls.items own.boxes.items own.starts.items c.args.number c.index.result.now move ray l has c.requires.number c.index.ensures named is in
+    c.strip_window-window.ensures.has n l (subst (λ (r : Ray). HasPoint c.index.result.now r l) (ray_is plan.grid c.args.strip n family i ray row there) point)
+
+pub boxes_strip_window-requires : goal.boxes_strip_window-requires
+boxes_strip_window-requires c =
+    let plan = c.args.self.now in
+    let own = c.self.inside.boxes in
+    let has = subst (λ (p : PlanOf). HasBoxes p.grid p.slabs p.depth p.moves own.hulls.items own.boxes.items own.starts.items (length p.moves)) c.self.view_is c.self.invariant.5 in
+    subst (λ (boxes : List IndexBox). c.index-end.result.now ≤ length boxes) (sym c.deref.ensures.value)
+    (ends_within plan own.hulls.items own.boxes.items own.starts.items c.args.number c.index-end.result.now has c.requires.number c.index-end.ensures)
+
+pub returns-clause-order : goal.returns-clause-order
+returns-clause-order c =
+    let plan = c.args.self.now in
+    let own = c.self.inside.boxes in
+    let has = subst (λ (p : PlanOf). HasBoxes p.grid p.slabs p.depth p.moves own.hulls.items own.boxes.items own.starts.items (length p.moves)) c.self.view_is c.self.invariant.5 in
+    (c.boxes_strip_window.ensures.range plan.grid (subst (AreBoxesOf plan.grid) (sym c.deref.ensures.value) has.boxes_fit)).order
+
+pub returns-clause-within : goal.returns-clause-within
+returns-clause-within c =
+    let plan = c.args.self.now in
+    let own = c.self.inside.boxes in
+    let has = subst (λ (p : PlanOf). HasBoxes p.grid p.slabs p.depth p.moves own.hulls.items own.boxes.items own.starts.items (length p.moves)) c.self.view_is c.self.invariant.5 in
+    let family = c.row-family.result.0 in
+    let i = c.row-family.result.1 in
+    let row = subst (λ (g : GridSize). strip_at g c.args.strip ≡ strip_of g family i) (ap (λ (p : PlanOf). p.grid) c.self.view_is) c.row-family.ensures in
+    let many = rays_in plan.grid c.args.strip family i row in
+    let within = (c.boxes_strip_window.ensures.range plan.grid (subst (AreBoxesOf plan.grid) (sym c.deref.ensures.value) has.boxes_fit)).within in
+    omega (arith, many, within)
+
+pub returns-clause-holds : goal.returns-clause-holds
+returns-clause-holds c move named n ray l there is =
+    let plan = c.args.self.now in
+    let own = c.self.inside.boxes in
+    let has = subst (λ (p : PlanOf). HasBoxes p.grid p.slabs p.depth p.moves own.hulls.items own.boxes.items own.starts.items (length p.moves)) c.self.view_is c.self.invariant.5 in
+    let family = c.row-family.result.0 in
+    let i = c.row-family.result.1 in
+    let row = subst (λ (g : GridSize). strip_at g c.args.strip ≡ strip_of g family i) (ap (λ (p : PlanOf). p.grid) c.self.view_is) c.row-family.ensures in
+    let inside = in_own plan own.hulls.items own.boxes.items own.starts.items c.args.number c.index-start.result.now c.index-end.result.now c.index.result.now move ray l has c.requires.number
+    c.index-start.ensures c.index-end.ensures c.if-start-end.false named is in
+    let here = subst (λ (boxes : List IndexBox). IsInOneOf boxes c.index-start.result.now c.index-end.result.now ray l) (sym c.deref.ensures.value) inside in
+    c.boxes_strip_window.ensures.has n l
+    (subst (λ (r : Ray). IsInOneOf c.deref.result.now c.index-start.result.now c.index-end.result.now r l) (ray_is plan.grid c.args.strip n family i ray row there) here)

@@ -1,0 +1,12 @@
+use Rattle.std.proofs.Common.{ℕ}
+use Rattle.ray_grid.specs.Grids.{GridSize}
+use Rattle.ray_grid.specs.Lattice.{points_of}
+use Rattle.strip_plan.specs.Boxed.{IsInOneOf}
+use Rattle.strip_plan.specs.IndexBoxes.{AreBoxesOf}
+use Rattle.strip_plan.specs.Ranges.{IsIn, IsRangeOf}
+use Rattle.strip_plan.proofs.windows.boxes_ray_window.Given as goal
+
+abbrev pub invariant-loop-place : goal.invariant-loop-place
+invariant-loop-place l =
+    ((grid : GridSize) → AreBoxesOf grid l.boxes → IsRangeOf (points_of grid l.ray.family) l.window)
+    × ((x : ℕ) → IsInOneOf l.boxes l.start l.place l.ray x → IsIn l.window x)

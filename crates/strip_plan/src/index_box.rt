@@ -1,0 +1,132 @@
+ghost use Rattle.std.specs.Prelude.{◌≡◌, ℕ};
+ghost use Rattle.ray_grid.specs.Families.{second_axis};
+ghost use Rattle.ray_grid.specs.Grids.{GridSize};
+ghost use Rattle.ray_grid.specs.Lattice.{nodes_of, points_of};
+ghost use Rattle.strip_plan.specs.IndexBoxes.{HasPoint, IsBoxOf, JoinsBoxes, ranges_for};
+ghost use Rattle.strip_plan.specs.Ranges.{IsIn, IsRangeOf, Joins};
+
+use crate::ranges::{hull, is_in};
+use ray_grid::{Family, Ray};
+
+/// What a box has on one axis: its nodes, and the points of a ray along it. The second end of a range is excluded.
+#[derive(Clone, Copy)]
+pub struct AxisRanges {
+    pub nodes: (u32, u32),
+    pub points: (u32, u32),
+}
+
+/// A box by the indices of the lattice, so that what it has of a strip or a ray is found without a division.
+#[derive(Clone, Copy)]
+pub struct IndexBox {
+    pub x: AxisRanges,
+    pub y: AxisRanges,
+    pub z: AxisRanges,
+}
+
+impl AxisRanges {
+    /// The least ranges that hold those of two.
+    #[inline]
+    fn hull(&self, other: &AxisRanges) -> AxisRanges
+        ensures nodes { Joins self.now.nodes other.now.nodes result.nodes }
+        ensures points { Joins self.now.points other.now.points result.points }
+    {
+        AxisRanges {
+            nodes: hull(self.nodes, other.nodes),
+            points: hull(self.points, other.points),
+        }
+    }
+}
+
+impl IndexBox {
+    /// The box that has nothing.
+    pub fn none() -> IndexBox
+        ensures { (grid : GridSize) → IsBoxOf grid result }
+    {
+        let none = AxisRanges {
+            nodes: (0, 0),
+            points: (0, 0),
+        };
+        IndexBox {
+            x: none,
+            y: none,
+            z: none,
+        }
+    }
+
+    /// The least box that has what two have.
+    pub fn hull(&self, other: &IndexBox) -> IndexBox
+        ensures { JoinsBoxes self.now other.now result }
+    {
+        IndexBox {
+            x: self.x.hull(&other.x),
+            y: self.y.hull(&other.y),
+            z: self.z.hull(&other.z),
+        }
+    }
+
+    /// The first nodes of a family's rays.
+    #[inline]
+    fn first(&self, family: Family) -> (u32, u32)
+        ensures { result ≡ (ranges_for self.now family).first }
+    {
+        match family {
+            Family::X => self.y.nodes,
+            Family::Y | Family::Z => self.x.nodes,
+        }
+    }
+
+    /// The second nodes of a family's rays.
+    #[inline]
+    fn second(&self, family: Family) -> (u32, u32)
+        ensures { result ≡ (ranges_for self.now family).second }
+    {
+        match family {
+            Family::X | Family::Y => self.z.nodes,
+            Family::Z => self.y.nodes,
+        }
+    }
+
+    /// The points along a family's rays.
+    #[inline]
+    fn along(&self, family: Family) -> (u32, u32)
+        ensures { result ≡ (ranges_for self.now family).along }
+    {
+        match family {
+            Family::X => self.x.points,
+            Family::Y => self.y.points,
+            Family::Z => self.z.points,
+        }
+    }
+
+    /// From the one index to the other lie the points of a ray that the box has.
+    #[inline]
+    pub fn ray_window(&self, ray: &Ray) -> (u32, u32)
+        ensures range { (grid : GridSize) → IsBoxOf grid self.now → IsRangeOf (points_of grid ray.now.family) result }
+        ensures has { (l : ℕ) → HasPoint self.now ray.now l → IsIn result l }
+    {
+        let family = ray.family;
+        if is_in(self.first(family), ray.i) && is_in(self.second(family), ray.j) {
+            self.along(family)
+        } else {
+            (0, 0)
+        }
+    }
+
+    /// From the one number to the other stand the rays with a point that the box has in a strip: in that of a family's rays with the
+    /// first node `i`.
+    #[inline]
+    pub fn strip_window(&self, family: Family, i: u32) -> (u32, u32)
+        ensures range { (grid : GridSize) → IsBoxOf grid self.now → IsRangeOf (nodes_of grid (second_axis family)) result }
+        ensures has { (j l : ℕ) → HasPoint self.now record { family = family; i = i; j = j } l → IsIn result j }
+    {
+        if !is_in(self.first(family), i) {
+            return (0, 0);
+        }
+        let along = self.along(family);
+        if along.0 < along.1 {
+            self.second(family)
+        } else {
+            (0, 0)
+        }
+    }
+}
