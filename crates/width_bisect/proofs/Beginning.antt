@@ -1,10 +1,9 @@
 -- Where a search of a whole move begins, and its mark.
-use Rattle.std.proofs.Common.{◌≡◌, Bool, true, false, not, ℕ, ◌+◌, ◌^◌, ◌≤◌, ◌<◌, List, get_or, ℤ, pos, ◌*ℤ◌, ◌≤ℤ◌, arith, refl, subst, sym, ap, ◌∙◌}
+use Rattle.std.proofs.Common.{◌≡◌, Bool, true, false, not, ℕ, ◌+◌, ◌^◌, List, get_or, ℤ, pos, ◌*ℤ◌, ◌≤ℤ◌, arith, subst, sym, ap, ◌∙◌}
 use Rattle.std.proofs.lemmas.Int.{ints}
 use Rattle.space.specs.Motion.{Motion}
 use Rattle.space.specs.Vectors.{at}
 use Rattle.space.proofs.Tests.{decides_le}
-use Rattle.bern_form.specs.Between.{d_between}
 use Rattle.bern_form.specs.Cells.{scaled_square}
 use Rattle.bern_form.specs.Forms.{all_positive, lifted, product22}
 use Rattle.bern_form.specs.Marks.{some_holds}

@@ -1,5 +1,5 @@
 -- The bounds of a point's forms on a whole move, and the mark of the point by the stacks of a cutter.
-use Rattle.std.proofs.Common.{◌≡◌, Bool, true, false, ℕ, ◌+◌, ◌*◌, ◌^◌, ◌≤◌, ◌<◌, List, ℤ, pos, ◌+ℤ◌, ◌*ℤ◌, ◌-ℤ◌, unsigned_abs, arith, refl, subst, sym, ap, ◌∙◌, ⊎_elim}
+use Rattle.std.proofs.Common.{◌≡◌, Bool, true, false, ℕ, ◌+◌, ◌*◌, ◌^◌, ◌≤◌, List, ℤ, pos, ◌+ℤ◌, ◌*ℤ◌, ◌-ℤ◌, unsigned_abs, arith, subst, sym, ap, ◌∙◌, ⊎_elim}
 use Rattle.std.proofs.lemmas.Bool.{cases_Bool}
 use Rattle.space.specs.Motion.{IsSweep, Motion, axis_at, offset_at}
 use Rattle.space.specs.Ranges.{IsPoint}
@@ -7,7 +7,7 @@ use Rattle.space.specs.Reach.{is_in_reach}
 use Rattle.space.specs.Vectors.{at}
 use Rattle.space.proofs.Naturals.{abs_add, abs_mul, abs_sub}
 use Rattle.bern_form.specs.Between.{d_between, n_between, u_between}
-use Rattle.bern_form.specs.Forms.{all_negative, difference4, product22, scaled4}
+use Rattle.bern_form.specs.Forms.{all_negative, product22}
 use Rattle.bern_form.specs.Marks.{held_at_sample, some_holds}
 use Rattle.bern_form.specs.Sizes.{IsBounded2, axis_limit, offset_limit, scale_limit}
 use Rattle.bern_form.specs.Slab.{SlabSize}
@@ -20,7 +20,7 @@ use Rattle.axis_cells.proofs.Bounds.{cross_bounded}
 use Rattle.cutter_slabs.specs.Cutter.{CutterSize}
 use Rattle.cutter_slabs.specs.Stacks.{inner_stack, outer_stack, reach_of}
 use Rattle.cutter_marks.specs.MarkBy.{mark_by}
-use Rattle.box_bisect.specs.Between.{IsFreeBetween, IsMarkBetween}
+use Rattle.box_bisect.specs.Between.{IsMarkBetween}
 use Rattle.box_bisect.specs.SlabTests.{is_left_with, width_of}
 use Rattle.box_bisect.proofs.Marking.{far_mark, mark_is}
 use Rattle.box_bisect.proofs.Searching.{dropped_whole}

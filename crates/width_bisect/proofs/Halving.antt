@@ -1,21 +1,20 @@
 -- The forms of a point on a stretch give those of its halves: the shifts lose nothing, since the samples are whole.
-use Rattle.std.proofs.Common.{◌≡◌, true, false, not, ◌||◌, ℕ, ◌+◌, ◌*◌, ◌≤◌, ◌<◌, [], ◌∷◌, List, ℤ, pos, ◌+ℤ◌, ◌*ℤ◌, ◌-ℤ◌, length, get_or, arith, ap, refl, sym, subst, ◌∙◌}
+use Rattle.std.proofs.Common.{◌≡◌, true, ℕ, ◌+◌, ◌*◌, [], ◌∷◌, List, ℤ, pos, ◌+ℤ◌, ◌*ℤ◌, ◌-ℤ◌, arith, ap, refl, sym, subst, ◌∙◌}
 use Rattle.std.proofs.lemmas.Int.{ints}
 use Rattle.space.specs.Motion.{Motion}
 use Rattle.space.specs.Vectors.{at}
 use Rattle.bern_form.specs.Between.{d_between, height_less, n_between, u_between}
 use Rattle.bern_form.specs.Cells.{scaled_square}
-use Rattle.bern_form.specs.Forms.{all_negative, all_positive, difference4, lifted, product22, scaled4}
+use Rattle.bern_form.specs.Forms.{all_negative, all_positive, difference4, lifted, product22}
 use Rattle.bern_form.specs.Sizes.{IsBounded2}
 use Rattle.bern_form.specs.Slab.{SlabSize}
 use Rattle.bern_form.proofs.Decided.{decides_negative, decides_positive}
 use Rattle.bern_form.proofs.Halves.{d_of_first, d_of_last, n_of_first, n_of_last, u_of_first, u_of_last, whole_of_first, whole_of_last}
 use Rattle.bern_form.proofs.HalfSigns.{IsFirstOf, IsLastOf, first_negative4, first_positive4, five, height_first, height_last, last_negative4, last_positive4, three}
-use Rattle.box_bisect.specs.SlabTests.{TurnsBetween, is_below_by, no_slab, width_of}
+use Rattle.box_bisect.specs.SlabTests.{is_below_by, width_of}
 use Rattle.box_bisect.proofs.Raised.{raised_is}
-use Rattle.width_bisect.specs.Forms.{AreWidthForms, width_between}
+use Rattle.width_bisect.specs.Forms.{AreWidthForms}
 use Rattle.width_bisect.specs.Halved.{first2, first4, last2, last4}
-use Rattle.width_bisect.specs.Searches.{is_not_below}
 use Rattle.width_bisect.specs.Sizes.{IsWeighted4}
 use Rattle.width_bisect.proofs.Shifting.{fourth4_small, middle2_small, middle4_small, second2_small, second4_small, shifted1, shifted2, shifted3, shifted4, third4_small}
 use Rattle.width_bisect.proofs.Terms4.{raised_of_first, raised_of_last, width_of_first, width_of_last}
@@ -164,4 +163,3 @@ below_last S u n g h s eu en below =
     limit_form S g h s
     ∙ (decides_negative (height_less f g h)).1 (last_negative4 (height_less f (whole_of_last g) (whole_of_last h)) (height_less f g h) (omega arith) (height_last f g h)
     ((decides_negative (height_less f (whole_of_last g) (whole_of_last h))).0 whole))
-

@@ -1,5 +1,5 @@
 -- One slab decides at a sample, by the width in place of the distance from the axis.
-use Rattle.std.proofs.Common.{◌≡◌, Bool, true, false, ◌&&◌, ℤ, pos, ◌*ℤ◌, ◌≤ℤ◌, int_le, ℕ, refl, ap, sym, ◌∙◌}
+use Rattle.std.proofs.Common.{◌≡◌, Bool, true, false, ◌&&◌, ℤ, pos, ◌*ℤ◌, ◌≤ℤ◌, int_le, ℕ, refl, ap, ◌∙◌}
 use Rattle.space.proofs.Tests.{decides_le}
 use Rattle.bern_form.specs.Cells.{scaled_square}
 use Rattle.bern_form.specs.Slab.{SlabSize, covers}

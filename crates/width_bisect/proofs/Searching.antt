@@ -1,22 +1,22 @@
 -- The marks of a stretch by the width: where it is dropped, where it is a cell, and from those of its halves.
-use Rattle.std.proofs.Common.{◌≡◌, Bool, true, false, not, ℕ, ◌+◌, ◌*◌, ◌^◌, ◌≤◌, ◌<◌, List, length, get_or, ℤ, pos, ◌*ℤ◌, ◌-ℤ◌, arith, refl, subst, sym, ap, ◌∙◌, ⊎_elim}
+use Rattle.std.proofs.Common.{◌≡◌, Bool, true, false, not, ℕ, ◌+◌, ◌^◌, List, get_or, ℤ, pos, ◌*ℤ◌, ◌-ℤ◌, arith, refl, subst, sym, ap, ◌∙◌, ⊎_elim}
 use Rattle.std.proofs.lemmas.Bool.{cases_lt}
 use Rattle.space.specs.Motion.{Motion}
 use Rattle.space.specs.Vectors.{at}
-use Rattle.bern_form.specs.Between.{d_between, n_between, u_between}
+use Rattle.bern_form.specs.Between.{d_between, n_between}
 use Rattle.bern_form.specs.Forms.{all_negative, all_positive, lifted, product22}
 use Rattle.bern_form.specs.Marks.{some_holds}
 use Rattle.bern_form.specs.Slab.{SlabSize}
 use Rattle.bern_form.proofs.Halves.{n_of_first, n_of_last, u_of_first, u_of_last, whole_of_first, whole_of_last}
 use Rattle.axis_cells.specs.declared.mark.Mark.TheVariants.{Clear, Possible, Removed}
 use Rattle.cutter_slabs.specs.Rising.{IsRising}
-use Rattle.box_bisect.specs.Between.{IsMarkBetween, IsSearched}
+use Rattle.box_bisect.specs.Between.{IsMarkBetween}
 use Rattle.box_bisect.specs.SlabTests.{TurnsAt, TurnsBetween, is_below_by, is_left_by, is_left_with, no_slab, some_covers, width_of}
 use Rattle.box_bisect.specs.Stretches.{AreFormsBetween}
 use Rattle.box_bisect.proofs.Leaving.{none_ahead}
 use Rattle.box_bisect.proofs.Raised.{left_is, left_of}
 use Rattle.box_bisect.proofs.Searching.{at_cell, dropped, halved, held_first, held_last}
-use Rattle.width_bisect.specs.Forms.{AreWidthForms, width_between}
+use Rattle.width_bisect.specs.Forms.{AreWidthForms}
 use Rattle.width_bisect.specs.Halved.{first2, first4, last2, last4}
 use Rattle.width_bisect.specs.Searches.{IsWidthSearch, is_not_below}
 use Rattle.width_bisect.specs.Turns.{StopsAt}

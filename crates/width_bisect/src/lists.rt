@@ -18,13 +18,12 @@ fn each_above(numbers: &[i64]) -> bool
     numbers.iter().all(|c| *c > 0)
 }
 
-/// The coefficients that the slabs' tests between two samples compare: n raised to degree 4, u^2, and the width.
+/// What the slabs' tests between two samples compare, beside the width: n raised to degree 4, and u^2.
 #[derive(Drop)]
 pub struct Lists {
     pub scale: u32,
     pub raised: [i64; 5],
     pub height: [i128; 5],
-    pub width: [i128; 5],
     ghost scale_small: { scale ≤ scale_limit },
 }
 
@@ -34,7 +33,11 @@ impl Reaches for Lists {
     /// Whether the point isn't below the slab throughout.
     #[inline]
     fn reaches(&self, slab: &Slab) -> bool {
-        !all_below(&self.height, scaled_square(self.scale, slab.lo), &self.raised)
+        !all_below(
+            &self.height,
+            scaled_square(self.scale, slab.lo),
+            &self.raised,
+        )
     }
 }
 
@@ -45,13 +48,11 @@ impl Lists {
         ensures scale { result.scale ≡ scale }
         ensures raised { result.raised ≡ lifted stretch.now.n }
         ensures height { result.height ≡ product22 stretch.now.u stretch.now.u }
-        ensures width { result.width ≡ stretch.now.width }
     {
         Lists {
             scale,
             raised: stretch.raised(),
             height: stretch.height(),
-            width: stretch.width,
         }
     }
 
@@ -65,27 +66,31 @@ impl Lists {
 
     /// Whether the point is beside the slab throughout, or above it.
     #[inline]
-    fn is_past(&self, slab: &Slab) -> bool
-        ensures { let l = self.now in result ≡ is_past_by l.scale l.raised l.height l.width slab.now }
+    fn is_past(&self, slab: &Slab, width: &[i128; 5]) -> bool
+        ensures { let l = self.now in result ≡ is_past_by l.scale l.raised l.height width.now slab.now }
     {
-        if all_above(&self.width, scaled_square(self.scale, slab.dia), &self.raised) {
+        if all_above(width, scaled_square(self.scale, slab.dia), &self.raised) {
             return true;
         }
-        all_above(&self.height, scaled_square(self.scale, slab.hi), &self.raised)
+        all_above(
+            &self.height,
+            scaled_square(self.scale, slab.hi),
+            &self.raised,
+        )
     }
 
     /// Whether some of the slabs is not excluded, by the highest of them that the point isn't below: it is below those above that
     /// one, and those below it are no wider.
     #[inline]
-    pub fn leaves_some(&self, slabs: &[Slab], reached: usize) -> bool
+    pub fn leaves_some(&self, slabs: &[Slab], reached: usize, width: &[i128; 5]) -> bool
         requires within { reached ≤ length slabs.now }
         ensures { let l = self.now in IsRising slabs.now → all_positive l.raised ≡ true
             → TurnsAt (λ s. not (is_below_by l.scale l.raised l.height s)) slabs.now reached
-            → result ≡ is_left_by l.scale false l.raised l.height l.width slabs.now }
+            → result ≡ is_left_by l.scale false l.raised l.height width.now slabs.now }
     {
         if reached == 0 {
             return false;
         }
-        !self.is_past(&slabs[reached - 1])
+        !self.is_past(&slabs[reached - 1], width)
     }
 }

@@ -37,7 +37,7 @@ fn mark_ahead(
     let inner = stacks.inner();
     let outer = stacks.outer();
     let reached = reached_on_whole(&whole, &lists, outer);
-    if !lists.leaves_some(outer, reached) {
+    if !lists.leaves_some(outer, reached, &whole.width) {
         return Mark::Clear;
     }
     let reach = stacks.reach();

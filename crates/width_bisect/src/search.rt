@@ -37,7 +37,7 @@ pub fn mark_between(
     }
     let lists = Lists::of_stretch(stretch, scale);
     let reached = walk_down(&lists, outer, high);
-    if !lists.leaves_some(outer, reached) {
+    if !lists.leaves_some(outer, reached, &stretch.width) {
         return Mark::Clear;
     }
     if levels == 0 {

@@ -72,7 +72,8 @@ impl Stretch {
     pub fn is_behind(&self) -> bool
         ensures { result ≡ all_negative self.now.u }
     {
-        self.u.iter().all(|c| *c < 0)
+        let [a, b, c] = self.u;
+        a < 0 && b < 0 && c < 0
     }
 
     /// n raised to degree 4.

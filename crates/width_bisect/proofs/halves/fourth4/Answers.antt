@@ -1,4 +1,4 @@
-use Rattle.std.proofs.Common.{FitsSigned, refl, ◌*ℤ◌, ◌+ℤ◌, pos}
+use Rattle.std.proofs.Common.{refl}
 use Rattle.std.proofs.lemmas.Int.{to_z-of_z}
 use Rattle.width_bisect.proofs.Shifting.{fourth4_fits}
 use Rattle.width_bisect.proofs.halves.fourth4.Goals as goal

@@ -1,4 +1,4 @@
-use Rattle.std.proofs.Common.{◌≡◌, Bool, FitsSigned, rules, true, ℕ, ◌^◌, List, pos, not, refl, sym, ap, subst, ◌∙◌}
+use Rattle.std.proofs.Common.{◌≡◌, Bool, FitsSigned, rules, true, ℕ, ◌^◌, List, pos, refl, sym, ap, subst, ◌∙◌}
 use Rattle.std.proofs.lemmas.Int.{to_z-of_z}
 use mir.Syntax.{w32}
 use Rattle.space.specs.Motion.{IsSweep}
@@ -12,8 +12,6 @@ use Rattle.cutter_slabs.specs.Stacks.{reach_of}
 use Rattle.box_bisect.specs.SlabTests.{TurnsAt}
 use Rattle.box_bisect.proofs.Marking.{far_mark, mark_is}
 use Rattle.box_bisect.proofs.Searching.{some_cells}
-use Rattle.width_bisect.specs.Forms.{AreWidthForms}
-use Rattle.width_bisect.specs.Searches.{is_not_below}
 use Rattle.width_bisect.proofs.Closing.{clear_is, forms_at, forms_kept, forms_small, marked_by, whole_dropped}
 use Rattle.width_bisect.proofs.Searching.{left_is_by, test_as, width_by}
 use Rattle.width_bisect.proofs.point.mark_ahead.Goals as goal
@@ -44,8 +42,8 @@ returns-then-not-leaves_some c =
     let forms = forms_kept w.u w.n w.width f.u.c f.n.c f.width.c m p S kept.u kept.n kept.width (forms_at f.u.c f.n.c f.width.c m p S (2 ^ a.depth) cells c.requires.forms) in
     let positive = ap all_positive (sym e.raised) ∙ sym c.is_open.ensures ∙ c.if-not-is_open.false in
     let turns = subst (λ (t : SlabSize → Bool). TurnsAt t outer reached) (test_as S l.scale l.raised l.height w.u w.n e.scale e.raised e.height) c.reached_on_whole-reached.ensures in
-    let left = left_is_by outer c.leaves_some.result S l.scale reached l.raised l.height l.width w.u w.n (d_between m p 0 S S) c.outer-outer.ensures.rising e.scale (ap all_negative kept.u ∙ c.requires.ahead) e.raised e.height
-        (e.width ∙ width_by w.u w.n w.width m p 0 S S forms) positive turns c.leaves_some.ensures in
+    let left = left_is_by outer c.leaves_some.result S l.scale reached l.raised l.height w.width w.u w.n (d_between m p 0 S S) c.outer-outer.ensures.rising e.scale (ap all_negative kept.u ∙ c.requires.ahead) e.raised e.height
+    (width_by w.u w.n w.width m p 0 S S forms) positive turns c.leaves_some.ensures in
     let enclosed = λ (i : ℕ) (h : some_holds inner m p i S ≡ true). subst (λ (l : List SlabSize). some_holds l m p i S ≡ true) (sym c.outer-outer.ensures.stack) (c.inner-inner.ensures.enclosed m p i S h) in
     marked_by Clear cutter n inner outer m p S (2 ^ a.depth) c.inner-inner.ensures.stack c.outer-outer.ensures.stack cells
     (clear_is inner outer (pos (reach_of cutter)) m p S (whole_dropped inner outer w.u w.n w.width m p S a.depth cells forms enclosed (sym left ∙ c.if-not-leaves_some.true)))

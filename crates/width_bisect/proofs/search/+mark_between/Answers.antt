@@ -1,7 +1,6 @@
-use Rattle.std.proofs.Common.{◌≡◌, ◌+◌, ◌-◌, ◌^◌, true, false, arith, sym, subst, ap, ◌∙◌}
+use Rattle.std.proofs.Common.{◌≡◌, ◌+◌, ◌-◌, ◌^◌, arith, sym, subst, ap, ◌∙◌}
 use Rattle.space.specs.Vectors.{at}
 use Rattle.bern_form.specs.Between.{d_between}
-use Rattle.bern_form.specs.Forms.{all_negative}
 use Rattle.box_bisect.specs.Between.{IsMarkBetween}
 use Rattle.box_bisect.proofs.Searching.{join_marks, late_held, not_removed, removed_of}
 use Rattle.width_bisect.specs.Halved.{first2, first4, last2, last4}
@@ -21,8 +20,8 @@ returns-then-not-leaves_some t c = λ m p j s.
     let ahead = sym c.is_behind.ensures ∙ c.if-is_behind.false in
     let turns = turns_by outer S l.scale a.high reached l.raised l.height u n e.scale e.raised e.height c.walk_down-reached.ensures s.turns in
     let forms = search_forms inner outer u n width m p S a.high a.levels j s in
-    let left = left_is_by outer c.leaves_some.result S l.scale reached l.raised l.height l.width u n d c.requires.outer e.scale ahead e.raised e.height (e.width ∙ width_by u n width m p j k S forms)
-        s.is_open turns c.leaves_some.ensures in
+    let left = left_is_by outer c.leaves_some.result S l.scale reached l.raised l.height width u n d c.requires.outer e.scale ahead e.raised e.height (width_by u n width m p j k S forms)
+    s.is_open turns c.leaves_some.ensures in
     search_dropped inner outer u n width m p S a.high a.levels j s (sym left ∙ c.if-not-leaves_some.true)
 
 pub returns-then-levels-eq0 : goal.returns-then-levels-eq0
@@ -32,8 +31,8 @@ returns-then-levels-eq0 t c = λ m p j s.
     let ahead = sym c.is_behind.ensures ∙ c.if-is_behind.false in
     let turns = turns_by outer S l.scale a.high reached l.raised l.height u n e.scale e.raised e.height c.walk_down-reached.ensures s.turns in
     let forms = search_forms inner outer u n width m p S a.high a.levels j s in
-    let left = left_is_by outer c.leaves_some.result S l.scale reached l.raised l.height l.width u n d c.requires.outer e.scale ahead e.raised e.height (e.width ∙ width_by u n width m p j k S forms)
-        s.is_open turns c.leaves_some.ensures in
+    let left = left_is_by outer c.leaves_some.result S l.scale reached l.raised l.height width u n d c.requires.outer e.scale ahead e.raised e.height (width_by u n width m p j k S forms)
+    s.is_open turns c.leaves_some.ensures in
     search_cell inner outer u n width m p S a.high a.levels j c.if-levels-eq0.true s (sym left ∙ c.if-not-leaves_some.false)
 
 pub returns-then-is_held : goal.returns-then-is_held
@@ -43,7 +42,7 @@ returns-then-is_held t c = λ m p j s.
     let first = c.first_half-first.ensures in let at' = c.last_of.result in let is = c.last_of.ensures in
     let forms = first_forms inner outer u n width m p S a.high a.levels k j e s in
     let held = held_as_last inner c.is_held.result at'.scale at'.u at'.n at'.width (first2 u) (first2 n) (first4 width) m p j (j + 2 ^ k) S forms c.is_held.ensures
-        is.scale (is.u ∙ ap (λ l. at l 2) first.u) (is.n ∙ ap (λ l. at l 2) first.n) (is.width ∙ ap (λ l. at l 4) first.width) in
+    is.scale (is.u ∙ ap (λ l. at l 2) first.u) (is.n ∙ ap (λ l. at l 2) first.n) (is.width ∙ ap (λ l. at l 4) first.width) in
     middle_held inner outer m p S a.levels k j e (sym held ∙ c.if-is_held.true)
 
 pub returns-then-is_removed : goal.returns-then-is_removed
@@ -55,10 +54,10 @@ returns-then-is_removed t c = λ m p j s.
     let first = c.first_half-first.ensures in let last = c.last_half-last.ensures in let at' = c.last_of.result in let is = c.last_of.ensures in
     let forms = first_forms inner outer u n width m p S a.high a.levels k j e s in
     let held = held_as_last inner c.is_held.result at'.scale at'.u at'.n at'.width (first2 u) (first2 n) (first4 width) m p j (j + 2 ^ k) S forms c.is_held.ensures
-        is.scale (is.u ∙ ap (λ l. at l 2) first.u) (is.n ∙ ap (λ l. at l 2) first.n) (is.width ∙ ap (λ l. at l 4) first.width) in
+    is.scale (is.u ∙ ap (λ l. at l 2) first.u) (is.n ∙ ap (λ l. at l 2) first.n) (is.width ∙ ap (λ l. at l 4) first.width) in
     let free = sym held ∙ c.if-is_held.false in
     let late_search = searched_as inner outer c.last_half-last.result.u c.last_half-last.result.n c.last_half-last.result.width (last2 u) (last2 n) (last4 width) m p S reached k (j + 2 ^ k) last.u last.n last.width
-        (search_last inner outer u n width m p S a.high reached a.levels k j e s turns free) in
+    (search_last inner outer u n width m p S a.high reached a.levels k j e s turns free) in
     late_held c.mark_between-late.result inner outer m p S a.levels k j e (removed_of c.mark_between-late.result (sym c.is_removed.ensures ∙ c.if-is_removed.true)) (c.mark_between-late.ensures m p (j + 2 ^ k) late_search)
 
 pub returns : goal.returns
@@ -70,12 +69,12 @@ returns t c = λ m p j s.
     let first = c.first_half-first.ensures in let last = c.last_half-last.ensures in let at' = c.last_of.result in let is = c.last_of.ensures in
     let forms = first_forms inner outer u n width m p S a.high a.levels k j e s in
     let held = held_as_last inner c.is_held.result at'.scale at'.u at'.n at'.width (first2 u) (first2 n) (first4 width) m p j (j + 2 ^ k) S forms c.is_held.ensures
-        is.scale (is.u ∙ ap (λ l. at l 2) first.u) (is.n ∙ ap (λ l. at l 2) first.n) (is.width ∙ ap (λ l. at l 4) first.width) in
+    is.scale (is.u ∙ ap (λ l. at l 2) first.u) (is.n ∙ ap (λ l. at l 2) first.n) (is.width ∙ ap (λ l. at l 4) first.width) in
     let free = sym held ∙ c.if-is_held.false in
     let late_search = searched_as inner outer c.last_half-last.result.u c.last_half-last.result.n c.last_half-last.result.width (last2 u) (last2 n) (last4 width) m p S reached k (j + 2 ^ k) last.u last.n last.width
-        (search_last inner outer u n width m p S a.high reached a.levels k j e s turns free) in
+    (search_last inner outer u n width m p S a.high reached a.levels k j e s turns free) in
     let early_search = searched_as inner outer c.first_half-first.result.u c.first_half-first.result.n c.first_half-first.result.width (first2 u) (first2 n) (first4 width) m p S reached k j first.u first.n first.width
-        (search_first inner outer u n width m p S a.high reached a.levels k j e s turns free) in
+    (search_first inner outer u n width m p S a.high reached a.levels k j e s turns free) in
     let late = c.mark_between-late.result in let early = c.mark_between-early.result in
     subst (λ mark. IsMarkBetween mark inner outer m p j (j + 2 ^ a.levels) S) (sym c.joined.ensures)
     (join_marks early late inner outer m p S a.levels k j e (not_removed late (sym c.is_removed.ensures ∙ c.if-is_removed.false)) (c.mark_between-early.ensures m p j early_search) (c.mark_between-late.ensures m p (j + 2 ^ k) late_search))
