@@ -192,7 +192,8 @@ strips_within plan job strips of all = record {
       let lt : k < length strips = omega (arith, inside) in
       let is = get_or-map (λ (s : StripOf). s.done) strips k none 0 lt in
       let within = (all.each k (get_or strips k none) (slice_get-get_or strips k none lt)).within in
-      let same : length job.plan.edits ≡ length plan.edits = ap (λ (p : PlanOf). length p.edits) (plan_is plan job strips k none of all lt) in
+      let same : length job.plan.edits ≡ length plan.edits =
+      ap (λ (p : PlanOf). length p.edits) (plan_is plan job strips k none of all lt) in
       omega (arith, is, within, same));
 }
 

@@ -36,7 +36,7 @@ fn counted_state<L: Ledger>(strip: &Strip, version: u32, n: u32, l: u32, blank: 
 }
 
 /// The state of a point of a strip's ray at a version.
-fn state_at(strip: &Strip, version: u32, n: u32, l: u32) -> PointState
+pub fn state_at(strip: &Strip, version: u32, n: u32, l: u32) -> PointState
     requires version { version ≤ strip.now.done }
     requires ray { n < length (strip_at strip.now.job.plan.grid strip.now.number) }
     requires point { (ray : Ray) → slice_get (strip_at strip.now.job.plan.grid strip.now.number) n ≡ Some ray

@@ -8,14 +8,15 @@ use Rattle.std.proofs.Math.Seq.{get_or-append_seam}
 use Rattle.std.proofs.lemmas.Option.{get_or_from_slice_get, slice_get-get_or, slice_get_within}
 use Rattle.job_model.specs.Tasks.{PlanOf}
 use Rattle.strip_journal.specs.Strips.{StripOf}
-use Rattle.turn_core.proofs.tests.strips_by.Goals as goal
+use Rattle.turn_core.proofs.tests.strips.strips_by.Goals as goal
 
 -- a strip of the plan with this number
 record IsNumbered (plan : PlanOf) (k : ℕ) (s : StripOf) : Type 0 where
   pub plan_is : s.job.plan ≡ plan
   pub number_is : s.number ≡ k
 
-one_more : (plan : PlanOf) (strips : List StripOf) (s : StripOf) → ((k : ℕ) (t : StripOf) → slice_get strips k ≡ Some t → IsNumbered plan k t)
+one_more : (plan : PlanOf) (strips : List StripOf) (s : StripOf)
+    → ((k : ℕ) (t : StripOf) → slice_get strips k ≡ Some t → IsNumbered plan k t)
     → IsNumbered plan (length strips) s → (k : ℕ) (t : StripOf) → slice_get (strips ++ s ∷ []) k ≡ Some t → IsNumbered plan k t
 one_more plan strips s old is k t at =
     let low = slice_get_within (strips ++ s ∷ []) k t at in
@@ -37,7 +38,10 @@ one_more plan strips s old is k t at =
 pub loop-number-preserved : goal.loop-number-preserved
 loop-number-preserved g c =
     let old = λ (k : ℕ) (t : StripOf) (at : slice_get c.loop-number.strips.items k ≡ Some t).
-    let is : IsNumbered c.args.plan.now k t = record { plan_is = c.loop-number.invariant.plans k t at; number_is = c.loop-number.invariant.numbers k t at } in is in
+    let is : IsNumbered c.args.plan.now k t = record {
+      plan_is = c.loop-number.invariant.plans k t at;
+      number_is = c.loop-number.invariant.numbers k t at;
+    } in is in
     let next : IsNumbered c.args.plan.now (length c.loop-number.strips.items) c.in_ok-fresh.field-0 = record {
       plan_is = ap (λ (u : StripOf). u.job.plan) c.in_ok-fresh.ensures;
       number_is = ap (λ (u : StripOf). u.number) c.in_ok-fresh.ensures ∙ sym c.loop-number.invariant.many;
@@ -46,7 +50,8 @@ loop-number-preserved g c =
     one_more c.args.plan.now c.loop-number.strips.items c.in_ok-fresh.field-0 old next k t
     (sym (ap (λ (z : List StripOf). slice_get z k) c.in_ok-push.ensures.items) ∙ at) in
     record {
-      many = ap (λ (z : List StripOf). length z) c.in_ok-push.ensures.items ∙ length-append c.loop-number.strips.items (c.in_ok-fresh.field-0 ∷ [])
+      many = ap (λ (z : List StripOf). length z) c.in_ok-push.ensures.items
+          ∙ length-append c.loop-number.strips.items (c.in_ok-fresh.field-0 ∷ [])
           ∙ ap (λ n. n + 1) c.loop-number.invariant.many;
       plans = λ k t at. (all k t at).plan_is;
       numbers = λ k t at. (all k t at).number_is;
