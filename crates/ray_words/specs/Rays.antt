@@ -1,10 +1,11 @@
 -- The five sets of a ray, of which a stretch is kept as words.
-use Rattle.std.specs.Prelude.{◌≡◌, ℕ, ◌+◌, ◌*◌, ◌<◌, ◌≤◌, true, not, ◌&&◌, ◌||◌, length}
+use Rattle.std.specs.Prelude.{◌≡◌, ℕ, ◌+◌, ◌*◌, ◌<◌, ◌≤◌, Bool, true, false, not, ◌&&◌, ◌||◌, [], length}
 use Rattle.vf_spans.specs.Members.{has}
 use Rattle.vf_spans.specs.Words.{has_bit, in_word}
 use Rattle.dexel_rays.specs.declared.word_sets.WordDelta.{WordDelta}
 use Rattle.dexel_rays.specs.declared.word_sets.WordSets.{WordSets}
-use Rattle.dexel_rays.specs.Sets.{Sets}
+use Rattle.dexel_rays.specs.Asked.{is_wanted}
+use Rattle.dexel_rays.specs.Sets.{Sets, seen_at}
 
 -- the sets, and of which words the stretch consists: so many from the first on
 pub record KeptSets : Type 0 where
@@ -24,6 +25,10 @@ pub record IsWordAt (d : Sets) (n : ℕ) (w : WordSets) : Type 0 where
   pub fixture : (b : ℕ) → b < 64 → has_bit w.fixture b ≡ has d.fixture (64 * n + b)
   pub sure : (b : ℕ) → b < 64 → has_bit w.sure b ≡ has d.sure (64 * n + b)
   pub possible : (b : ℕ) → b < 64 → has_bit w.possible b ≡ has d.possible (64 * n + b)
+
+-- a move has to be asked about the point of this index; what the move marks, and whether it is rapid, doesn't matter
+abbrev pub is_wanted_at : Sets → ℕ → Bool
+is_wanted_at d i = is_wanted (seen_at d [] [] false i)
 
 -- each bit of the word n is an index below the bound
 abbrev pub IsBelow : ℕ → ℕ → ℕ → Type 0

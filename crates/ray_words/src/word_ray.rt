@@ -1,9 +1,9 @@
 ghost use Rattle.std.specs.Prelude.{◌≡◌, ℕ, ◌+◌, ◌*◌, ◌<◌, ◌≤◌, ◌-◌, false, IfOk, MatchOption, OnOk, OnErr, length};
 ghost use Rattle.vf_spans.specs.Members.{count_of, has};
-ghost use Rattle.vf_spans.specs.Words.{words_below};
+ghost use Rattle.vf_spans.specs.Words.{has_bit, words_below};
 ghost use Rattle.dexel_rays.specs.Sets.{HaveBound};
 ghost use Rattle.ray_words.specs.Kept.{AreWordsFrom, IsStretch, IsUnmarked};
-ghost use Rattle.ray_words.specs.Rays.{IsBelow, IsGiven, IsKept, IsTaken, IsWordAt};
+ghost use Rattle.ray_words.specs.Rays.{IsBelow, IsGiven, IsKept, IsTaken, IsWordAt, is_wanted_at};
 
 use crate::range_word::word_of;
 use dexel_rays::{WordDelta, WordSets};
@@ -104,6 +104,18 @@ impl WordRay {
         match self.kept(n) {
             Some(word) => word,
             None => self.unmarked(n),
+        }
+    }
+
+    /// The points from the index 64 n on that a move has to be asked about. The other words are left alone.
+    #[inline]
+    pub fn wanted(&self, n: u32) -> u64
+        ensures { (b : ℕ) → b < 64 → has_bit result b ≡ is_wanted_at self.now.sets (64 * n + b) }
+    {
+        match self.kept(n) {
+            Some(word) => word.wanted(),
+            // No move was sure here.
+            None => u64::MAX,
         }
     }
 

@@ -1,41 +1,30 @@
 -- A move that is asked about the wanted points of its window in a word alone changes and finds there what it would if it were asked
 -- about all.
-use Rattle.std.proofs.Common.{◌≡◌, ℕ, ◌+◌, ◌*◌, ◌<◌, ◌≤◌, Bool, true, false, not, ◌&&◌, ◌||◌, IsTrue, List, length, arith, refl, sym, ap, ap₂, ◌∙◌, ◌⊎◌, inl, inr, ⊎_elim, leb, ltb}
+use Rattle.std.proofs.Common.{◌≡◌, ℕ, ◌+◌, ◌-◌, ◌*◌, ◌<◌, ◌≤◌, Bool, true, false, not, ◌&&◌, ◌||◌, IsTrue, length, arith, refl, sym, ap, ap₂, ◌∙◌, ◌⊎◌, inl, inr, ⊎_elim, leb, ltb}
 use Rattle.std.specs.List.{range_with_len}
 use Rattle.std.proofs.lemmas.Bool.{and_parts, and_right, cases_lt, false_from_ne_true, le-leb, le-ltb, lt-leb, lt-ltb}
-use Rattle.std.proofs.lemmas.List.{get_or_past}
 use borrow.Author.Tests.{ltb-true}
 use Rattle.vf_spans.specs.Members.{has, in_range}
 use Rattle.vf_spans.specs.Words.{has_bit}
 use Rattle.vf_spans.proofs.WordBits.{has_bit-zero}
+use Rattle.ray_grid.specs.Lattice.{points_of}
 use Rattle.job_facts.specs.declared.counts.Counts.{Counts}
 use Rattle.job_facts.specs.Counts.{no_counts}
 use Rattle.dexel_rays.specs.declared.word_sets.WordDelta.{WordDelta}
 use Rattle.dexel_rays.specs.declared.word_sets.WordSets.{WordSets}
 use Rattle.dexel_rays.specs.Asked.{Agree, is_sure_only, is_wanted}
-use Rattle.dexel_rays.specs.Findings.{findings, is_outside, met, none_met}
+use Rattle.dexel_rays.specs.Findings.{findings, is_outside, met}
 use Rattle.dexel_rays.specs.Sets.{Sets}
 use Rattle.dexel_rays.specs.WordSets.{IsWordDelta, SureIsPossible, seen_bit, seen_by}
 use Rattle.dexel_rays.proofs.Asked.{agree_new_possible, agree_new_sure}
-use Rattle.dexel_rays.proofs.Laws.{point}
 use Rattle.dexel_rays.proofs.WordLaws.{agree_found, asked_word}
-use Rattle.ray_words.specs.Rays.{IsWordAt}
+use Rattle.ray_words.specs.Rays.{IsBelow, IsWordAt, is_wanted_at}
 use Rattle.wanted_marks.specs.Rays.{AreOnRay, RayOf, is_possible_at, is_sure_at, is_sure_bit, is_told_at, is_told_bit}
-use Rattle.ray_grid.specs.Lattice.{points_of}
 use Rattle.strip_marks.specs.Marks.{seen_on}
 use Rattle.strip_marks.specs.RayMarks.{IsWindow}
-use Rattle.strip_marks.specs.Words.{AreSetsOf, IsWordMarked}
+use Rattle.strip_marks.specs.Words.{AreSetsOf}
 use Rattle.strip_marks.proofs.Counting.{found_as, found_none, inside_or}
-
--- beyond its bound a set has no index
-pub past : (set : List Bool) (bound l : ℕ) → length set ≡ bound → bound ≤ l → has set l ≡ false
-past set bound l e le = get_or_past set l false (omega arith)
-
-pub none_of_three : (x y z : Bool) → x ≡ false → y ≡ false → z ≡ false → IsTrue (not (x || (y || z)))
-none_of_three true y z e f g = cc
-none_of_three false true z e f g = cc
-none_of_three false false true e f g = cc
-none_of_three false false false e f g = refl
+use Rattle.strip_marks.proofs.Idle.{IsIdle, none_of_three, past, unmarked_meets_none}
 
 left_of : (x y : Bool) → (x && y) ≡ true → x ≡ true
 left_of x y h = (and_parts x y h).0
@@ -43,6 +32,9 @@ left_of x y h = (and_parts x y h).0
 and_yes : (x y : Bool) → y ≡ true → (x && y) ≡ x
 and_yes true y e = e
 and_yes false y e = refl
+
+unmarked_bit : (word b : ℕ) → word ≡ 0 → has_bit word b ≡ false
+unmarked_bit word b e = ap (λ x. has_bit x b) e ∙ has_bit-zero b
 
 -- beside its window the move is possible at no point of the ray, and so sure of none
 pub not_possible_beside : (r : RayOf) (lo hi l : ℕ) → IsWindow r lo hi → l < points_of r.grid r.ray.family → (l < lo) ⊎ (hi ≤ l)
@@ -66,41 +58,41 @@ beside lo hi l out =
     ⊎_elim (λ (low : l < lo). ap (λ x. x && ltb l hi) (lt-leb lo l low))
     (λ (high : hi ≤ l). ap (λ x. leb lo l && x) (le-ltb l hi high) ∙ and_right (leb lo l) false refl) out
 
--- the wanted bits are indices of the window, and so points of the ray
-abbrev pub AreAsked : ℕ → ℕ → ℕ → ℕ → ℕ → Type 0
-AreAsked n lo hi all wanted = (b : ℕ) → b < 64 → has_bit wanted b ≡ (has_bit all b && in_range (64 * n + b) (lo, hi))
+pub in_range_below : (lo hi l : ℕ) → in_range l (lo, hi) ≡ true → l < hi
+in_range_below lo hi l t = ltb-true l hi (and_parts (leb lo l) (ltb l hi) t).1
 
-wanted_inside : (n lo hi all wanted b : ℕ) → AreAsked n lo hi all wanted → b < 64 → has_bit wanted b ≡ true → 64 * n + b < hi
-wanted_inside n lo hi all wanted b is lt t =
-    let both = and_parts (has_bit all b) (in_range (64 * n + b) (lo, hi)) (sym (is b lt) ∙ t) in
-    let within = and_parts (leb lo (64 * n + b)) (ltb (64 * n + b) hi) both.1 in
-    ltb-true (64 * n + b) hi within.1
+-- an index of the window that isn't wanted, and any index beside it
+pub idle_at : (r : RayOf) (d : Sets) (lo hi l : ℕ) → AreSetsOf r d → IsWindow r lo hi
+    → (in_range l (lo, hi) ≡ true → is_wanted_at d l ≡ false) → l < length d.stock → IsIdle d (is_sure_at r) (is_possible_at r) l
+idle_at r d lo hi l h w none lt =
+    let point : l < points_of r.grid r.ray.family = omega (arith, h.bound.stock) in
+    inside_or lo hi l (IsIdle d (is_sure_at r) (is_possible_at r) l)
+    (λ ge less. inl (none (inside lo hi l ge less)))
+    (λ out. inr (not_sure_beside r lo hi l w point out, not_possible_beside r lo hi l w point out))
 
-pub wanted_on_ray : (r : RayOf) (n lo hi all wanted : ℕ) → IsWindow r lo hi → AreAsked n lo hi all wanted → AreOnRay r (64 * n) wanted
-wanted_on_ray r n lo hi all wanted w is b lt t =
-    let below = wanted_inside n lo hi all wanted b is lt t in
-    omega (arith, w.within)
+-- the bits are the wanted indices of the window
+abbrev pub AreAsked : Sets → ℕ → ℕ → ℕ → ℕ → Type 0
+AreAsked d n lo hi wanted = (b : ℕ) → b < 64 → has_bit wanted b ≡ (is_wanted_at d (64 * n + b) && in_range (64 * n + b) (lo, hi))
 
--- a point of which the move is neither sure nor possible meets none of the rules
-pub unmarked_meets_none : (a b c S P s p rapid : Bool) → s ≡ false → p ≡ false → met (point a b c S P s p rapid) ≡ none_met
-unmarked_meets_none a b c S P s p rapid es ep =
-    ap₂ (λ x y. met (point a b c S P x y rapid)) es ep
-    ∙ (λ i. record {
-      removed = and_right a false refl i;
-      possible = and_right a false refl i;
-      part_sure = and_right b false refl i;
-      part_possible = and_right b false refl i;
-      fix_sure = and_right c false refl i;
-      fix_possible = and_right c false refl i;
-      rapid_sure = and_right rapid (a && false) (and_right a false refl) i;
-      rapid_possible = and_right rapid (a && false) (and_right a false refl) i;
-    })
+-- where there is no bit, none is wanted
+pub none_wanted : (d : Sets) (n lo hi wanted : ℕ) → AreAsked d n lo hi wanted → wanted ≡ 0 → (l : ℕ) → 64 * n ≤ l → l < 64 * (n + 1)
+    → in_range l (lo, hi) ≡ true → is_wanted_at d l ≡ false
+none_wanted d n lo hi wanted is zero l ge lt t =
+    let e : 64 * n + (l - 64 * n) ≡ l = omega arith in
+    sym (and_yes (is_wanted_at d l) (in_range l (lo, hi)) t)
+    ∙ ap (λ k. is_wanted_at d k && in_range k (lo, hi)) (sym e)
+    ∙ sym (is (l - 64 * n) (omega arith))
+    ∙ unmarked_bit wanted (l - 64 * n) zero
+
+-- the bits are points of the ray
+pub wanted_on_ray : (r : RayOf) (d : Sets) (n lo hi wanted : ℕ) → IsWindow r lo hi → AreAsked d n lo hi wanted
+    → AreOnRay r (64 * n) wanted
+wanted_on_ray r d n lo hi wanted w is b lt t =
+    let both = and_parts (is_wanted_at d (64 * n + b)) (in_range (64 * n + b) (lo, hi)) (sym (is b lt) ∙ t) in
+    omega (arith, in_range_below lo hi (64 * n + b) both.1, w.within)
 
 -- where no bit is marked nothing is new, and nothing is found
-unmarked_bit : (word b : ℕ) → word ≡ 0 → has_bit word b ≡ false
-unmarked_bit word b e = ap (λ x. has_bit x b) e ∙ has_bit-zero b
-
-pub nothing : (word b : ℕ) (mark : Bool) → word ≡ 0 → has_bit 0 b ≡ (has_bit word b && mark)
+nothing : (word b : ℕ) (mark : Bool) → word ≡ 0 → has_bit 0 b ≡ (has_bit word b && mark)
 nothing word b mark e = has_bit-zero b ∙ sym (ap (λ x. x && mark) (unmarked_bit word b e))
 
 pub no_delta : (w : WordSets) (sure possible : ℕ) → sure ≡ 0 → possible ≡ 0 → IsWordDelta w sure possible record { sure = 0; possible = 0 }
@@ -116,6 +108,16 @@ no_found w sure possible rapid counts s p e =
     ∙ sym (found_none (seen_bit w sure possible rapid) 0 64
     (λ b ge lt. unmarked_meets_none (has_bit w.stock b) (has_bit w.part b) (has_bit w.fixture b) (has_bit w.sure b) (has_bit w.possible b)
     (has_bit sure b) (has_bit possible b) rapid (unmarked_bit sure b s) (unmarked_bit possible b p)))
+
+-- what a move that is sure and possible by these tests changes in word n of a ray with these sets, and what it finds there
+pub record IsWordMarked (d : Sets) (sure possible : ℕ → Bool) (rapid : Bool) (n : ℕ) (delta : WordDelta) (counts : Counts) : Type 0 where
+  pub new_sure : (b : ℕ) → b < 64 → 64 * n + b < length d.stock
+      → has_bit delta.sure b ≡ (sure (64 * n + b) && not (has d.sure (64 * n + b)))
+  pub new_possible : (b : ℕ) → b < 64 → 64 * n + b < length d.stock
+      → has_bit delta.possible b ≡ (possible (64 * n + b) && not (has d.possible (64 * n + b)))
+  pub sure_below : IsBelow (length d.stock) n delta.sure
+  pub possible_below : IsBelow (length d.stock) n delta.possible
+  pub found : counts ≡ findings (seen_on d sure possible rapid) (range_with_len (64 * n) 64)
 
 module _ (r : RayOf) (d : Sets) (n lo hi : ℕ) (w : WordSets) (h : AreSetsOf r d) (window : IsWindow r lo hi) (at : IsWordAt d n w) where
   ordered : SureIsPossible w
@@ -143,16 +145,19 @@ module _ (r : RayOf) (d : Sets) (n lo hi : ℕ) (w : WordSets) (h : AreSetsOf r 
     rapid = rapid;
   }
 
-  module _ (all wanted only sure possible : ℕ) (rapid : Bool)
-      (is_all : (b : ℕ) → b < 64 → has_bit all b ≡ is_wanted (seen_bit w 0 0 false b))
-      (is_asked : AreAsked n lo hi all wanted)
+  -- whether a point is wanted, by the word and by the sets
+  same_wanted : (b : ℕ) → b < 64 → is_wanted_at d (64 * n + b) ≡ is_wanted (seen_bit w 0 0 false b)
+  same_wanted b lt = sym (λ i. at.part b lt i || (at.fixture b lt i || not (at.sure b lt i)))
+
+  module _ (wanted only sure possible : ℕ) (rapid : Bool) (is_asked : AreAsked d n lo hi wanted)
       (is_only : (b : ℕ) → b < 64 → has_bit only b ≡ is_sure_only (seen_bit w 0 0 rapid b))
       (is_sure : (b : ℕ) → b < 64 → has_bit sure b ≡ is_sure_bit r (64 * n) wanted b)
       (is_told : (b : ℕ) → b < 64 → has_bit possible b ≡ is_told_bit r (64 * n) wanted only b) where
     -- a bit beside the window isn't wanted
     unasked : (b : ℕ) → b < 64 → (64 * n + b < lo) ⊎ (hi ≤ 64 * n + b) → has_bit wanted b ≡ false
     unasked b lt out =
-        is_asked b lt ∙ ap (λ x. has_bit all b && x) (beside lo hi (64 * n + b) out) ∙ and_right (has_bit all b) false refl
+        is_asked b lt ∙ ap (λ x. is_wanted_at d (64 * n + b) && x) (beside lo hi (64 * n + b) out)
+        ∙ and_right (is_wanted_at d (64 * n + b)) false refl
 
     -- at each point of the ray the marks agree with all marks: beside the window there are none
     agree : (b : ℕ) → b < 64 → 64 * n + b < length d.stock
@@ -165,7 +170,7 @@ module _ (r : RayOf) (d : Sets) (n lo hi : ℕ) (w : WordSets) (h : AreSetsOf r 
         (Agree (seen_by w (λ k. is_sure_at r (64 * n + k)) (λ k. is_possible_at r (64 * n + k)) rapid b) (has_bit sure b)
         (has_bit possible b))
         (λ ge less. asked_word w wanted only sure possible (λ k. is_sure_at r (64 * n + k)) (λ k. is_possible_at r (64 * n + k)) rapid b
-        (is_asked b lt ∙ and_yes (has_bit all b) (in_range l (lo, hi)) (inside lo hi l ge less) ∙ is_all b lt)
+        (is_asked b lt ∙ and_yes (is_wanted_at d l) (in_range l (lo, hi)) (inside lo hi l ge less) ∙ same_wanted b lt)
         (is_only b lt) (is_sure b lt) (is_told b lt))
         (λ out. record {
           same_sure = λ t.
@@ -196,7 +201,7 @@ module _ (r : RayOf) (d : Sets) (n lo hi : ℕ) (w : WordSets) (h : AreSetsOf r 
         ∙ same_seen (is_sure_at r) (is_possible_at r) rapid b lt))
 
     on_ray : (b : ℕ) → b < 64 → has_bit wanted b ≡ true → 64 * n + b < length d.stock
-    on_ray b lt t = omega (arith, wanted_on_ray r n lo hi all wanted window is_asked b lt t, h.bound.stock)
+    on_ray b lt t = omega (arith, wanted_on_ray r d n lo hi wanted window is_asked b lt t, h.bound.stock)
 
     pub word_marked : (delta : WordDelta) (counts : Counts) → IsWordDelta w sure possible delta
         → counts ≡ findings (seen_bit w sure possible rapid) (range_with_len 0 64)

@@ -14,7 +14,8 @@ use Rattle.dexel_rays.specs.declared.word_sets.WordDelta.{WordDelta}
 use Rattle.ray_words.specs.Rays.{IsKept, KeptSets}
 use Rattle.strip_marks.specs.declared.change.WordChange.{WordChange}
 use Rattle.strip_marks.specs.Marks.{AreInOrder, among, is_ahead}
-use Rattle.strip_marks.specs.RayMarks.{HaveWordsBelow, IsAtKept, IsChangeIn, noted}
+use Rattle.strip_marks.specs.RayMarks.{HaveWordsBelow, IsAtKept, IsChangeIn}
+use Rattle.strip_marks.specs.Words.{noted}
 
 pub or_false : (a : Bool) → (a || false) ≡ a
 or_false true = refl
@@ -66,12 +67,6 @@ all_noted P n k delta p =
     (λ (e : is_same delta ≡ false). subst (λ (t : Bool). All P (if t then [] else change_at n k delta ∷ [])) (sym e)
     (All-cons P (change_at n k delta) [] p (All-nil P)))
     (cases_Bool (is_same delta))
-
-pub noted_elsewhere : (pick : WordChange → ℕ) (n k : ℕ) (delta : WordDelta) (l : ℕ) → l / 64 ≢ k → among pick (noted n k delta) n l ≡ false
-noted_elsewhere pick n k delta l ne =
-    among_none pick (noted n k delta) n l
-    (all_noted (λ change. (eqb change.ray n && in_word change.word (pick change) l) ≡ false) n k delta
-    (other_word pick (change_at n k delta) n l ne))
 
 -- which change stands before which
 pub ahead_by_word : (a b : WordChange) → a.ray ≡ b.ray → a.word < b.word → IsTrue (is_ahead a b)

@@ -1,69 +1,76 @@
 -- What a move of a plan changes on one ray of a strip.
-use Rattle.std.proofs.Common.{◌≡◌, ℕ, ◌+◌, ◌^◌, ◌<◌, ◌≤◌, Bool, false, List, [], length, set, arith, sym, subst}
-use Rattle.std.proofs.lemmas.List.{append-nil}
+use Rattle.std.proofs.Common.{◌≡◌, ℕ, ◌+◌, ◌^◌, ◌<◌, ◌≤◌, Bool, List, length, set, arith, refl, sym, subst}
+use Rattle.vf_spans.specs.Words.{words_below}
 use Rattle.job_facts.specs.declared.counts.Counts.{Counts}
-use Rattle.job_facts.specs.Counts.{no_counts, plus}
+use Rattle.job_facts.specs.Counts.{AreWithin}
 use Rattle.ray_words.specs.Rays.{KeptSets}
 use Rattle.wanted_marks.specs.Rays.{RayOf, is_possible_at, is_sure_at}
-use Rattle.job_model.specs.Tasks.{IsPlan, JobMove, PlanOf}
-use Rattle.strip_plan.specs.Plans.{HasNumber}
-use Rattle.strip_marks.specs.declared.change.WordChange.{WordChange}
+use Rattle.job_model.specs.Tasks.{JobMove, PlanOf}
+use Rattle.strip_marks.specs.declared.marked.Marked.{Marked}
 use Rattle.strip_marks.specs.Marks.{AreRays, HaveSameSets, kept_of, possible_there, sure_there}
-use Rattle.strip_marks.specs.RayMarks.{Adds, HasSameSets, IsRayMarked, IsWindow}
+use Rattle.strip_marks.specs.RayMarks.{Adds, HasNoneAhead, HasSameSets, IsRayMarked, IsWindow}
 use Rattle.strip_marks.specs.RowMarks.{AreRaysMarked, AreSetsAt}
 use Rattle.strip_marks.specs.Words.{AreSetsOf}
-use Rattle.strip_marks.proofs.MoreRays.{rays_more}
-use Rattle.strip_marks.proofs.OnStrips.{move_on, not_sure_there, nowhere_on}
-use Rattle.strip_marks.proofs.WholeRays.{no_ray}
+use Rattle.strip_marks.proofs.AtWords.{idle_at, in_range_below}
+use Rattle.strip_marks.proofs.Counting.{within_both}
+use Rattle.strip_marks.proofs.Growing.{adds_none}
+use Rattle.strip_marks.proofs.Idle.{idle_ray}
+use Rattle.strip_marks.proofs.MoreRays.{ray_within, rays_more}
+use Rattle.strip_marks.proofs.OnStrips.{move_on}
 
 -- the sets are those of the ray that is marked
 pub sets_for : (plan : PlanOf) (move : JobMove) (strip n : ℕ) (r : RayOf) (ray : KeptSets) → r ≡ move_on plan move strip n
     → AreSetsAt plan.grid strip n ray.sets → AreSetsOf r ray.sets
 sets_for plan move strip n r ray e h = subst (λ (x : RayOf). AreSetsOf x ray.sets) (sym e) (record { bound = h.bound; ordered = h.ordered })
 
--- on a ray with an empty window the move changes nothing
-pub untouched : (plan : PlanOf) (number : ℕ) (move : JobMove) (strip n lo hi : ℕ) (ray : KeptSets) (changes : List WordChange)
-    (counts : Counts) → IsPlan plan → HasNumber plan number move
-    → AreSetsAt plan.grid strip n ray.sets → IsWindow (move_on plan move strip n) lo hi → hi ≤ lo → length ray.sets.stock < 2 ^ 32
-    → counts ≡ no_counts
-    → Adds changes changes (λ added. IsRayMarked ray (sure_there plan move strip n)
-    (possible_there plan move strip n) move.rapid n added counts)
-untouched plan number move strip n lo hi ray changes counts valid has h w le few e =
-    let none : (l : ℕ) → l < length ray.sets.stock → possible_there plan move strip n l ≡ false =
-    λ l lt. nowhere_on plan number move strip n lo hi l w le (omega (arith, h.bound.stock)) in
-    record {
-      added = [];
-      joined = sym (append-nil changes);
-      holds = subst (λ (c : Counts). IsRayMarked ray (sure_there plan move strip n) (possible_there plan move strip n) move.rapid n [] c)
-          (sym e)
-          (no_ray ray (sure_there plan move strip n) (possible_there plan move strip n) move.rapid n few
-          (λ l lt. not_sure_there plan number move strip n l valid has (none l lt)) none);
-    }
+-- on a ray with no wanted point in its window the move changes nothing
+pub untouched : (plan : PlanOf) (move : JobMove) (strip n lo hi first : ℕ) (ray : KeptSets) (marked : Marked)
+    → AreSetsAt plan.grid strip n ray.sets → IsWindow (move_on plan move strip n) lo hi → HasNoneAhead ray.sets (lo, hi) first
+    → words_below hi ≤ first → length ray.sets.stock < 2 ^ 32
+    → Adds marked marked (λ added found. IsRayMarked ray (sure_there plan move strip n)
+    (possible_there plan move strip n) move.rapid n added found)
+untouched plan move strip n lo hi first ray marked h w ahead le few =
+    let sets = sets_for plan move strip n (move_on plan move strip n) ray refl h in
+    adds_none marked
+    (λ added found. IsRayMarked ray (sure_there plan move strip n) (possible_there plan move strip n) move.rapid n added found)
+    (idle_ray ray (sure_there plan move strip n) (possible_there plan move strip n) move.rapid n h.ordered few
+    (λ l lt. idle_at (move_on plan move strip n) ray.sets lo hi l sets w
+    (λ t. ahead.none l (omega (arith, in_range_below lo hi l t)) t) lt))
 
 -- what is marked by the move ready for the ray is what the move marks there
-pub marked_by : (plan : PlanOf) (move : JobMove) (strip n : ℕ) (r : RayOf) (rapid : Bool) (ray : KeptSets)
-    (before after : List WordChange) (counts : Counts)
-    → r ≡ move_on plan move strip n → rapid ≡ move.rapid → Adds before after
-    (λ added. IsRayMarked ray (is_sure_at r) (is_possible_at r) rapid n added counts)
-    → Adds before after (λ added. IsRayMarked ray (sure_there plan move strip n)
-    (possible_there plan move strip n) move.rapid n added counts)
-marked_by plan move strip n r rapid ray before after counts e f h = record {
+pub marked_by : (plan : PlanOf) (move : JobMove) (strip n : ℕ) (r : RayOf) (rapid : Bool) (ray : KeptSets) (before after : Marked)
+    → r ≡ move_on plan move strip n → rapid ≡ move.rapid
+    → Adds before after (λ added found. IsRayMarked ray (is_sure_at r) (is_possible_at r) rapid n added found)
+    → Adds before after (λ added found. IsRayMarked ray (sure_there plan move strip n)
+    (possible_there plan move strip n) move.rapid n added found)
+marked_by plan move strip n r rapid ray before after e f h = record {
   added = h.added;
+  found = h.found;
   joined = h.joined;
+  summed = h.summed;
   holds =
-      subst (λ (b : Bool). IsRayMarked ray (sure_there plan move strip n) (possible_there plan move strip n) b n h.added counts) f
-      (subst (λ (x : RayOf). IsRayMarked ray (is_sure_at x) (is_possible_at x) rapid n h.added counts) e h.holds);
+      subst (λ (b : Bool). IsRayMarked ray (sure_there plan move strip n) (possible_there plan move strip n) b n h.added h.found) f
+      (subst (λ (x : RayOf). IsRayMarked ray (is_sure_at x) (is_possible_at x) rapid n h.added h.found) e h.holds);
 }
 
 -- with the next ray marked, one ray more is
-pub rays_step : (plan : PlanOf) (move : JobMove) (strip lo n : ℕ) (before mid : List KeptSets) (ray : KeptSets)
-    (changes after : List WordChange) (counts found total : Counts)
+pub rays_step : (plan : PlanOf) (move : JobMove) (strip lo n : ℕ) (before mid : List KeptSets) (ray : KeptSets) (between after : Marked)
     → AreRays plan.grid strip before → HaveSameSets before mid → HasSameSets (kept_of mid n) ray → lo ≤ n → n < length before
-    → total ≡ plus counts found
-    → AreRaysMarked plan move strip before mid lo n changes counts
-    → Adds changes after (λ added. IsRayMarked ray (sure_there plan move strip n)
+    → AreRaysMarked plan move strip before mid lo n between.changes.items between.counts
+    → Adds between after (λ added found. IsRayMarked ray (sure_there plan move strip n)
     (possible_there plan move strip n) move.rapid n added found)
-    → AreRaysMarked plan move strip before (set mid n ray) lo (n + 1) after total
-rays_step plan move strip lo n before mid ray changes after counts found total rays same own from within is_total h next =
-    rays_more plan move strip lo n before mid ray changes next.added counts found rays same own from within h next.holds total after
-    is_total next.joined
+    → AreRaysMarked plan move strip before (set mid n ray) lo (n + 1) after.changes.items after.counts
+rays_step plan move strip lo n before mid ray between after rays same own from within h next =
+    rays_more plan move strip lo n before mid ray between.changes.items next.added between.counts next.found rays same own from within h
+    next.holds after.counts after.changes.items next.summed next.joined
+
+-- and the counts are within so much more
+pub within_next : (plan : PlanOf) (move : JobMove) (strip n span : ℕ) (ray : KeptSets) (between after : Marked)
+    → AreWithin span between.counts
+    → Adds between after (λ added found. IsRayMarked ray (sure_there plan move strip n)
+    (possible_there plan move strip n) move.rapid n added found)
+    → AreWithin (span + 4294967295) after.counts
+within_next plan move strip n span ray between after within next =
+    subst (λ (c : Counts). AreWithin (span + 4294967295) c) (sym next.summed)
+    (within_both span 4294967295 between.counts next.found within
+    (ray_within ray (sure_there plan move strip n) (possible_there plan move strip n) move.rapid n next.added next.found next.holds))

@@ -1,51 +1,21 @@
 -- What a move changes on a ray: its words in the window are enough.
-use Rattle.std.proofs.Common.{◌≡◌, ℕ, ◌+◌, ◌-◌, ◌*◌, ◌^◌, ◌<◌, ◌≤◌, Bool, false, not, ◌&&◌, List, [], length, arith, refl, sym, ap, ◌∙◌, subst, ◌⊎◌, inl, inr, ⊎_elim}
+use Rattle.std.proofs.Common.{◌≡◌, ℕ, ◌+◌, ◌-◌, ◌*◌, ◌^◌, ◌<◌, ◌≤◌, Bool, false, not, ◌&&◌, List, length, arith, sym, ap, ◌∙◌, subst, ◌⊎◌, inl, inr, ⊎_elim}
 use Rattle.std.specs.List.{All, range_with_len}
 use Rattle.std.proofs.lemmas.Bool.{cases_lt}
-use Rattle.std.proofs.lemmas.List.Elements.{All-nil}
 use Rattle.vf_spans.specs.Members.{has}
 use Rattle.job_facts.specs.declared.counts.Counts.{Counts}
-use Rattle.job_facts.specs.Counts.{no_counts}
 use Rattle.dexel_rays.specs.Findings.{findings, met, none_met}
-use Rattle.dexel_rays.specs.Sets.{HaveBound, Sets}
-use Rattle.dexel_rays.proofs.Laws.{outside_meets_none}
+use Rattle.dexel_rays.specs.Sets.{HaveBound}
 use Rattle.ray_words.specs.Rays.{KeptSets}
 use Rattle.wanted_marks.specs.Rays.{RayOf, is_possible_at, is_sure_at}
 use Rattle.strip_marks.specs.declared.change.WordChange.{WordChange}
 use Rattle.strip_marks.specs.Marks.{among, possible_of, seen_on, sure_of}
-use Rattle.strip_marks.specs.RayMarks.{AreWordsMarked, IsAtKept, IsChangeOf, IsRayMarked, IsWindow}
+use Rattle.strip_marks.specs.RayMarks.{AreWordsMarked, IsAtKept, IsRayMarked, IsWindow}
 use Rattle.strip_marks.specs.Words.{AreSetsOf}
-use Rattle.strip_marks.proofs.AtWords.{none_of_three, not_possible_beside, not_sure_beside, past, unmarked_meets_none}
-use Rattle.strip_marks.proofs.Counting.{found_none, found_window, inside_or}
+use Rattle.strip_marks.proofs.AtWords.{not_possible_beside, not_sure_beside}
+use Rattle.strip_marks.proofs.Counting.{found_window, inside_or}
 use Rattle.strip_marks.proofs.Growing.{beside}
-use Rattle.strip_marks.proofs.Lists.{order_few}
-
--- a point beyond the ray's end meets none of the rules
-past_meets_none : (d : Sets) (sure possible : ℕ → Bool) (rapid : Bool) (l : ℕ) → HaveBound (length d.stock) d → length d.stock ≤ l
-    → met (seen_on d sure possible rapid l) ≡ none_met
-past_meets_none d sure possible rapid l h le =
-    outside_meets_none (has d.stock l) (has d.part l) (has d.fixture l) (has d.sure l) (has d.possible l) (sure l) (possible l) rapid
-    (none_of_three (has d.stock l) (has d.part l) (has d.fixture l) (past d.stock (length d.stock) l refl le)
-    (past d.part (length d.stock) l h.part le) (past d.fixture (length d.stock) l h.fixture le))
-
--- a ray of whose points the move is possible at none
-pub no_ray : (after : KeptSets) (sure possible : ℕ → Bool) (rapid : Bool) (n : ℕ) → length after.sets.stock < 2 ^ 32
-    → ((l : ℕ) → l < length after.sets.stock → sure l ≡ false) → ((l : ℕ) → l < length after.sets.stock → possible l ≡ false)
-    → IsRayMarked after sure possible rapid n [] no_counts
-no_ray after sure possible rapid n few no_sure no_possible =
-    let d = after.sets in
-    record {
-      new_sure = λ l lt. sym (ap (λ t. t && not (has d.sure l)) (no_sure l lt));
-      new_possible = λ l lt. sym (ap (λ t. t && not (has d.possible l)) (no_possible l lt));
-      each = All-nil (IsChangeOf after n);
-      order = order_few [] (omega arith);
-      found =
-          sym (found_none (seen_on d sure possible rapid) 0 (length d.stock)
-          (λ l ge lt. unmarked_meets_none (has d.stock l) (has d.part l) (has d.fixture l) (has d.sure l) (has d.possible l) (sure l)
-          (possible l) rapid
-          (no_sure l (omega arith)) (no_possible l (omega arith))));
-      few = few;
-    }
+use Rattle.strip_marks.proofs.Idle.{past_meets_none, unmarked_meets_none}
 
 module _ (r : RayOf) (after : KeptSets) (rapid : Bool) (n first end lo hi : ℕ) (changes : List WordChange) (counts : Counts)
     (h : AreSetsOf r after.sets) (w : IsWindow r first end) (from : 64 * lo ≤ first) (to : end ≤ 64 * hi) (order : lo ≤ hi)

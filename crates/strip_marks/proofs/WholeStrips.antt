@@ -14,7 +14,7 @@ use Rattle.strip_marks.specs.RowMarks.{AreRaysMarked}
 use Rattle.strip_marks.proofs.Counting.{found_none, inside_or, sum_window}
 use Rattle.strip_marks.proofs.Lists.{among_none, other_ray}
 use Rattle.strip_marks.proofs.OnStrips.{not_sure_there, nowhere_beyond}
-use Rattle.strip_marks.proofs.AtWords.{unmarked_meets_none}
+use Rattle.strip_marks.proofs.Idle.{unmarked_meets_none}
 
 module _ (plan : PlanOf) (number : ℕ) (move : JobMove) (strip lo hi : ℕ) (before after : List KeptSets) (changes : List WordChange)
     (counts : Counts)

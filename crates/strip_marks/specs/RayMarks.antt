@@ -1,28 +1,37 @@
 -- What a move changes on a ray, and what it finds there.
-use Rattle.std.specs.Prelude.{◌≡◌, ℕ, ◌-◌, ◌*◌, ◌<◌, ◌≤◌, ◌^◌, ◌==◌, true, Bool, not, ◌&&◌, if◌then◌else◌, List, [], ◌∷◌, ◌++◌, length, slice_index_or, All}
+use Rattle.std.specs.Prelude.{◌≡◌, ℕ, ◌-◌, ◌*◌, ◌/◌, ◌<◌, ◌≤◌, ◌^◌, true, false, Bool, not, ◌&&◌, List, ◌++◌, length, slice_index_or, All}
 use Rattle.std.specs.List.{range_with_len}
-use Rattle.vf_spans.specs.Members.{has}
+use Rattle.vf_spans.specs.Members.{has, in_range}
+use Rattle.vf_spans.specs.Words.{words_below}
 use Rattle.ray_grid.specs.Lattice.{points_of}
 use Rattle.job_facts.specs.declared.counts.Counts.{Counts}
-use Rattle.dexel_rays.specs.declared.word_sets.WordDelta.{WordDelta}
+use Rattle.job_facts.specs.Counts.{AreWithin, most_count, plus}
 use Rattle.dexel_rays.specs.Findings.{findings}
 use Rattle.dexel_rays.specs.Sets.{Sets}
-use Rattle.ray_words.specs.Rays.{IsBelow, IsKept, KeptSets}
+use Rattle.ray_words.specs.Rays.{IsBelow, IsKept, KeptSets, is_wanted_at}
 use Rattle.wanted_marks.specs.Rays.{RayOf, is_possible_at, is_sure_at}
 use Rattle.strip_plan.specs.Windows.{IsFrom}
 use Rattle.strip_marks.specs.declared.change.WordChange.{WordChange}
+use Rattle.strip_marks.specs.declared.marked.Marked.{Marked}
 use Rattle.strip_marks.specs.Marks.{AreInOrder, among, possible_of, seen_on, sure_of}
 
--- the list goes on with further changes, of which a fact holds
-pub record Adds (before after : List WordChange) (fact : List WordChange → Type 0) : Type 0 where
+-- the changes go on with further ones and the counts with what was found, of which a fact holds
+pub record Adds (before after : Marked) (fact : List WordChange → Counts → Type 0) : Type 0 where
   pub added : List WordChange
-  pub joined : after ≡ before ++ added
-  pub holds : fact added
+  pub found : Counts
+  pub joined : after.changes.items ≡ before.changes.items ++ added
+  pub summed : after.counts ≡ plus before.counts found
+  pub holds : fact added found
 
--- what is noted of word k of ray n: a change, if anything changes
-abbrev pub noted : ℕ → ℕ → WordDelta → List WordChange
-noted n k delta =
-    if delta.sure == 0 && delta.possible == 0 then [] else record { ray = n; word = k; sure = delta.sure; possible = delta.possible } ∷ []
+-- no count wraps where so many points more are counted
+abbrev pub CanCount : ℕ → Counts → Type 0
+CanCount points counts = AreWithin (most_count - points) counts
+
+-- a word from the first one on that a window enters, up to the one behind its last; ahead of it no index of the window is wanted
+pub record HasNoneAhead (d : Sets) (window : ℕ × ℕ) (word : ℕ) : Type 0 where
+  pub from : window.0 / 64 ≤ word
+  pub to : word ≤ words_below window.1
+  pub none : (l : ℕ) → l < 64 * word → in_range l window ≡ true → is_wanted_at d l ≡ false
 
 -- a change of ray n, which has so many points, at one of the words from the one on and below the other; it has only points of the ray
 pub record IsChangeIn (bound n lo hi : ℕ) (change : WordChange) : Type 0 where

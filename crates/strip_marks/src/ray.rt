@@ -1,62 +1,54 @@
-ghost use Rattle.std.specs.Prelude.{◌≡◌, ◌++◌, ◌/◌, ◌≤◌, ◌<◌, IfOk, OnOk, All, length};
+ghost use Rattle.std.specs.Prelude.{◌≡◌, ◌/◌, ◌^◌, ◌≤◌, OnOk, All, length};
 ghost use Rattle.vf_spans.specs.Words.{words_below};
-ghost use Rattle.ray_words.specs.Rays.{IsKept};
-ghost use Rattle.wanted_marks.specs.Strips.{ray_at};
-ghost use Rattle.strip_marks.specs.Words.{AreSetsOf, HasRay, is_possible_on, is_sure_on};
-ghost use Rattle.strip_marks.specs.RayMarks.{Adds, AreWordsMarked, HasSameSets, HaveWordsBelow, IsRayMarked, IsWindow, IsAtKept, noted};
+ghost use Rattle.wanted_marks.specs.Rays.{is_possible_at, is_sure_at};
+ghost use Rattle.strip_marks.specs.Words.{AreSetsOf};
+ghost use Rattle.strip_marks.specs.RayMarks.{Adds, AreWordsMarked, CanCount, HasNoneAhead, HasSameSets, HaveWordsBelow, IsAtKept, IsRayMarked, IsWindow};
 
 use crate::change::WordChange;
-use crate::word::mark_word;
-use dexel_rays::WordDelta;
-use job_facts::Counts;
+use crate::marked::Marked;
+use crate::word::{mark_word, wanted_in};
 use ray_words::WordRay;
 use vf_io::NoMemory;
-use wanted_marks::StripMarker;
+use wanted_marks::RayMarker;
 
-/// Notes what changes at a word, if anything does.
-fn note(
-    changes: &mut Vec<WordChange>,
-    ray: u32,
-    word: u32,
-    delta: &WordDelta,
-) -> Result<(), NoMemory>
-    ensures { OnOk result (changes.new.items ≡ changes.old.items ++ noted ray word delta.now) }
+/// The first word of a ray with a point in the window that a move has to be asked about; where there is none, the first one that the
+/// window doesn't enter.
+#[inline]
+pub fn first_wanted(ray: &WordRay, window: (u32, u32)) -> u32
+    requires { window.0 ≤ window.1 }
+    ensures { HasNoneAhead ray.now.sets window result }
 {
-    if delta.sure == 0 && delta.possible == 0 {
-        return Ok(());
+    let end = window.1.div_ceil(64);
+    for word in window.0 / 64..end {
+        if wanted_in(ray, word, window) != 0 {
+            return word;
+        }
     }
-    changes.push(WordChange {
-        ray,
-        word,
-        sure: delta.sure,
-        possible: delta.possible,
-    })?;
-    Ok(())
+    end
 }
 
-/// What a move changes on ray n in the words that its window enters, and what it finds there.
-fn mark_words<'x>(
-    marker: &'x StripMarker<'x>,
+/// Takes in what a move changes on ray n from a word on, ahead of which no point of its window is wanted, and what it finds there.
+fn mark_words(
+    marker: &RayMarker<'_>,
     ray: &WordRay,
     n: u32,
+    first: u32,
     window: (u32, u32),
     rapid: bool,
-    changes: &mut Vec<WordChange>,
-) -> Result<Counts, NoMemory>
-    requires n { HasRay marker.now n }
-    requires ray { AreSetsOf (ray_at marker.now n) ray.now.sets }
-    requires window { IsWindow (ray_at marker.now n) window.0 window.1 }
-    ensures { IfOk result (λ counts. Adds changes.old.items changes.new.items (λ added.
-        AreWordsMarked ray.now.sets (is_sure_on marker.now n) (is_possible_on marker.now n) rapid n (window.0 / 64)
-        (words_below window.1) added counts)) }
+    marked: &mut Marked,
+) -> Result<(), NoMemory>
+    requires ray { AreSetsOf marker.now ray.now.sets }
+    requires window { IsWindow marker.now window.0 window.1 }
+    requires first { HasNoneAhead ray.now.sets window first }
+    requires room { CanCount (2 ^ 33) marked.old.counts }
+    ensures { OnOk result (Adds marked.old marked.new (λ added found.
+        AreWordsMarked ray.now.sets (is_sure_at marker.now) (is_possible_at marker.now) rapid n (window.0 / 64) (words_below window.1)
+        added found)) }
 {
-    let mut counts = Counts::none();
-    for word in window.0 / 64..window.1.div_ceil(64) {
-        let (delta, found) = mark_word(marker, ray, n, word, window, rapid);
-        counts = counts.plus(&found);
-        note(changes, n, word, &delta)?;
+    for word in first..window.1.div_ceil(64) {
+        mark_word(marker, ray, n, word, window, rapid, marked)?;
     }
-    Ok(counts)
+    Ok(())
 }
 
 /// Keeps the words of the changes, which are all of this ray, in order.
@@ -74,26 +66,29 @@ fn keep_changed(ray: &mut WordRay, changes: &[WordChange]) -> Result<(), NoMemor
     Ok(())
 }
 
-/// What a move changes on ray n in a window of its points, and what it finds there. Each word that changes is kept from then on.
-pub fn mark_ray<'x>(
-    marker: &'x StripMarker<'x>,
+/// Takes in what a move changes on ray n, and what it finds there, from the first word on with a wanted point of its window. Each
+/// word that changes is kept from then on.
+pub fn mark_ray(
+    marker: &RayMarker<'_>,
     ray: &mut WordRay,
     n: u32,
+    first: u32,
     window: (u32, u32),
     rapid: bool,
-    changes: &mut Vec<WordChange>,
-) -> Result<Counts, NoMemory>
-    requires n { HasRay marker.now n }
-    requires ray { AreSetsOf (ray_at marker.now n) ray.old.sets }
-    requires window { IsWindow (ray_at marker.now n) window.0 window.1 }
+    marked: &mut Marked,
+) -> Result<(), NoMemory>
+    requires ray { AreSetsOf marker.now ray.old.sets }
+    requires window { IsWindow marker.now window.0 window.1 }
+    requires first { HasNoneAhead ray.old.sets window first }
+    requires room { CanCount (2 ^ 33) marked.old.counts }
     ensures same { HasSameSets ray.old ray.new }
-    ensures marked { IfOk result (λ counts. Adds changes.old.items changes.new.items (λ added.
-        IsRayMarked ray.new (is_sure_on marker.now n) (is_possible_on marker.now n) rapid n added counts)) }
+    ensures marked { OnOk result (Adds marked.old marked.new (λ added found.
+        IsRayMarked ray.new (is_sure_at marker.now) (is_possible_at marker.now) rapid n added found)) }
 {
     // The bound fits.
     let _bound = ray.bound();
-    let start = changes.len();
-    let counts = mark_words(marker, ray, n, window, rapid, changes)?;
-    keep_changed(ray, &changes.as_slice()[start..])?;
-    Ok(counts)
+    let start = marked.changes.len();
+    mark_words(marker, ray, n, first, window, rapid, marked)?;
+    keep_changed(ray, &marked.changes.as_slice()[start..])?;
+    Ok(())
 }

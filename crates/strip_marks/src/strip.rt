@@ -1,15 +1,13 @@
-ghost use Rattle.std.specs.Prelude.{◌≡◌, ◌<◌, ◌≤◌, ◌-◌, ◌^◌, IfOk, length};
+ghost use Rattle.std.specs.Prelude.{◌≡◌, ◌<◌, ◌≤◌, ◌^◌, IfOk, OnOk, length};
 ghost use Rattle.ray_grid.specs.Strips.{strip_at, strips_of};
-ghost use Rattle.job_facts.specs.Counts.{AreWithin};
 ghost use Rattle.job_model.specs.Tasks.{IsPlan, JobMove};
 ghost use Rattle.strip_plan.specs.Plans.{HasNumber};
 ghost use Rattle.strip_marks.specs.Marks.{AreRays, HaveSameSets, IsMarkedStrip, possible_there, sure_there};
-ghost use Rattle.strip_marks.specs.RayMarks.{Adds, HasSameSets, IsRayMarked};
+ghost use Rattle.strip_marks.specs.RayMarks.{Adds, CanCount, HasSameSets, IsRayMarked};
 ghost use Rattle.strip_marks.specs.RowMarks.{AreRaysMarked, AreSetsAt, IsMarkerOf};
 
-use crate::change::WordChange;
 use crate::marked::Marked;
-use crate::ray::mark_ray;
+use crate::ray::{first_wanted, mark_ray};
 use job_facts::Counts;
 use ray_words::WordRay;
 use std::alloc::Global;
@@ -17,7 +15,8 @@ use strip_plan::Plan;
 use vf_io::NoMemory;
 use wanted_marks::StripMarker;
 
-/// What the move changes on ray n of the strip, and what it finds there.
+/// Takes in what the move changes on ray n of the strip, and what it finds there. A ray with no wanted point in its window isn't made
+/// ready for marks.
 fn mark_at<'x>(
     marker: &'x StripMarker<'x>,
     ray: &mut WordRay,
@@ -25,34 +24,44 @@ fn mark_at<'x>(
     number: u32,
     strip: u32,
     n: u32,
-    changes: &mut Vec<WordChange>,
-) -> Result<Counts, NoMemory>
+    marked: &mut Marked,
+) -> Result<(), NoMemory>
     requires plan { IsPlan plan.now }
     requires number { number < length plan.now.moves }
     requires strip { strip < length (strips_of plan.now.grid) }
     requires n { n < length (strip_at plan.now.grid strip) }
     requires ray { AreSetsAt plan.now.grid strip n ray.old.sets }
     requires marker { IsMarkerOf plan.now number strip marker.now }
+    requires room { CanCount (2 ^ 33) marked.old.counts }
     ensures same { HasSameSets ray.old ray.new }
-    ensures few { IfOk result (AreWithin (2 ^ 32 - 1)) }
-    ensures marked { IfOk result (λ counts. (move : JobMove) → HasNumber plan.now number move
-        → Adds changes.old.items changes.new.items (λ added.
-        IsRayMarked ray.new (sure_there plan.now move strip n) (possible_there plan.now move strip n) move.rapid n added counts)) }
+    ensures marked { OnOk result ((move : JobMove) → HasNumber plan.now number move → Adds marked.old marked.new (λ added found.
+        IsRayMarked ray.new (sure_there plan.now move strip n) (possible_there plan.now move strip n) move.rapid n added found)) }
 {
     // The bound fits.
     let _bound = ray.bound();
     let window = plan.ray_window(number, &plan.grid().strip_ray(strip, n));
-    if window.0 >= window.1 {
-        return Ok(Counts::none());
+    let first = first_wanted(ray, window);
+    if window.1.div_ceil(64) <= first {
+        return Ok(());
     }
-    let counts = mark_ray(marker, ray, n, window, plan.is_rapid(number), changes)?;
-    Ok(counts)
+    let on_ray = marker.on_ray(n);
+    mark_ray(
+        &on_ray,
+        ray,
+        n,
+        first,
+        window,
+        plan.is_rapid(number),
+        marked,
+    )?;
+    Ok(())
 }
 
-/// What the move changes on the rays of the strip from the one number on and below the other, and what it finds there.
-fn mark_rays<'x>(
+/// What the move changes on the rays of the strip from the one number on and below the other, and what it finds there. A move
+/// enters few strips, so this stands apart from `mark_strip`.
+#[inline(never)]
+fn mark_rays(
     alloc: Global,
-    marker: &'x StripMarker<'x>,
     rays: &mut [WordRay],
     plan: &Plan,
     number: u32,
@@ -63,28 +72,32 @@ fn mark_rays<'x>(
     requires number { number < length plan.now.moves }
     requires strip { strip < length (strips_of plan.now.grid) }
     requires rays { AreRays plan.now.grid strip rays.old }
-    requires order { window.0 ≤ window.1 }
+    requires some { window.0 < window.1 }
     requires within { window.1 ≤ length rays.old }
-    requires marker { IsMarkerOf plan.now number strip marker.now }
     ensures same { HaveSameSets rays.old rays.new }
     ensures marked { IfOk result (λ m. (move : JobMove) → HasNumber plan.now number move
         → AreRaysMarked plan.now move strip rays.old rays.new window.0 window.1 m.changes.items m.counts) }
 {
-    let mut changes = Vec::new(alloc);
-    let mut counts = Counts::none();
+    let grid = plan.grid();
+    let first = grid.strip_ray(strip, 0);
+    let mover = plan.marker(number);
+    let marker = mover.on_strip(grid, first.family, first.i);
+    let mut marked = Marked {
+        changes: Vec::new(alloc),
+        counts: Counts::none(),
+    };
     for n in window.0..window.1 {
-        let found = mark_at(
-            marker,
+        mark_at(
+            &marker,
             &mut rays[n as usize],
             plan,
             number,
             strip,
             n,
-            &mut changes,
+            &mut marked,
         )?;
-        counts = counts.plus(&found);
     }
-    Ok(Marked { changes, counts })
+    Ok(marked)
 }
 
 /// What a move of the plan changes on a strip, by the sets of the strip's rays, and what it finds there. Only the points of the
@@ -112,10 +125,6 @@ pub fn mark_strip(
             counts: Counts::none(),
         });
     }
-    let grid = plan.grid();
-    let first = grid.strip_ray(strip, 0);
-    let mover = plan.marker(number);
-    let marker = mover.on_strip(grid, first.family, first.i);
-    let marked = mark_rays(alloc, &marker, rays, plan, number, strip, window)?;
+    let marked = mark_rays(alloc, rays, plan, number, strip, window)?;
     Ok(marked)
 }

@@ -1,79 +1,97 @@
-ghost use Rattle.std.specs.Prelude.{◌≡◌, ℕ, ◌*◌, ◌/◌, ◌<◌, ◌≤◌};
-ghost use Rattle.std.specs.List.{range_with_len};
+ghost use Rattle.std.specs.Prelude.{◌≡◌, ℕ, ◌+◌, ◌*◌, ◌/◌, ◌<◌, ◌≤◌, ◌&&◌, ◌++◌, OnOk};
+ghost use Rattle.vf_spans.specs.Members.{in_range};
 ghost use Rattle.vf_spans.specs.Words.{has_bit};
-ghost use Rattle.dexel_rays.specs.Findings.{findings};
-ghost use Rattle.dexel_rays.specs.WordSets.{IsWordDelta, seen_bit};
-ghost use Rattle.wanted_marks.specs.Rays.{AreOnRay, is_sure_bit, is_told_bit};
-ghost use Rattle.wanted_marks.specs.Strips.{ray_at};
-ghost use Rattle.strip_marks.specs.RayMarks.{IsWindow};
-ghost use Rattle.strip_marks.specs.Words.{AreSetsOf, HasRay, IsWordMarked, is_possible_on, is_sure_on};
+ghost use Rattle.ray_words.specs.Rays.{is_wanted_at};
+ghost use Rattle.wanted_marks.specs.Rays.{is_possible_at, is_sure_at};
+ghost use Rattle.strip_marks.specs.RayMarks.{Adds, AreWordsMarked, CanCount, IsWindow};
+ghost use Rattle.strip_marks.specs.Words.{AreMarksAdded, AreSetsOf, noted};
 
+use crate::change::WordChange;
+use crate::marked::Marked;
 use dexel_rays::{WordDelta, WordSets};
-use job_facts::Counts;
 use ray_words::WordRay;
+use vf_io::NoMemory;
 use vf_spans::bits::bits_of_range;
-use wanted_marks::{StripMarker, WordMarks};
+use wanted_marks::{RayMarker, WordMarks};
 
-/// What a move that marks these bits adds to the sets, and what it finds there: where it marks none, nothing.
+/// The points of a word of a ray that lie in the window and that a move has to be asked about.
 #[inline]
-fn add_marks(sets: &WordSets, sure: u64, possible: u64, rapid: bool) -> (WordDelta, Counts)
-    ensures delta { IsWordDelta sets.now sure possible result.0 }
-    ensures counts { result.1 ≡ findings (seen_bit sets.now sure possible rapid) (range_with_len 0 64) }
+pub fn wanted_in(ray: &WordRay, word: u32, window: (u32, u32)) -> u64
+    requires from { window.0 / 64 ≤ word }
+    requires to { 64 * word < window.1 }
+    ensures { (b : ℕ) → b < 64 → has_bit result b ≡ (is_wanted_at ray.now.sets (64 * word + b) && in_range (64 * word + b) window) }
 {
-    if sure == 0 && possible == 0 {
-        let none = WordDelta {
-            sure: 0,
-            possible: 0,
-        };
-        return (none, Counts::none());
-    }
-    sets.add(sure, possible, rapid)
+    ray.wanted(word) & bits_of_range(word, window.0, window.1)
 }
 
-/// Which of the wanted points of a word of ray n are sure, and which are possible; of those in `sure_only` it is told only whether
-/// they are sure. Where none is wanted the ray isn't made ready for marks.
-#[inline]
-fn ask<'x>(
-    marker: &'x StripMarker<'x>,
+/// Notes what changes at a word, if anything does.
+fn note(
+    changes: &mut Vec<WordChange>,
+    ray: u32,
+    word: u32,
+    delta: &WordDelta,
+) -> Result<(), NoMemory>
+    ensures { OnOk result (changes.new.items ≡ changes.old.items ++ noted ray word delta.now) }
+{
+    if delta.sure == 0 && delta.possible == 0 {
+        return Ok(());
+    }
+    changes.push(WordChange {
+        ray,
+        word,
+        sure: delta.sure,
+        possible: delta.possible,
+    })?;
+    Ok(())
+}
+
+/// Takes in what a move with these marks changes at a word of ray n, and what it finds there: where it marks no point, nothing.
+fn add_marks(
+    sets: &WordSets,
+    marks: WordMarks,
     n: u32,
-    first: u32,
-    wanted: u64,
-    sure_only: u64,
-) -> WordMarks
-    requires ray { HasRay marker.now n }
-    requires wanted { AreOnRay (ray_at marker.now n) first wanted }
-    ensures sure { (b : ℕ) → b < 64 → has_bit result.sure b ≡ is_sure_bit (ray_at marker.now n) first wanted b }
-    ensures possible { (b : ℕ) → b < 64 → has_bit result.possible b ≡ is_told_bit (ray_at marker.now n) first wanted sure_only b }
+    word: u32,
+    rapid: bool,
+    marked: &mut Marked,
+) -> Result<(), NoMemory>
+    requires { CanCount 64 marked.old.counts }
+    ensures { OnOk result (Adds marked.old marked.new (λ added found.
+        AreMarksAdded sets.now marks.sure marks.possible rapid n word added found)) }
 {
-    if wanted == 0 {
-        return WordMarks {
-            sure: 0,
-            possible: 0,
-        };
+    if marks.sure == 0 && marks.possible == 0 {
+        return Ok(());
     }
-    let on_ray = marker.on_ray(n);
-    on_ray.mark(first, wanted, sure_only)
+    let (delta, found) = sets.add(marks.sure, marks.possible, rapid);
+    marked.counts = marked.counts.plus(&found);
+    note(&mut marked.changes, n, word, &delta)?;
+    Ok(())
 }
 
-/// What a move changes at the points of a word of ray n, and what it finds there. Only points of the window that the move has to
-/// be asked about are marked.
-pub fn mark_word<'x>(
-    marker: &'x StripMarker<'x>,
+/// Takes in what a move changes at the points of a word of ray n, and what it finds there. Only points of the window that the move
+/// has to be asked about are marked.
+pub fn mark_word(
+    marker: &RayMarker<'_>,
     ray: &WordRay,
     n: u32,
     word: u32,
     window: (u32, u32),
     rapid: bool,
-) -> (WordDelta, Counts)
-    requires n { HasRay marker.now n }
-    requires ray { AreSetsOf (ray_at marker.now n) ray.now.sets }
-    requires window { IsWindow (ray_at marker.now n) window.0 window.1 }
+    marked: &mut Marked,
+) -> Result<(), NoMemory>
+    requires ray { AreSetsOf marker.now ray.now.sets }
+    requires window { IsWindow marker.now window.0 window.1 }
     requires from { window.0 / 64 ≤ word }
     requires to { 64 * word < window.1 }
-    ensures { IsWordMarked ray.now.sets (is_sure_on marker.now n) (is_possible_on marker.now n) rapid word result.0 result.1 }
+    requires room { CanCount 64 marked.old.counts }
+    ensures { OnOk result (Adds marked.old marked.new (λ added found.
+        AreWordsMarked ray.now.sets (is_sure_at marker.now) (is_possible_at marker.now) rapid n word (word + 1) added found)) }
 {
+    let wanted = wanted_in(ray, word, window);
+    if wanted == 0 {
+        return Ok(());
+    }
     let sets = ray.word(word);
-    let wanted = sets.wanted() & bits_of_range(word, window.0, window.1);
-    let marks = ask(marker, n, 64 * word, wanted, sets.sure_only(rapid));
-    add_marks(&sets, marks.sure, marks.possible, rapid)
+    let marks = marker.mark(64 * word, wanted, sets.sure_only(rapid));
+    add_marks(&sets, marks, n, word, rapid, marked)?;
+    Ok(())
 }

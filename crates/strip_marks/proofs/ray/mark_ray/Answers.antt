@@ -2,10 +2,10 @@ use Rattle.std.proofs.Common.{◌*◌, ◌/◌, ◌≤◌, List, length, arith, 
 use Rattle.std.specs.List.{All}
 use Rattle.vf_spans.specs.Words.{words_below}
 use Rattle.dexel_rays.specs.Sets.{Sets}
-use Rattle.wanted_marks.specs.Strips.{ray_at}
+use Rattle.wanted_marks.specs.Rays.{is_possible_at, is_sure_at}
 use Rattle.strip_marks.specs.declared.change.WordChange.{WordChange}
 use Rattle.strip_marks.specs.RayMarks.{AreWordsMarked, HaveWordsBelow, IsAtKept}
-use Rattle.strip_marks.specs.Words.{AreSetsOf, is_possible_on, is_sure_on}
+use Rattle.strip_marks.specs.Words.{AreSetsOf}
 use Rattle.strip_marks.proofs.Lists.{tail_of, words_ascend}
 use Rattle.strip_marks.proofs.WholeRays.{ray_marked}
 use Rattle.strip_marks.proofs.ray.mark_ray.Goals as goal
@@ -13,37 +13,39 @@ use Rattle.strip_marks.proofs.ray.mark_ray.Goals as goal
 pub keep_changed-requires : goal.keep_changed-requires
 keep_changed-requires c =
     let a = c.args in
-    let h = c.in_ok-counts.ensures in
+    let h = c.in_ok-mark_words.ensures in
     let most = words_below (length a.ray.now.sets.stock) in
     subst (λ (l : List WordChange). HaveWordsBelow most l)
-    (sym (tail_of a.changes.now.items c.mark_words.new.changes.items h.added c.as_slice.result.now c.len-start.result h.joined
-    c.as_slice.ensures.value (c.len-start.ensures ∙ a.changes.now.ok.0)))
+    (sym (tail_of a.marked.now.changes.items c.mark_words.new.marked.changes.items h.added c.as_slice.result.now c.len-start.result h.joined
+    c.as_slice.ensures.value (c.len-start.ensures ∙ a.marked.now.changes.ok.0)))
     (words_ascend (length a.ray.now.sets.stock) a.n (a.window.0 / 64) (words_below a.window.1) most h.added h.holds.each h.holds.order
     (omega (arith, c.requires.window.within, c.requires.ray.bound.stock)))
 
 pub returns-clause-marked : goal.returns-clause-marked
 returns-clause-marked c =
     let a = c.args in
-    let r = ray_at a.marker.now a.n in
-    let h = c.in_ok-counts.ensures in
+    let r = a.marker.now in
+    let h = c.in_ok-mark_words.ensures in
     let after = c.keep_changed.new.ray in
     let same = c.in_ok-keep_changed.ensures.same.sets in
     let lo = a.window.0 / 64 in
     let hi = words_below a.window.1 in
     let kept = subst (λ (l : List WordChange). All (IsAtKept after) l)
-    (tail_of a.changes.now.items c.mark_words.new.changes.items h.added c.as_slice.result.now c.len-start.result h.joined
-    c.as_slice.ensures.value (c.len-start.ensures ∙ a.changes.now.ok.0))
+    (tail_of a.marked.now.changes.items c.mark_words.new.marked.changes.items h.added c.as_slice.result.now c.len-start.result h.joined
+    c.as_slice.ensures.value (c.len-start.ensures ∙ a.marked.now.changes.ok.0))
     c.in_ok-keep_changed.ensures.kept in
     let sets = subst (λ (d : Sets). AreSetsOf r d) (sym same) c.requires.ray in
-    let marked = subst (λ (d : Sets). AreWordsMarked d (is_sure_on a.marker.now a.n) (is_possible_on a.marker.now a.n) a.rapid a.n lo hi
-    h.added c.in_ok-counts.counts) (sym same) h.holds in
+    let marked = subst (λ (d : Sets). AreWordsMarked d (is_sure_at r) (is_possible_at r) a.rapid a.n lo hi h.added h.found) (sym same)
+    h.holds in
     let from : 64 * lo ≤ a.window.0 = omega arith in
     let to : a.window.1 ≤ 64 * hi = omega arith in
     let order : lo ≤ hi = omega (arith, c.requires.window.order) in
     record {
       added = h.added;
+      found = h.found;
       joined = h.joined;
+      summed = h.summed;
       holds = ray_marked r after a.rapid a.n a.window.0 a.window.1
-          lo hi h.added c.in_ok-counts.counts sets c.requires.window from to order marked
+          lo hi h.added h.found sets c.requires.window from to order marked
           kept (omega (arith, sets.bound.stock, c.requires.ray.bound.stock, c.bound-bound.ensures.points));
     }

@@ -1,33 +1,30 @@
-use Rattle.std.proofs.Common.{sym, subst, arith}
+use Rattle.std.proofs.Common.{arith, sym, ◌∙◌, subst}
 use Rattle.wanted_marks.specs.Rays.{RayOf}
-use Rattle.wanted_marks.specs.Strips.{ray_at}
 use Rattle.strip_marks.specs.RayMarks.{IsWindow}
-use Rattle.strip_marks.specs.Words.{is_possible_on, is_sure_on}
-use Rattle.strip_marks.proofs.MoreRays.{ray_within}
 use Rattle.strip_marks.proofs.OneRay.{marked_by, sets_for, untouched}
 use Rattle.strip_marks.proofs.OnStrips.{marker_is, node_within, some_move, window_on}
 use Rattle.strip_marks.proofs.strip.mark_at.Goals as goal
 
-pub returns-then-window-clause-marked : goal.returns-then-window-clause-marked
-returns-then-window-clause-marked c = λ move has.
+pub returns-then-div_ceil-first-clause-marked : goal.returns-then-div_ceil-first-clause-marked
+returns-then-div_ceil-first-clause-marked c = λ move has.
     let a = c.args in
     let e = c.ray_window-window.ensures in
     let w = window_on a.plan.now a.number move a.strip a.n c.ray_window-window.result.0 c.ray_window-window.result.1 c.strip_ray.result
     c.grid.result.now c.grid.ensures c.requires.plan has
     c.strip_ray.ensures.there c.strip_ray.ensures.ray e.order e.within (e.holds move has) in
-    untouched a.plan.now a.number move a.strip a.n c.ray_window-window.result.0 c.ray_window-window.result.1 a.ray.now a.changes.now.items
-    c.none.result c.requires.plan has c.requires.ray w
-    c.if-window.true (omega arith) c.none.ensures
+    untouched a.plan.now move a.strip a.n c.ray_window-window.result.0 c.ray_window-window.result.1 c.first_wanted-first.result a.ray.now
+    a.marked.now c.requires.ray w c.first_wanted-first.ensures (omega (arith, c.div_ceil.ensures))
+    (omega (arith, c.bound-bound.ensures.points))
 
-pub mark_ray-requires-clause-n : goal.mark_ray-requires-clause-n
-mark_ray-requires-clause-n c = node_within c.args.plan.now c.args.number c.args.strip c.args.n c.args.marker.now c.requires.marker c.requires.n
+pub on_ray-on_ray-requires : goal.on_ray-on_ray-requires
+on_ray-on_ray-requires c = node_within c.args.plan.now c.args.number c.args.strip c.args.n c.args.marker.now c.requires.marker c.requires.n
 
 pub mark_ray-requires-clause-ray : goal.mark_ray-requires-clause-ray
 mark_ray-requires-clause-ray c =
     let a = c.args in
     let some = some_move a.plan.now a.number c.requires.number in
-    sets_for a.plan.now some.0 a.strip a.n (ray_at a.marker.now a.n) a.ray.now
-    (marker_is a.plan.now a.number a.strip a.n some.0 a.marker.now c.requires.marker some.1 c.requires.n)
+    sets_for a.plan.now some.0 a.strip a.n c.on_ray-on_ray.result a.ray.now
+    (c.on_ray-on_ray.ensures ∙ marker_is a.plan.now a.number a.strip a.n some.0 a.marker.now c.requires.marker some.1 c.requires.n)
     c.requires.ray
 
 pub mark_ray-requires-clause-window : goal.mark_ray-requires-clause-window
@@ -36,21 +33,14 @@ mark_ray-requires-clause-window c =
     let e = c.ray_window-window.ensures in
     let some = some_move a.plan.now a.number c.requires.number in
     subst (λ (r : RayOf). IsWindow r c.ray_window-window.result.0 c.ray_window-window.result.1)
-    (sym (marker_is a.plan.now a.number a.strip a.n some.0 a.marker.now c.requires.marker some.1 c.requires.n))
+    (sym (c.on_ray-on_ray.ensures ∙ marker_is a.plan.now a.number a.strip a.n some.0 a.marker.now c.requires.marker some.1 c.requires.n))
     (window_on a.plan.now a.number some.0 a.strip a.n c.ray_window-window.result.0 c.ray_window-window.result.1 c.strip_ray.result
     c.grid.result.now c.grid.ensures c.requires.plan some.1
     c.strip_ray.ensures.there c.strip_ray.ensures.ray e.order e.within (e.holds some.0 some.1))
 
-pub returns-clause-few : goal.returns-clause-few
-returns-clause-few c =
-    let a = c.args in
-    ray_within c.mark_ray.new.ray (is_sure_on a.marker.now a.n) (is_possible_on a.marker.now a.n) c.is_rapid.result a.n
-    c.in_ok-counts.ensures.marked.added c.in_ok-counts.counts c.in_ok-counts.ensures.marked.holds
-
 pub returns-clause-marked : goal.returns-clause-marked
 returns-clause-marked c = λ move has.
     let a = c.args in
-    marked_by a.plan.now move a.strip a.n (ray_at a.marker.now a.n) c.is_rapid.result c.mark_ray.new.ray a.changes.now.items
-    c.mark_ray.new.changes.items c.in_ok-counts.counts
-    (marker_is a.plan.now a.number a.strip a.n move a.marker.now c.requires.marker has c.requires.n)
-    (c.is_rapid.ensures move has) c.in_ok-counts.ensures.marked
+    marked_by a.plan.now move a.strip a.n c.on_ray-on_ray.result c.is_rapid.result c.mark_ray.new.ray a.marked.now c.mark_ray.new.marked
+    (c.on_ray-on_ray.ensures ∙ marker_is a.plan.now a.number a.strip a.n move a.marker.now c.requires.marker has c.requires.n)
+    (c.is_rapid.ensures move has) c.in_ok-mark_ray.ensures.marked

@@ -9,7 +9,7 @@ use Rattle.strip_marks.proofs.strip.mark_rays.Given as goal
 abbrev pub invariant-loop-n : goal.invariant-loop-n
 invariant-loop-n l = record {
   same : HaveSameSets l.initial.rays l.rays;
-  within : AreWithin ((l.n - l.fn.window.0) * 4294967295) l.counts;
+  within : AreWithin ((l.n - l.fn.window.0) * 4294967295) l.marked.counts;
   marked : (move : JobMove) → HasNumber l.plan l.number move
-      → AreRaysMarked l.plan move l.strip l.initial.rays l.rays l.fn.window.0 l.n l.changes.items l.counts;
+      → AreRaysMarked l.plan move l.strip l.initial.rays l.rays l.fn.window.0 l.n l.marked.changes.items l.marked.counts;
 }

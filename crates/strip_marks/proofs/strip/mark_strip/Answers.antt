@@ -1,6 +1,5 @@
 use Rattle.std.proofs.Common.{arith}
 use Rattle.strip_marks.proofs.MoreRays.{no_rays_to}
-use Rattle.strip_marks.proofs.OnStrips.{marker_of}
 use Rattle.strip_marks.proofs.WholeStrips.{strip_marked}
 use Rattle.strip_marks.proofs.strip.mark_strip.Goals as goal
 
@@ -13,13 +12,6 @@ returns-then-window-clause-marked c = λ move has.
     w.ensures.order (omega (arith, w.ensures.within, c.requires.rays.many)) (w.ensures.holds move has)
     (no_rays_to a.plan.now move a.strip w.result.0 w.result.1 a.rays.now a.rays.now c.new.result.items c.none.result c.if-window.true
     c.new.ensures.items c.none.ensures)
-
-pub mark_rays-requires-clause-marker : goal.mark_rays-requires-clause-marker
-mark_rays-requires-clause-marker c =
-    let a = c.args in
-    marker_of a.plan.now a.number a.strip c.on_strip-marker.result c.marker-mover.result c.grid-grid.result.now c.strip_ray-first.result
-    c.on_strip-marker.ensures c.grid-grid.ensures
-    c.strip_ray-first.ensures.there c.strip_ray-first.ensures.ray c.marker-mover.ensures.marker
 
 pub returns-clause-marked : goal.returns-clause-marked
 returns-clause-marked c = λ move has.
