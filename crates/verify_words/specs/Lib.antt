@@ -1,0 +1,4 @@
+pub mod Call
+pub mod Command
+pub mod Seen
+pub mod Words

@@ -1,0 +1,9 @@
+//! The words of `verify`, read by the library's command parser: the files that they name, and the number of workers.
+#![tactic(auto)]
+
+mod call;
+mod command;
+mod count;
+
+pub use call::{VerifyWords, verify_words};
+pub use count::read_within;
