@@ -81,7 +81,7 @@ module _ {K : Type 0} (written : K → Option (List ℕ)) (pieces : K → Option
 refusal_due : (files : Files) (command : Command) (fault : Fault) → IfSome (command_due (Some files) command) (λ d. d ≡ refused fault) → command_due (Some files) command ≡ Some (refused fault)
 refusal_due files (list_moves file) fault same = ap (λ d. Some d) same
 refusal_due files (mark_moves file question) fault same = ap (λ d. Some d) same
-refusal_due files (verify_moves names) fault same = ap (λ d. Some d) same
+refusal_due files (verify_moves call) fault same = ap (λ d. Some d) same
 
 -- what is written of a report that is settled is true, where the report is
 module _ {K : Type 0} (written : K → Option (List ℕ)) (pieces : K → Option (List (List ℕ))) (faults : K → ℕ) (old new : K) (command : Command) where

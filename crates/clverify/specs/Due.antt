@@ -12,7 +12,7 @@ use Rattle.clverify.specs.Commands.Verify.{verify_due}
 abbrev pub command_due : Option Files → Command → Option Due
 command_due files (list_moves file) = option_map (list_due file) files
 command_due files (mark_moves file question) = option_map (point_due file question) files
-command_due files (verify_moves names) = option_map (verify_due names) files
+command_due files (verify_moves call) = option_map (verify_due call) files
 
 -- words that are no command are due the usage line, whatever the files are
 abbrev pub due : Option Files → Option Command → Option Due

@@ -12,4 +12,3 @@ pub mod Ready
 pub mod Settled
 pub mod Tasks
 pub mod Truth
-pub mod Words

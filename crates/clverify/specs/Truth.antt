@@ -18,7 +18,7 @@ use Rattle.clverify.specs.declared.status.Status.TheVariants.{Clean, Findings, W
 abbrev pub IsTrueText : Files → Command → List ℕ → Type 0
 IsTrueText files (list_moves file) text = IsTrueListing (bytes_of files file) text
 IsTrueText files (mark_moves file question) text = IsTrueMarking question (bytes_of files file) text
-IsTrueText files (verify_moves names) text = IsTrueVerification names files text
+IsTrueText files (verify_moves call) text = IsTrueVerification call files text
 
 -- the text is the one line that a command's files are refused with
 pub record IsRefusal (files : Files) (command : Command) (text : List ℕ) : Type 0 where

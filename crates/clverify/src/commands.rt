@@ -1,9 +1,9 @@
 //! The commands. A new one is a file of its own in commands/ (its words, its report) and a line in each of these: the variants
 //! of `Command`, `read_command` and `report_on`.
-ghost use Rattle.std.specs.Prelude.{◌≡◌, map, option_map, All, Some, IfOk, IfSome, string_bytes};
+ghost use Rattle.std.specs.Prelude.{◌≡◌, map, option_map, All, Some, true, IfErr, IfOk, IfSome, string_bytes};
 ghost use Rattle.clverify.specs.Answer.{IsVerdict};
 ghost use Rattle.clverify.specs.Asked.{MayBeAsked, command_seen};
-ghost use Rattle.clverify.specs.Commands.{command_of, files_of};
+ghost use Rattle.clverify.specs.Commands.{are_parsed, command_of, files_of};
 ghost use Rattle.clverify.specs.Due.{command_due};
 ghost use Rattle.clverify.specs.Inputs.{is_read_fault};
 ghost use Rattle.clverify.specs.Outside.{ReadsOnce};
@@ -19,44 +19,40 @@ use crate::answer::Answer;
 use crate::commands::list::{list_report, list_words};
 use crate::commands::point::{point_report, point_words};
 pub(crate) use crate::commands::question::Question;
-use crate::commands::verify::{verify_report, verify_words};
+use crate::commands::verify::{verify_command, verify_report};
 use crate::stopped::Stopped;
 use std::alloc::Global;
-use vf_io::Shelf;
+use verify_words::VerifyWords;
+use vf_io::{NoMemory, Shelf};
 
 /// What the words after the program's name ask for.
 #[derive(Clone, Copy, Debug)]
 pub(crate) enum Command<'a> {
     /// Print the moves of a cutter location file.
-    List {
-        file: &'a str,
-    },
+    List { file: &'a str },
     /// Print the mark of a point against each move of the file.
-    Point {
-        file: &'a str,
-        question: Question,
-    },
+    Point { file: &'a str, question: Question },
     /// Verify the file with a setup, and a script if there is one.
-    Verify {
-        file: &'a str,
-        setup: &'a str,
-        script: Option<&'a str>,
-    },
+    Verify(VerifyWords<'a>),
 }
 
-/// The command that words stand for, where they are one.
-pub(crate) fn read_command(words: &[String]) -> Option<Command<'_>>
-    ensures command { option_map command_seen result ≡ command_of (map string_bytes words.now) }
-    ensures valid { IfSome result MayBeAsked }
+/// The command that words stand for, where they are one. Those behind `verify` want memory.
+pub(crate) fn read_command<'a>(
+    alloc: Global,
+    words: &'a [String],
+) -> Result<Option<Command<'a>>, NoMemory>
+    ensures command { IfOk result (λ command. option_map command_seen command ≡ command_of (map string_bytes words.now)) }
+    ensures valid { IfOk result (λ command. IfSome command MayBeAsked) }
+    ensures memory { IfErr result (λ _. are_parsed (map string_bytes words.now) ≡ true) }
 {
     let [word, more @ ..] = words else {
-        return None;
+        return Ok(None);
     };
     match word.as_str() {
-        "list" => list_words(more),
-        "point" => point_words(more),
-        "verify" => verify_words(more),
-        _ => None,
+        "list" => Ok(list_words(more)),
+        "point" => Ok(point_words(more)),
+        "verify" => verify_command(alloc, more),
+        _ => Ok(None),
     }
 }
 
@@ -77,10 +73,6 @@ pub(crate) fn report_on<S: Shelf>(
     match command {
         Command::List { file } => list_report(alloc, file, shelf),
         Command::Point { file, question } => point_report(alloc, file, question, shelf),
-        Command::Verify {
-            file,
-            setup,
-            script,
-        } => verify_report(alloc, file, setup, *script, shelf),
+        Command::Verify(said) => verify_report(alloc, said, shelf),
     }
 }

@@ -219,12 +219,15 @@ fn is_command(alloc: Global, words: &str) -> Result<bool, Fail> {
     for word in words.split(' ') {
         texts.push(String::from_str(alloc, word)?)?;
     }
-    Ok(read_command(&texts).is_some())
+    let Ok(command) = read_command(alloc, &texts) else {
+        return Err(Fail::from("no memory for the words"));
+    };
+    Ok(command.is_some())
 }
 
 #[test]
 fn words_of_commands(rt: HostRuntime) -> Result<(), Fail> {
-    let rows: [(&str, bool); 38] = [
+    let rows: [(&str, bool); 40] = [
         ("list a", true),
         ("list --x", true),
         ("list", false),
@@ -235,7 +238,9 @@ fn words_of_commands(rt: HostRuntime) -> Result<(), Fail> {
         ("--help", false),
         ("verify a s.toml", true),
         ("verify a s --script f", true),
-        ("verify --script s", true),
+        ("verify --workers=2 a --script f s", true),
+        ("verify -- --script s", true),
+        ("verify --script s", false),
         ("VERIFY a s", false),
         ("verify a", false),
         ("verify  s", false),

@@ -1,6 +1,6 @@
-ghost use Rattle.std.specs.Prelude.{◌≡◌, ◌≢◌, ◌⊎◌, None, map, All, string_bytes};
+ghost use Rattle.std.specs.Prelude.{◌≡◌, ◌≢◌, ◌⊎◌, None, true, map, All, string_bytes};
 ghost use Rattle.vf_io.specs.Causes.{Rose, one_more_failure};
-ghost use Rattle.clverify.specs.Commands.{command_of, files_of};
+ghost use Rattle.clverify.specs.Commands.{are_parsed, command_of, files_of};
 ghost use Rattle.clverify.specs.Due.{due};
 ghost use Rattle.clverify.specs.Headline.{Answers, Hands, IsComplete};
 ghost use Rattle.clverify.specs.Truth.{TellsTruth};
@@ -9,7 +9,7 @@ use crate::answer::{settle, write_answer};
 use crate::commands::{read_command, report_on};
 use crate::status::Status;
 use std::alloc::Global;
-use vf_io::{Shelf, Sink};
+use vf_io::{NoMemory, Shelf, Sink};
 
 /// The one line for words that are no command.
 const USAGE: &[u8] =
@@ -33,9 +33,11 @@ pub fn run<S: Shelf, K: Sink>(
     // files stand for, true of the exact cutters.
     ensures sound { TellsTruth result (S.files shelf.old) (command_of (map string_bytes words.now))
         (K.written sink.old) (K.written sink.new) }
-    // Words that are no command are answered without memory and without a read. Once a command's words want memory, the first
-    // clause reads `→ (result ≡ Status.Usage) ⊎ ((result ≡ Status.WriteFault) ⊎ (result ≡ Status.NoMemory))`.
-    ensures usage { command_of (map string_bytes words.now) ≡ None → (result ≡ Status.Usage) ⊎ (result ≡ Status.WriteFault) }
+    // Words that are no command are answered without a read, and without memory where they don't begin with `verify`.
+    ensures usage { command_of (map string_bytes words.now) ≡ None
+        → (result ≡ Status.Usage) ⊎ ((result ≡ Status.WriteFault) ⊎ (result ≡ Status.NoMemory)) }
+    ensures wanting { command_of (map string_bytes words.now) ≡ None → result ≡ Status.NoMemory
+        → are_parsed (map string_bytes words.now) ≡ true }
     ensures usage_only { result ≡ Status.Usage → command_of (map string_bytes words.now) ≡ None }
     ensures no_read { command_of (map string_bytes words.now) ≡ None → shelf.new ≡ shelf.old }
     // A fault of reading is answered where one read failed, and only there.
@@ -48,11 +50,12 @@ pub fn run<S: Shelf, K: Sink>(
         → IsComplete result (due (S.files shelf.old) (command_of (map string_bytes words.now))) (K.written sink.old) (K.written sink.new) }
     ensures files { S.files shelf.new ≡ S.files shelf.old }
 {
-    match read_command(words) {
-        Some(command) => {
+    match read_command(alloc, words) {
+        Ok(Some(command)) => {
             let report = report_on(alloc, &command, shelf);
             settle(alloc, report, sink)
         }
-        None => write_answer(sink, USAGE, Status::Usage),
+        Ok(None) => write_answer(sink, USAGE, Status::Usage),
+        Err(NoMemory) => Status::NoMemory,
     }
 }

@@ -5,7 +5,7 @@ use Rattle.report_text.specs.Listing.{list_of}
 use Rattle.vf_io.specs.Files.{Files, bytes_of}
 use Rattle.clverify.specs.Answer.{Due, answer_of}
 use Rattle.clverify.specs.Inputs.{read_of}
-use Rattle.clverify.specs.Words.{Word, Words, is_name}
+use Rattle.verify_words.specs.Words.{Word, Words, is_name}
 use Rattle.clverify.specs.declared.status.Status.TheVariants.{Clean}
 
 -- its first word

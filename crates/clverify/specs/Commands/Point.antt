@@ -12,7 +12,7 @@ use Rattle.clverify.specs.Commands.Questions.{question_of}
 use Rattle.clverify.specs.Cutters.{first_low}
 use Rattle.clverify.specs.Inputs.{read_of}
 use Rattle.clverify.specs.Marks.{AreTrueMarks, marks_for}
-use Rattle.clverify.specs.Words.{Word, Words, is_name}
+use Rattle.verify_words.specs.Words.{Word, Words, is_name}
 use Rattle.clverify.specs.declared.commands.question.Question.{Question}
 use Rattle.clverify.specs.declared.cutters.Usual.{Usual}
 use Rattle.clverify.specs.declared.status.Status.TheVariants.{Clean}

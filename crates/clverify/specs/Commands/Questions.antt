@@ -6,7 +6,7 @@ use Rattle.space.specs.Ranges.{IsPoint, metre}
 use Rattle.vf_text.specs.Digits.{number_spelt}
 use Rattle.cl_lines.specs.Numbers.{length_of}
 use Rattle.cl_lines.specs.declared.number.Unit.TheVariants.{Mm}
-use Rattle.clverify.specs.Words.{Word, Words, within}
+use Rattle.verify_words.specs.Words.{Word, Words, within}
 use Rattle.clverify.specs.declared.commands.question.Question.{Question}
 
 -- the greatest depth

@@ -1,12 +1,10 @@
 ghost use Rattle.std.specs.Prelude.{◌≡◌, ◌≤◌, map, unsigned_abs, IfSome, string_bytes};
 ghost use Rattle.space.specs.Ranges.{IsPoint, metre};
-ghost use Rattle.vf_text.specs.Digits.{number_spelt};
 ghost use Rattle.clverify.specs.Commands.Questions.{IsQuestion, coordinate_of, depth_of, point_by, question_of, slabs_of};
-ghost use Rattle.clverify.specs.Commands.Questions.{deepest, most_places, most_slabs};
-ghost use Rattle.clverify.specs.Words.{within};
+ghost use Rattle.clverify.specs.Commands.Questions.{deepest, most_slabs};
 
 use cl_lines::{Unit, read_length};
-use vf_text::read_count;
+use verify_words::read_within;
 
 /// How far from the origin a coordinate may be, in micrometres.
 const FARTHEST: i32 = 1_000_000;
@@ -72,7 +70,7 @@ fn read_depth(name: &str, word: &str) -> Option<u32>
     ensures shallow { IfSome result (λ n. n ≤ deepest) }
 {
     if name == "--depth" {
-        read_within(0, DEEPEST, word)
+        read_within(0, DEEPEST, MOST_PLACES, word)
     } else {
         None
     }
@@ -86,21 +84,7 @@ fn read_slabs(words: &[String]) -> Option<u32>
 {
     match words {
         [] => Some(USUAL_SLABS),
-        [name, word] if name.as_str() == "--slabs" => read_within(1, MOST_SLABS, word),
+        [name, word] if name.as_str() == "--slabs" => read_within(1, MOST_SLABS, MOST_PLACES, word),
         _ => None,
-    }
-}
-
-/// A count of a few digits between two bounds, both included.
-fn read_within(least: u32, most: u32, word: &str) -> Option<u32>
-    ensures count { result ≡ within least most (number_spelt most_places word.now) }
-    ensures least { IfSome result (λ n. least ≤ n) }
-    ensures most { IfSome result (λ n. n ≤ most) }
-{
-    let n = read_count(word.as_bytes(), MOST_PLACES)?;
-    if least <= n && n <= most {
-        Some(n)
-    } else {
-        None
     }
 }

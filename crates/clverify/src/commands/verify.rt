@@ -1,11 +1,12 @@
 ghost use Rattle.std.specs.Prelude.{◌≡◌, IfOk, IfSome, IsTrue, false, map, option_map, string_bytes};
 ghost use Rattle.job_facts.specs.Facts.{are_answered};
 ghost use Rattle.report_text.specs.Report.{report_of};
+ghost use Rattle.verify_words.specs.Call.{call_of};
+ghost use Rattle.verify_words.specs.Seen.{call_seen};
 ghost use Rattle.clverify.specs.Answer.{IsVerdict};
-ghost use Rattle.clverify.specs.Asked.{command_seen, names_seen};
+ghost use Rattle.clverify.specs.Asked.{MayBeAsked, command_seen};
 ghost use Rattle.clverify.specs.Commands.{verify_moves};
-ghost use Rattle.clverify.specs.Commands.Verify.{IsTrueVerification, ReportsTruly, reported, script_word, status_by};
-ghost use Rattle.clverify.specs.Commands.Verify.{verified, verify_due, verify_words};
+ghost use Rattle.clverify.specs.Commands.Verify.{IsTrueVerification, ReportsTruly, reported, status_by, verified, verify_due};
 ghost use Rattle.clverify.specs.Inputs.{is_read_fault};
 ghost use Rattle.clverify.specs.Outside.{ReadsOnce};
 ghost use Rattle.clverify.specs.Settled.{IsReport};
@@ -18,56 +19,40 @@ use crate::task::{TaskInputs, do_task, read_task};
 use job_facts::Facts;
 use report_text::report_text;
 use std::alloc::Global;
+use verify_words::{VerifyWords, verify_words};
 use vf_io::{NoMemory, Shelf};
 
 /// The command that the words behind `verify` stand for.
-pub(crate) fn verify_words(words: &[String]) -> Option<Command<'_>>
-    ensures { option_map command_seen result ≡ option_map verify_moves (verify_words (map string_bytes words.now)) }
+pub(crate) fn verify_command<'a>(
+    alloc: Global,
+    words: &'a [String],
+) -> Result<Option<Command<'a>>, NoMemory>
+    ensures command { IfOk result (λ command. option_map command_seen command ≡ option_map verify_moves (call_of (map string_bytes words.now))) }
+    ensures valid { IfOk result (λ command. IfSome command MayBeAsked) }
 {
-    let [file, setup, more @ ..] = words else {
-        return None;
-    };
-    if file.is_empty() || setup.is_empty() {
-        return None;
-    }
-    Some(Command::Verify {
-        file: file.as_str(),
-        setup: setup.as_str(),
-        script: script_word(more)?,
-    })
-}
-
-/// The script that words name, if they name one.
-fn script_word(words: &[String]) -> Option<Option<&str>>
-    ensures { option_map (λ named. option_map (λ name. name.now) named) result ≡ script_word (map string_bytes words.now) }
-{
-    match words {
-        [] => Some(None),
-        [name, script] if name.as_str() == "--script" && !script.is_empty() => {
-            Some(Some(script.as_str()))
-        }
-        _ => None,
+    match verify_words(alloc, words) {
+        Ok(Some(said)) => Ok(Some(Command::Verify(said))),
+        Ok(None) => Ok(None),
+        Err(NoMemory) => Err(NoMemory),
     }
 }
 
 /// Verifies a file with a setup, and a script if one is named.
 pub(crate) fn verify_report<S: Shelf>(
     alloc: Global,
-    file: &str,
-    setup: &str,
-    script: Option<&str>,
+    said: &VerifyWords<'_>,
     shelf: &mut S,
 ) -> Result<Answer, Stopped>
-    requires file { S.allows shelf.old file.now }
-    requires setup { S.allows shelf.old setup.now }
-    requires script { IfSome script (λ name. S.allows shelf.old name.now) }
-    ensures report { IfSome (S.files shelf.old) (λ files. IsReport result (verify_due (names_seen file.now setup.now script.entry) files)) }
+    requires file { S.allows shelf.old said.now.file.now }
+    requires setup { S.allows shelf.old said.now.setup.now }
+    requires script { IfSome said.now.script (λ name. S.allows shelf.old name.now) }
+    ensures report { IfSome (S.files shelf.old) (λ files. IsReport result (verify_due (call_seen said.now) files)) }
     ensures verdict { IfOk result (λ answer. IsVerdict answer.status) }
     ensures sound { IfSome (S.files shelf.old) (λ files. IfOk result (λ answer.
-        IsTrueVerification (names_seen file.now setup.now script.entry) files answer.text.items)) }
+        IsTrueVerification (call_seen said.now) files answer.text.items)) }
     ensures read { ReadsOnce S.files S.faults S.failures (is_read_fault result) shelf.old shelf.new }
 {
-    match read_task(alloc, file, setup, script, shelf) {
+    match read_task(alloc, said.file, said.setup, said.script, shelf) {
         Ok(inputs) => verify_task(alloc, inputs),
         Err(stopped) => Err(stopped),
     }
