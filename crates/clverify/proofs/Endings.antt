@@ -5,7 +5,7 @@ use Rattle.vf_io.specs.Files.{Files}
 use Rattle.report_text.specs.Refusals.{refusal_of}
 use Rattle.report_text.specs.declared.fault.Fault.{Fault}
 use Rattle.clverify.specs.Answer.{Due, IsVerdict, refused, usage_due}
-use Rattle.clverify.specs.Commands.{Command, list_moves, mark_moves, verify_moves}
+use Rattle.clverify.specs.Commands.{Command, list_moves, mark_moves, self_test, verify_moves}
 use Rattle.clverify.specs.Due.{command_due}
 use Rattle.clverify.specs.Inputs.{is_read_fault}
 use Rattle.clverify.specs.Headline.{Answers, Hands, IsComplete, IsDue}
@@ -82,6 +82,7 @@ refusal_due : (files : Files) (command : Command) (fault : Fault) → IfSome (co
 refusal_due files (list_moves file) fault same = ap (λ d. Some d) same
 refusal_due files (mark_moves file question) fault same = ap (λ d. Some d) same
 refusal_due files (verify_moves call) fault same = ap (λ d. Some d) same
+refusal_due files (self_test number) fault same = ap (λ d. Some d) same
 
 -- what is written of a report that is settled is true, where the report is
 module _ {K : Type 0} (written : K → Option (List ℕ)) (pieces : K → Option (List (List ℕ))) (faults : K → ℕ) (old new : K) (command : Command) where

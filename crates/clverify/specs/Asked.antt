@@ -3,7 +3,7 @@ use Rattle.std.specs.Prelude.{ℕ, ◌≤◌}
 use Rattle.clverify.specs.Commands as words
 use Rattle.clverify.specs.Commands.Questions.{IsQuestion}
 use Rattle.clverify.specs.declared.commands.Command.{Command}
-use Rattle.clverify.specs.declared.commands.Command.TheVariants.{List, Point, Verify}
+use Rattle.clverify.specs.declared.commands.Command.TheVariants.{List, Point, Selftest, Verify}
 use Rattle.verify_words.specs.Call.{most_workers}
 use Rattle.verify_words.specs.Seen.{call_seen}
 
@@ -11,6 +11,7 @@ abbrev pub command_seen : Command → words.Command
 command_seen (List file) = words.list_moves file.now
 command_seen (Point file question) = words.mark_moves file.now question
 command_seen (Verify said) = words.verify_moves (call_seen said)
+command_seen (Selftest number) = words.self_test number
 
 -- at least one worker, and not too many
 pub record AreWorkers (workers : ℕ) : Type 0 where
@@ -22,3 +23,4 @@ abbrev pub MayBeAsked : Command → Type 0
 MayBeAsked (List file) = Unit {0}
 MayBeAsked (Point file question) = IsQuestion question
 MayBeAsked (Verify said) = AreWorkers said.workers
+MayBeAsked (Selftest number) = Unit {0}

@@ -1,11 +1,12 @@
 -- The commands. A new one is a file of its own in Commands/ (its words, what is due, what is true of what it writes) and a line
 -- in each of these: `Command`, `command_by` and `files_of` here, `command_due` in Due, `IsTrueText` in Truth, `command_seen` and
 -- `MayBeAsked` in Asked.
-use Rattle.std.specs.Prelude.{Bool, false, [], ◌∷◌, Option, Some, None, if◌then◌else◌}
+use Rattle.std.specs.Prelude.{ℕ, Bool, false, [], ◌∷◌, Option, Some, None, if◌then◌else◌}
 use Rattle.std.specs.Option.{option_map}
 use Rattle.std.specs.Str.{bytes_eq}
 use Rattle.clverify.specs.Commands.List.{list_name, list_words}
 use Rattle.clverify.specs.Commands.Point.{point_name, point_words}
+use Rattle.clverify.specs.Commands.Selftest.{selftest_name, selftest_words}
 use Rattle.clverify.specs.Commands.Verify.{names_of, verify_name}
 use Rattle.verify_words.specs.Call.{VerifyCall, call_of}
 use Rattle.verify_words.specs.Words.{Word, Words}
@@ -13,6 +14,7 @@ use Rattle.clverify.specs.declared.commands.question.Question.{Question}
 pub mod List
 pub mod Point
 pub mod Questions
+pub mod Selftest
 pub mod Verify
 
 -- a command and its values
@@ -20,6 +22,7 @@ pub data Command : Type 0 where
   list_moves : Word → Command
   mark_moves : Word → Question → Command
   verify_moves : VerifyCall → Command
+  self_test : ℕ → Command
 
 -- the command that a first word names, where the words behind it are its own
 abbrev pub command_by : Word → Words → Option Command
@@ -27,7 +30,8 @@ command_by word words =
     if bytes_eq word list_name then option_map list_moves (list_words words)
     else (if bytes_eq word point_name then option_map (λ asked. mark_moves asked.0 asked.1) (point_words words)
     else (if bytes_eq word verify_name then option_map verify_moves (call_of words)
-    else None))
+    else (if bytes_eq word selftest_name then option_map self_test (selftest_words words)
+    else None)))
 
 -- the command that words stand for, where they are one
 abbrev pub command_of : Words → Option Command
@@ -45,3 +49,4 @@ files_of None = []
 files_of (Some (list_moves file)) = file ∷ []
 files_of (Some (mark_moves file question)) = file ∷ []
 files_of (Some (verify_moves call)) = names_of call
+files_of (Some (self_test number)) = []

@@ -3,16 +3,19 @@ use Rattle.std.specs.Prelude.{Option, Some, None}
 use Rattle.std.specs.Option.{option_map}
 use Rattle.vf_io.specs.Files.{Files}
 use Rattle.clverify.specs.Answer.{Due, usage_due}
-use Rattle.clverify.specs.Commands.{Command, list_moves, mark_moves, verify_moves}
+use Rattle.clverify.specs.Commands.{Command, list_moves, mark_moves, self_test, verify_moves}
 use Rattle.clverify.specs.Commands.List.{list_due}
 use Rattle.clverify.specs.Commands.Point.{point_due}
+use Rattle.clverify.specs.Commands.Selftest.{selftest_due}
 use Rattle.clverify.specs.Commands.Verify.{verify_due}
 
--- A command is due what the files say that it names; where no files are told, that isn't known.
+-- A command is due what the files say that it names; where no files are told, that isn't known. One that names none is due the same
+-- over all files.
 abbrev pub command_due : Option Files → Command → Option Due
 command_due files (list_moves file) = option_map (list_due file) files
 command_due files (mark_moves file question) = option_map (point_due file question) files
 command_due files (verify_moves call) = option_map (verify_due call) files
+command_due files (self_test number) = Some (selftest_due number)
 
 -- words that are no command are due the usage line, whatever the files are
 abbrev pub due : Option Files → Option Command → Option Due

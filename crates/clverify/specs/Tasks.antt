@@ -6,7 +6,10 @@ use Rattle.cl_moves.specs.declared.moves.Move.{Move}
 use Rattle.cl_moves.specs.declared.program.Program.{Program}
 use Rattle.cutter_slabs.specs.Cutter.{CutterSize}
 use Rattle.edit_plan.specs.declared.script.Script.{Script}
+use Rattle.edit_plan.specs.Script.{whole_of_moves}
 use Rattle.job_model.specs.Tasks.{JobMove, Task}
+use Rattle.made_program.specs.Made.{made_moves, made_of}
+use Rattle.made_program.specs.Setup.{made_setup}
 use Rattle.ray_shapes.specs.declared.solid.Solid.TheVariants.{Bodies}
 use Rattle.report_text.specs.declared.fault.Fault.{Fault}
 use Rattle.report_text.specs.declared.fault.Fault.TheVariants.{CutterHeight}
@@ -76,3 +79,7 @@ abbrev pub task_of : List ℕ → List ℕ → Option (List ℕ) → Result Task
 task_of file setup script = do
   program ← read_of file
   task_behind program setup script
+
+-- the task of a program that is made from a number: each move is applied once in order, and nothing is asked
+abbrev pub made_task : ℕ → Task
+made_task number = task_by (made_of number) made_setup (whole_of_moves made_moves)

@@ -6,9 +6,10 @@ use Rattle.report_text.specs.declared.fault.Fault.{Fault}
 use Rattle.vf_io.specs.Bytes.{AppendsFront}
 use Rattle.vf_io.specs.Files.{Files, bytes_of}
 use Rattle.clverify.specs.Answer.{refused}
-use Rattle.clverify.specs.Commands.{Command, list_moves, mark_moves, verify_moves}
+use Rattle.clverify.specs.Commands.{Command, list_moves, mark_moves, self_test, verify_moves}
 use Rattle.clverify.specs.Commands.List.{IsTrueListing}
 use Rattle.clverify.specs.Commands.Point.{IsTrueMarking}
+use Rattle.clverify.specs.Commands.Selftest.{IsTrueSelftest}
 use Rattle.clverify.specs.Commands.Verify.{IsTrueVerification}
 use Rattle.clverify.specs.Due.{command_due}
 use Rattle.clverify.specs.declared.status.Status.{Status}
@@ -19,6 +20,7 @@ abbrev pub IsTrueText : Files → Command → List ℕ → Type 0
 IsTrueText files (list_moves file) text = IsTrueListing (bytes_of files file) text
 IsTrueText files (mark_moves file question) text = IsTrueMarking question (bytes_of files file) text
 IsTrueText files (verify_moves call) text = IsTrueVerification call files text
+IsTrueText files (self_test number) text = IsTrueSelftest number text
 
 -- the text is the one line that a command's files are refused with
 pub record IsRefusal (files : Files) (command : Command) (text : List ℕ) : Type 0 where

@@ -13,17 +13,22 @@ ghost use Rattle.clverify.specs.Truth.{IsTrueText};
 mod list;
 mod point;
 mod question;
+mod selftest;
 mod verify;
 
 use crate::answer::Answer;
 use crate::commands::list::{list_report, list_words};
 use crate::commands::point::{point_report, point_words};
 pub(crate) use crate::commands::question::Question;
+use crate::commands::selftest::{selftest_report, selftest_words};
 use crate::commands::verify::{verify_command, verify_report};
 use crate::stopped::Stopped;
 use std::alloc::Global;
+use std::sync::Wait;
+use std::thread::Threads;
 use verify_words::VerifyWords;
 use vf_io::{NoMemory, Shelf};
+use worker_gate::Gate;
 
 /// What the words after the program's name ask for.
 #[derive(Clone, Copy, Debug)]
@@ -34,6 +39,8 @@ pub(crate) enum Command<'a> {
     Point { file: &'a str, question: Question },
     /// Verify the file with a setup, and a script if there is one.
     Verify(VerifyWords<'a>),
+    /// Verify a program that is made from a number, with a setup of its own.
+    Selftest { number: u32 },
 }
 
 /// The command that words stand for, where they are one. Those behind `verify` want memory.
@@ -52,15 +59,18 @@ pub(crate) fn read_command<'a>(
         "list" => Ok(list_words(more)),
         "point" => Ok(point_words(more)),
         "verify" => verify_command(alloc, more),
+        "selftest" => Ok(selftest_words(more)),
         _ => Ok(None),
     }
 }
 
 /// The report of a command, or what stops it.
-pub(crate) fn report_on<S: Shelf>(
+pub(crate) fn report_on<R: Threads + Wait + Sync, S: Shelf, G: Gate + Sync>(
+    rt: &R,
     alloc: Global,
     command: &Command<'_>,
     shelf: &mut S,
+    gate: &G,
 ) -> Result<Answer, Stopped>
     requires asked { MayBeAsked command.now }
     requires allowed { All (S.allows shelf.old) (files_of (Some (command_seen command.now))) }
@@ -73,6 +83,7 @@ pub(crate) fn report_on<S: Shelf>(
     match command {
         Command::List { file } => list_report(alloc, file, shelf),
         Command::Point { file, question } => point_report(alloc, file, question, shelf),
-        Command::Verify(said) => verify_report(alloc, said, shelf),
+        Command::Verify(said) => verify_report(rt, alloc, said, shelf, gate),
+        Command::Selftest { number } => selftest_report(rt, alloc, *number, gate),
     }
 }

@@ -20,6 +20,7 @@ use crate::top::run;
 use std::io;
 use std::process::ExitCode;
 use vf_io::{FolderShelf, StdSink};
+use worker_gate::Open;
 
 fn main(rt: HostRuntime) -> ExitCode {
     let alloc = rt.alloc();
@@ -30,7 +31,14 @@ fn main(rt: HostRuntime) -> ExitCode {
     let Ok(mut sink) = StdSink::new(alloc, io::writer(&rt)) else {
         return ExitCode::from(Status::NoMemory);
     };
-    let status = run(alloc, words.as_slice(), &mut shelf, &mut sink);
+    let status = run(
+        &rt,
+        alloc,
+        words.as_slice(),
+        &mut shelf,
+        &mut sink,
+        &Open,
+    );
     match sink.flush() {
         Ok(()) => ExitCode::from(status),
         Err(_) => ExitCode::from(Status::WriteFault),

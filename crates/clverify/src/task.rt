@@ -7,26 +7,31 @@ ghost use Rattle.job_model.specs.Tasks.{IsPlan};
 ghost use Rattle.setup_file.specs.Shift.{shifted_of};
 ghost use Rattle.setup_file.specs.Sound.{IsSetup, IsTool};
 ghost use Rattle.vf_io.specs.Files.{bytes_of};
+ghost use Rattle.clverify.specs.Asked.{AreWorkers};
 ghost use Rattle.clverify.specs.Cutters.{IsUsual, first_low, is_move_low};
 ghost use Rattle.clverify.specs.Inputs.{GivesInput, is_read_fault};
 ghost use Rattle.clverify.specs.Outside.{ReadsOnce};
-ghost use Rattle.clverify.specs.Tasks.{job_move, task_behind, task_of, task_with, tool_text, tool_usual};
+ghost use Rattle.clverify.specs.Tasks.{job_move, made_task, task_behind, task_of, task_with, tool_text, tool_usual};
 
 use crate::cutters::{Usual, low_cutter, size, sweep_of};
 use crate::input::{read_edits, read_moves, read_setup_of};
 use crate::stopped::Stopped;
 use cl_moves::{CutterText, Move, Program};
 use cutter_slabs::Cutter;
-use edit_plan::Script;
+use edit_plan::{Script, whole_script};
 use job_facts::Facts;
 use job_run::{JobBodies, run_job};
+use made_program::{MADE_MOVES, made_program, made_setup};
 use ray_shapes::Bodies;
 use report_text::Fault;
 use setup_file::{Setup, shifted};
 use std::alloc::Global;
 use std::marker::Model;
+use std::sync::Wait;
+use std::thread::Threads;
 use strip_plan::{Plan, PlanMove};
 use vf_io::{NoMemory, Shelf};
+use worker_gate::Gate;
 
 /// What is verified, as it was read. It is seen as the task that it stands for.
 #[derive(Drop)]
@@ -122,6 +127,17 @@ fn read_last<S: Shelf>(
     }
 }
 
+/// The task of a program that is made from a number, with the setup that goes with such programs.
+pub(crate) fn made_inputs(alloc: Global, number: u32) -> Result<TaskInputs, NoMemory>
+    ensures { IfOk result (λ inputs. inputs ≡ made_task number) }
+{
+    Ok(TaskInputs {
+        program: made_program(alloc, number)?,
+        setup: made_setup(alloc)?,
+        script: whole_script(alloc, MADE_MOVES)?,
+    })
+}
+
 /// A tool as a program would give it.
 fn tool_text(tool: &Cutter) -> CutterText
     ensures { result ≡ tool_text tool.now }
@@ -203,8 +219,15 @@ fn bodies_of(alloc: Global, setup: &Setup) -> Result<JobBodies, NoMemory>
     })
 }
 
-/// Does the task, and gives what is so of its job.
-pub(crate) fn do_task(alloc: Global, inputs: TaskInputs) -> Result<Facts, NoMemory>
+/// Does the task by so many workers, and gives what is so of its job.
+pub(crate) fn do_task<R: Threads + Wait + Sync, G: Gate + Sync>(
+    rt: &R,
+    alloc: Global,
+    inputs: TaskInputs,
+    workers: u32,
+    gate: &G,
+) -> Result<Facts, NoMemory>
+    requires { AreWorkers workers }
     ensures facts { IfOk result (λ facts. facts ≡ facts_of inputs) }
     ensures answered { IfOk result (λ facts. IsTrue (are_answered facts.answers)) }
     ensures valid { IfOk result (λ _. IsPlan inputs.job.plan) }
@@ -218,5 +241,14 @@ pub(crate) fn do_task(alloc: Global, inputs: TaskInputs) -> Result<Facts, NoMemo
     let Script { edits, queries } = script;
     let plan = Plan::new(alloc, setup.grid, setup.slabs, setup.depth, moves, edits)?;
     let bodies = bodies_of(alloc, &setup)?;
-    run_job(alloc, &plan, &bodies, program.passed, queries.as_slice())
+    run_job(
+        rt,
+        alloc,
+        plan,
+        &bodies,
+        program.passed,
+        queries.as_slice(),
+        workers,
+        gate,
+    )
 }

@@ -9,18 +9,24 @@ use crate::answer::{settle, write_answer};
 use crate::commands::{read_command, report_on};
 use crate::status::Status;
 use std::alloc::Global;
+use std::sync::Wait;
+use std::thread::Threads;
 use vf_io::{NoMemory, Shelf, Sink};
+use worker_gate::Gate;
 
 /// The one line for words that are no command.
 const USAGE: &[u8] =
     b"usage: clverify list CL | point CL X Y Z --depth M [--slabs N] | verify CL SETUP [--script F] [--workers N] | selftest N\n";
 
-/// Does what the words ask for, over the files of the shelf, and writes the answer to the sink.
-pub fn run<S: Shelf, K: Sink>(
+/// Does what the words ask for, over the files of the shelf, and writes the answer to the sink. Workers that verify a job enter the gate
+/// ahead of each turn. What is answered is the same whatever they do there, for any number of workers and any order of their turns.
+pub fn run<R: Threads + Wait + Sync, S: Shelf, K: Sink, G: Gate + Sync>(
+    rt: &R,
     alloc: Global,
     words: &[String],
     shelf: &mut S,
     sink: &mut K,
+    gate: &G,
 ) -> Status
     requires { All (S.allows shelf.old) (files_of (command_of (map string_bytes words.now))) }
     // What is answered and written, for every file and all words.
@@ -52,7 +58,7 @@ pub fn run<S: Shelf, K: Sink>(
 {
     match read_command(alloc, words) {
         Ok(Some(command)) => {
-            let report = report_on(alloc, &command, shelf);
+            let report = report_on(rt, alloc, &command, shelf, gate);
             settle(alloc, report, sink)
         }
         Ok(None) => write_answer(sink, USAGE, Status::Usage),

@@ -4,7 +4,7 @@ ghost use Rattle.report_text.specs.Report.{report_of};
 ghost use Rattle.verify_words.specs.Call.{call_of};
 ghost use Rattle.verify_words.specs.Seen.{call_seen};
 ghost use Rattle.clverify.specs.Answer.{IsVerdict};
-ghost use Rattle.clverify.specs.Asked.{MayBeAsked, command_seen};
+ghost use Rattle.clverify.specs.Asked.{AreWorkers, MayBeAsked, command_seen};
 ghost use Rattle.clverify.specs.Commands.{verify_moves};
 ghost use Rattle.clverify.specs.Commands.Verify.{IsTrueVerification, ReportsTruly, reported, status_by, verified, verify_due};
 ghost use Rattle.clverify.specs.Inputs.{is_read_fault};
@@ -19,8 +19,11 @@ use crate::task::{TaskInputs, do_task, read_task};
 use job_facts::Facts;
 use report_text::report_text;
 use std::alloc::Global;
+use std::sync::Wait;
+use std::thread::Threads;
 use verify_words::{VerifyWords, verify_words};
 use vf_io::{NoMemory, Shelf};
+use worker_gate::Gate;
 
 /// The command that the words behind `verify` stand for.
 pub(crate) fn verify_command<'a>(
@@ -37,15 +40,18 @@ pub(crate) fn verify_command<'a>(
     }
 }
 
-/// Verifies a file with a setup, and a script if one is named.
-pub(crate) fn verify_report<S: Shelf>(
+/// Verifies a file with a setup, and a script if one is named, by so many workers as are asked for.
+pub(crate) fn verify_report<R: Threads + Wait + Sync, S: Shelf, G: Gate + Sync>(
+    rt: &R,
     alloc: Global,
     said: &VerifyWords<'_>,
     shelf: &mut S,
+    gate: &G,
 ) -> Result<Answer, Stopped>
     requires file { S.allows shelf.old said.now.file.now }
     requires setup { S.allows shelf.old said.now.setup.now }
     requires script { IfSome said.now.script (λ name. S.allows shelf.old name.now) }
+    requires workers { AreWorkers said.now.workers }
     ensures report { IfSome (S.files shelf.old) (λ files. IsReport result (verify_due (call_seen said.now) files)) }
     ensures verdict { IfOk result (λ answer. IsVerdict answer.status) }
     ensures sound { IfSome (S.files shelf.old) (λ files. IfOk result (λ answer.
@@ -53,19 +59,26 @@ pub(crate) fn verify_report<S: Shelf>(
     ensures read { ReadsOnce S.files S.faults S.failures (is_read_fault result) shelf.old shelf.new }
 {
     match read_task(alloc, said.file, said.setup, said.script, shelf) {
-        Ok(inputs) => verify_task(alloc, inputs),
+        Ok(inputs) => verify_task(rt, alloc, inputs, said.workers, gate),
         Err(stopped) => Err(stopped),
     }
 }
 
 /// Verifies what was read.
-fn verify_task(alloc: Global, inputs: TaskInputs) -> Result<Answer, Stopped>
+fn verify_task<R: Threads + Wait + Sync, G: Gate + Sync>(
+    rt: &R,
+    alloc: Global,
+    inputs: TaskInputs,
+    workers: u32,
+    gate: &G,
+) -> Result<Answer, Stopped>
+    requires { AreWorkers workers }
     ensures report { IsReport result (verified inputs) }
     ensures verdict { IfOk result (λ answer. IsVerdict answer.status) }
     ensures sound { IfOk result (λ answer. ReportsTruly inputs answer.text.items) }
     ensures memory { is_read_fault result ≡ false }
 {
-    match do_task(alloc, inputs) {
+    match do_task(rt, alloc, inputs, workers, gate) {
         Ok(facts) => report(alloc, &facts),
         Err(NoMemory) => Err(Stopped::NoMemory),
     }
@@ -89,7 +102,7 @@ fn report(alloc: Global, facts: &Facts) -> Result<Answer, Stopped>
 }
 
 /// Findings, where some move that is left isn't safe.
-fn status_by(clean: bool) -> Status
+pub(crate) fn status_by(clean: bool) -> Status
     ensures status { result ≡ status_by clean }
     ensures verdict { IsVerdict result }
 {

@@ -1,0 +1,45 @@
+-- `selftest N`: a program that is made from a number is verified with a setup of its own, and what is found is summed up. No file
+-- is read.
+use Rattle.std.specs.Prelude.{◌≡◌, ℕ, List, [], ◌∷◌, Option, None, codes}
+use Rattle.vf_text.specs.Digits.{number_spelt}
+use Rattle.job_facts.specs.Facts.{JobFacts, is_clean}
+use Rattle.job_model.specs.Report.{facts_of}
+use Rattle.job_model.specs.Truth.{IsTrueOfPoints, IsTrueOfSafety}
+use Rattle.report_text.specs.Selftest.{selftest_of}
+use Rattle.verify_words.specs.Words.{Word, Words, within}
+use Rattle.clverify.specs.Answer.{Due}
+use Rattle.clverify.specs.Commands.Verify.{status_by}
+use Rattle.clverify.specs.Tasks.{made_task}
+
+-- its first word
+abbrev pub selftest_name : Word
+selftest_name = codes "selftest"
+
+-- the greatest number, and the most digits of one
+abbrev pub most_number : ℕ
+most_number = 999999
+
+abbrev pub number_places : ℕ
+number_places = 6
+
+-- the words behind it: a number, and no more
+abbrev pub selftest_words : Words → Option ℕ
+selftest_words (word ∷ []) = within 0 most_number (number_spelt number_places word)
+selftest_words _ = None
+
+-- the facts of a job are summed up
+abbrev pub summed_up : ℕ → JobFacts → Due
+summed_up number facts = record {
+  text = selftest_of number facts.totals (is_clean facts.left);
+  status = status_by (is_clean facts.left);
+}
+
+-- what is due: what the definitions say of the made task, summed up
+abbrev pub selftest_due : ℕ → Due
+selftest_due number = summed_up number (facts_of (made_task number))
+
+-- what is true of a text that it writes: it sums up what is so of the made task, and that is true of the exact cutters
+pub record IsTrueSelftest (number : ℕ) (text : List ℕ) : Type 0 where
+  pub summary : text ≡ (selftest_due number).text
+  pub points : IsTrueOfPoints (made_task number).job
+  pub safety : IsTrueOfSafety (made_task number).job

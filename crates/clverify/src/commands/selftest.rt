@@ -1,0 +1,100 @@
+ghost use Rattle.std.specs.Prelude.{◌≡◌, IfOk, IsTrue, false, map, option_map, string_bytes};
+ghost use Rattle.job_facts.specs.Facts.{is_clean};
+ghost use Rattle.job_model.specs.Report.{facts_of};
+ghost use Rattle.report_text.specs.Selftest.{selftest_of};
+ghost use Rattle.clverify.specs.Answer.{IsVerdict};
+ghost use Rattle.clverify.specs.Asked.{command_seen};
+ghost use Rattle.clverify.specs.Commands.{self_test};
+ghost use Rattle.clverify.specs.Commands.Selftest.{IsTrueSelftest, selftest_due, selftest_words, summed_up};
+ghost use Rattle.clverify.specs.Inputs.{is_read_fault};
+ghost use Rattle.clverify.specs.Settled.{IsReport};
+ghost use Rattle.clverify.specs.Tasks.{made_task};
+
+use crate::answer::Answer;
+use crate::commands::Command;
+use crate::commands::verify::status_by;
+use crate::stopped::Stopped;
+use crate::task::{TaskInputs, do_task, made_inputs};
+use job_facts::Facts;
+use report_text::selftest_text;
+use std::alloc::Global;
+use std::sync::Wait;
+use std::thread::Threads;
+use verify_words::read_within;
+use vf_io::NoMemory;
+use worker_gate::Gate;
+
+/// The greatest number that a program is made from, and the most digits of one.
+const MOST_NUMBER: u32 = 999_999;
+
+const NUMBER_PLACES: usize = 6;
+
+/// How many workers verify a made program.
+const WORKERS: u32 = 3;
+
+/// The command that the words behind `selftest` stand for.
+pub(crate) fn selftest_words(words: &[String]) -> Option<Command<'_>>
+    ensures { option_map command_seen result ≡ option_map self_test (selftest_words (map string_bytes words.now)) }
+{
+    match words {
+        [word] => Some(Command::Selftest {
+            number: read_within(0, MOST_NUMBER, NUMBER_PLACES, word.as_str())?,
+        }),
+        _ => None,
+    }
+}
+
+/// Verifies the program that is made from a number, and sums up what is found.
+pub(crate) fn selftest_report<R: Threads + Wait + Sync, G: Gate + Sync>(
+    rt: &R,
+    alloc: Global,
+    number: u32,
+    gate: &G,
+) -> Result<Answer, Stopped>
+    ensures report { IsReport result (selftest_due number) }
+    ensures verdict { IfOk result (λ answer. IsVerdict answer.status) }
+    ensures sound { IfOk result (λ answer. IsTrueSelftest number answer.text.items) }
+    ensures memory { is_read_fault result ≡ false }
+{
+    match made_inputs(alloc, number) {
+        Ok(inputs) => verify_made(rt, alloc, number, inputs, gate),
+        Err(NoMemory) => Err(Stopped::NoMemory),
+    }
+}
+
+/// Verifies the task that is made from a number.
+fn verify_made<R: Threads + Wait + Sync, G: Gate + Sync>(
+    rt: &R,
+    alloc: Global,
+    number: u32,
+    inputs: TaskInputs,
+    gate: &G,
+) -> Result<Answer, Stopped>
+    requires { inputs ≡ made_task number }
+    ensures report { IsReport result (selftest_due number) }
+    ensures verdict { IfOk result (λ answer. IsVerdict answer.status) }
+    ensures sound { IfOk result (λ answer. IsTrueSelftest number answer.text.items) }
+    ensures memory { is_read_fault result ≡ false }
+{
+    match do_task(rt, alloc, inputs, WORKERS, gate) {
+        Ok(facts) => summary(alloc, number, &facts),
+        Err(NoMemory) => Err(Stopped::NoMemory),
+    }
+}
+
+/// Sums up the facts of a job.
+fn summary(alloc: Global, number: u32, facts: &Facts) -> Result<Answer, Stopped>
+    ensures report { IsReport result (summed_up number facts.now) }
+    ensures verdict { IfOk result (λ answer. IsVerdict answer.status) }
+    ensures text { IfOk result (λ answer. answer.text.items ≡ selftest_of number facts.now.totals (is_clean facts.now.left)) }
+    ensures memory { is_read_fault result ≡ false }
+{
+    let clean = facts.is_clean();
+    match selftest_text(alloc, number, &facts.totals, clean) {
+        Ok(text) => Ok(Answer {
+            text,
+            status: status_by(clean),
+        }),
+        Err(NoMemory) => Err(Stopped::NoMemory),
+    }
+}
