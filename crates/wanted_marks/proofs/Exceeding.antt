@@ -1,9 +1,9 @@
 -- A list of five coefficients against five limits, one by one.
-use Rattle.std.proofs.Common.{◌≡◌, true, false, ℕ, zero, suc, ◌<◌, List, ℤ, pos, negsuc, ◌-ℤ◌, ◌<ℤ◌, ◌≤ℤ◌, ◌⊎◌, int_lt, inl, inr, arith, ⊎_elim}
+use Rattle.std.proofs.Common.{◌≡◌, true, false, ℕ, zero, suc, ◌<◌, List, ℤ, pos, negsuc, ◌-ℤ◌, ◌<ℤ◌, ◌≤ℤ◌, ◌⊎◌, int_le, int_lt, inl, inr, arith, ⊎_elim}
 use Rattle.std.proofs.lemmas.Int.{ints}
 use Rattle.std.proofs.lemmas.Bool.{cases_lt}
 use Rattle.std.proofs.lemmas.Bool.Decides.{not_from_Decides}
-use Rattle.space.proofs.Tests.{decides_lt}
+use Rattle.space.proofs.Tests.{decides_le, decides_lt}
 use Rattle.space.specs.Vectors.{at}
 use Rattle.bern_form.specs.Forms.{all_positive, difference4}
 use Rattle.bern_form.proofs.Decided.{decides_positive, says_no}
@@ -38,6 +38,9 @@ less_or_not (negsuc m) (negsuc n) = ⊎_elim (λ l. inl (omega (arith, ints))) (
 
 pub not_less : (a b : ℤ) → int_lt a b ≡ false → b ≤ℤ a
 not_less a b h = let no = not_from_Decides (int_lt a b) (decides_lt a b) h in ⊎_elim (λ less. absurd (no less)) (λ more. more) (less_or_not a b)
+
+pub not_at_most : (a b : ℤ) → int_le a b ≡ false → b <ℤ a
+not_at_most a b h = let no = not_from_Decides (int_le a b) (decides_le a b) h in ⊎_elim (λ less. less) (λ more. absurd (no more)) (less_or_not b a)
 
 pub all_more : (c r : List ℤ) → ((k : ℕ) → k < 5 → int_lt (at r k) (at c k) ≡ true) → all_positive (difference4 c r) ≡ true
 all_more c r h = (decides_positive (difference4 c r)).1 (all_over c r (λ k l. (decides_lt (at r k) (at c k)).0 (h k l)))

@@ -4,7 +4,7 @@ use Rattle.std.specs.List.{All}
 use Rattle.space.specs.Ranges.{IsPoint, IsWithin, axis_unit}
 use Rattle.space.specs.Vectors.{at}
 use Rattle.space.proofs.Naturals.{abs_mul, abs_sub}
-use Rattle.bern_form.specs.Forms.{IsSmall, difference4, product22}
+use Rattle.bern_form.specs.Forms.{IsSmall, difference4, product22, scaled4}
 use Rattle.bern_form.specs.Sizes.{IsBounded2, IsBounded4, axis_limit, offset_limit, scale_limit}
 use Rattle.bern_form.proofs.Sizes.{difference4_bounded, product22_bounded, scaled4_bounded}
 use Rattle.axis_cells.proofs.Bounds.{list4}
@@ -60,3 +60,12 @@ at_quadratics a b c l (suc (suc (suc (suc (suc k))))) h = absurd (omega arith)
 
 pub small_at : (a b c : List ℤ) (l : ℤ) (k : ℕ) → k < 5 → All IsSmall (quadratics a b c l) → IsSmall (quadratic (at a k) (at b k) (at c k) l)
 small_at a b c l k h small = subst IsSmall (at_quadratics a b c l k h) (small k (pos 0) h)
+
+-- a coefficient of a multiple
+pub at_scaled4 : (s : ℤ) (a : List ℤ) (k : ℕ) → k < 5 → at (scaled4 s a) k ≡ s *ℤ at a k
+at_scaled4 s a zero h = refl
+at_scaled4 s a (suc zero) h = refl
+at_scaled4 s a (suc (suc zero)) h = refl
+at_scaled4 s a (suc (suc (suc zero))) h = refl
+at_scaled4 s a (suc (suc (suc (suc zero)))) h = refl
+at_scaled4 s a (suc (suc (suc (suc (suc k))))) h = absurd (omega arith)

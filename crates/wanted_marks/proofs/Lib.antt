@@ -5,6 +5,8 @@ pub mod WordByWord
 pub mod Stepping
 pub mod Fitting
 pub mod Exceeding
+pub mod Hulls
+pub mod Bending
 pub mod Dropping
 pub mod Widest
 pub mod OnRays

@@ -23,6 +23,7 @@ use Rattle.wanted_marks.specs.declared.line.Line.{Line}
 use Rattle.wanted_marks.specs.declared.sheet.Sheet.{Sheet}
 use Rattle.wanted_marks.specs.Lines.{HasForms, IsLineOf, IsThrough, d_step, u_step}
 use Rattle.wanted_marks.specs.Sheets.{FitsOn}
+use Rattle.wanted_marks.proofs.Bending.{bend_small}
 use Rattle.wanted_marks.proofs.Fitting.{spread_fits}
 use Rattle.wanted_marks.proofs.Stepping.{HasRay, forms_are}
 use Rattle.wanted_marks.specs.Widths.{whole_width}
@@ -108,5 +109,6 @@ line_of_ray line r k n S e few sweep is first last all =
         width = small_as (forms l).width (width_small m (point_of r.grid r.ray l) S sweep (point l below) few);
         height = subst (IsBounded2 (3 * (offset_limit * axis_limit))) (sym (forms l).height) (heights_bounded m (point_of r.grid r.ray l) S sweep (point l below) few);
       };
+      bends = λ h below. bend_small line m o x y (point_of r.grid r.ray h) S (pos h) is (along_ray r k h) sweep first (point h below) few;
       forms = λ l below. subst (λ z. HasForms line (pos l) m (point_of r.grid r.ray l) z) e (forms l);
     }

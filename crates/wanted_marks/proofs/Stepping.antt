@@ -41,10 +41,10 @@ offset_moves m o first next p t s l line =
     (ap (λ z. offset t s z (at m.from 2) (at m.to 2)) line.z ∙ component_moves t s (at m.from 2) (at m.to 2) (at o 2) (at first 2) (at next 2) l)
 
 -- scalar products
-abbrev dot3 : (ℕ → Term) → (ℕ → Term) → Term
+abbrev pub dot3 : (ℕ → Term) → (ℕ → Term) → Term
 dot3 p a = add (add (mul (p 0) (a 0)) (mul (p 1) (a 1))) (mul (p 2) (a 2))
 
-abbrev cross3 : (ℕ → Term) → (ℕ → Term) → (ℕ → Term) → (ℕ → Term) → Term
+abbrev pub cross3 : (ℕ → Term) → (ℕ → Term) → (ℕ → Term) → (ℕ → Term) → Term
 cross3 p q a c = add (add (add (mul (p 0) (c 0)) (mul (q 0) (a 0))) (add (mul (p 1) (c 1)) (mul (q 1) (a 1)))) (add (mul (p 2) (c 2)) (mul (q 2) (a 2)))
 
 u_first : (o p a c v : List ℤ) (l : ℤ) → at (dot_on_cell (moved3 o v l) (moved3 p v l) a c) 0 ≡ at (dot_on_cell o p a c) 0 +ℤ l *ℤ at (dot_on_cell v v a c) 0
@@ -97,7 +97,7 @@ conv a b (suc (suc zero)) = add (add (mul (a 0) (b 2)) (mul (a 1) (b 1))) (mul (
 conv a b (suc (suc (suc zero))) = add (mul (a 1) (b 2)) (mul (a 2) (b 1))
 conv a b (suc (suc (suc (suc k)))) = mul (a 2) (b 2)
 
-abbrev spread : ℕ → (ℕ → Term) → (ℕ → Term) → (ℕ → Term) → (ℕ → Term) → ℕ → Term
+abbrev pub spread : ℕ → (ℕ → Term) → (ℕ → Term) → (ℕ → Term) → (ℕ → Term) → ℕ → Term
 spread by d n u v k = mul (num (pos by)) (sub (conv d n k) (conv u v k))
 
 pub width_moves : (n u w d f g : List ℤ) (l : ℤ)

@@ -55,3 +55,12 @@ told_is false w s p = refl
 
 pub told_of : (told o s p w sure possible : Bool) → told ≡ (if o then s else p) → s ≡ (w && sure) → p ≡ (w && possible) → told ≡ (w && (if o then sure else possible))
 told_of told o s p w sure possible e es ep = e ∙ ap (λ x. if o then x else p) es ∙ ap (λ x. if o then (w && sure) else x) ep ∙ told_is o w sure possible
+
+-- where no wanted point is told
+pub none_told : (none w t : Bool) → none ≡ false → (w ≡ true → t ≡ false) → none ≡ (w && t)
+none_told none true t e h = e ∙ sym (h refl)
+none_told none false t e h = e
+
+pub neither : (o s p : Bool) → s ≡ false → p ≡ false → (if o then s else p) ≡ false
+neither true s p es ep = es
+neither false s p es ep = ep

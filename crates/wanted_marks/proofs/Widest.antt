@@ -10,8 +10,9 @@ use Rattle.space.proofs.Solver.{Term, var, num, add, mul, ring}
 use Rattle.space.proofs.Terms.{from}
 use Rattle.space.proofs.Tests.{decides_lt}
 use Rattle.bern_form.specs.Cells.{scaled_square}
-use Rattle.bern_form.specs.Forms.{lifted, scaled2}
+use Rattle.bern_form.specs.Forms.{IsSmall, lifted, scaled2}
 use Rattle.bern_form.specs.Slab.{SlabSize}
+use Rattle.bern_form.proofs.HalfSigns.{all_five}
 use Rattle.axis_cells.specs.Exclusion.{squared}
 use Rattle.wanted_marks.specs.Limits.{IsNoWider, IsWithinLimits, all_not_below_zero, not_below_zero}
 use Rattle.wanted_marks.proofs.Exceeding.{not_less}
@@ -23,6 +24,16 @@ at_least_itself z =
 
 pub at_least_none : (z : ℤ) → pos 0 ≤ℤ not_below_zero z
 at_least_none z = cond_both (int_lt z (pos 0)) (pos 0) z (λ x. pos 0 ≤ℤ x) (λ below. omega (arith, ints)) (λ above. not_less z (pos 0) above)
+
+-- and it stays small
+clamped_one : (z : ℤ) → IsSmall z → IsSmall (not_below_zero z)
+clamped_one z small = cond_both (int_lt z (pos 0)) (pos 0) z IsSmall (λ below. omega arith) (λ above. small)
+
+pub clamped_small : (c : List ℤ) → All IsSmall (at c 0 ∷ at c 1 ∷ at c 2 ∷ at c 3 ∷ at c 4 ∷ []) → All IsSmall (all_not_below_zero c)
+clamped_small c h =
+    all_five IsSmall (not_below_zero (at c 0)) (not_below_zero (at c 1)) (not_below_zero (at c 2)) (not_below_zero (at c 3)) (not_below_zero (at c 4))
+    (clamped_one (at c 0) (h 0 (pos 0) (omega arith))) (clamped_one (at c 1) (h 1 (pos 0) (omega arith))) (clamped_one (at c 2) (h 2 (pos 0) (omega arith)))
+    (clamped_one (at c 3) (h 3 (pos 0) (omega arith))) (clamped_one (at c 4) (h 4 (pos 0) (omega arith)))
 
 -- squares of lengths that aren't below 0
 square_of : (S x : ℕ) → scaled_square S (pos x) ≡ pos ((S * x) * (S * x))

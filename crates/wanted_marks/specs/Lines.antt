@@ -4,7 +4,7 @@ use Rattle.space.specs.Motion.{Motion, axis_at, offset_at}
 use Rattle.space.specs.Vectors.{at}
 use Rattle.bern_form.specs.Between.{n_between, u_between}
 use Rattle.bern_form.specs.Cells.{dot_on_cell}
-use Rattle.bern_form.specs.Forms.{IsSmall}
+use Rattle.bern_form.specs.Forms.{IsSmall, scaled4}
 use Rattle.bern_form.specs.Sizes.{IsBounded2, axis_limit, offset_limit}
 use Rattle.ray_grid.specs.Lattice.{point_of, points_of}
 use Rattle.wanted_marks.specs.declared.line.Line.{Line}
@@ -25,6 +25,10 @@ coefficient_at line k l = quadratic (at line.constant.c k) (at line.first.c k) (
 abbrev pub height_at : Line → ℕ → ℤ → ℤ
 height_at line k l = at line.height.c k +ℤ l *ℤ at line.height_step.c k
 
+-- what the width form bends by over h steps: its second difference times h^2
+abbrev pub bend_over : Line → ℤ → List ℤ
+bend_over line h = scaled4 (h *ℤ h) line.second.c
+
 -- they fit 128 bits
 pub record FitsAt (line : Line) (l : ℤ) : Type 0 where
   pub width : All IsSmall (width_at line l)
@@ -39,9 +43,10 @@ pub record HasForms (line : Line) (l : ℤ) (m : Motion) (p : List ℤ) (S : ℕ
 abbrev pub HasFormsIn : Line → ℤ → MoveOf → List ℤ → Type 0
 HasFormsIn line l v p = HasForms line l v.motion p (2 ^ v.depth)
 
--- the line runs through the points of the ray
+-- the line runs through the points of the ray, and what the width form bends by from one of them to another fits
 pub record IsLineOf (line : Line) (r : RayOf) : Type 0 where
   pub fits : (l : ℕ) → l < points_of r.grid r.ray.family → FitsAt line (pos l)
+  pub bends : (h : ℕ) → h < points_of r.grid r.ray.family → All IsSmall (bend_over line (pos h))
   pub forms : (l : ℕ) → l < points_of r.grid r.ray.family → HasFormsIn line (pos l) r.sweep (point_of r.grid r.ray l)
 
 -- what u grows by with a step v, which is taken times S; and half of what d grows by, from the point s on, but for |v|^2

@@ -1,6 +1,7 @@
 -- What is known of a move of a cutter that is ready for marks.
-use Rattle.std.specs.Prelude.{◌≡◌, ℕ, ◌^◌, ◌≤◌, ℤ, List, true}
+use Rattle.std.specs.Prelude.{◌≡◌, ℕ, ◌^◌, ◌≤◌, ℤ, List, true, All}
 use Rattle.space.specs.Motion.{IsSweep}
+use Rattle.bern_form.specs.Forms.{IsSmall}
 use Rattle.bern_form.specs.Sizes.{scale_limit}
 use Rattle.wanted_marks.specs.Limits.{AreLimits}
 use Rattle.wanted_marks.specs.Rays.{MoveOf, is_possible_in, is_sure_in}
@@ -16,3 +17,4 @@ pub record IsReadyMove (scale : ℕ) (first last n limits : List ℤ) (v : MoveO
   pub few : scale ≤ scale_limit
   pub turn : IsTurn first last n v.motion scale
   pub limits_are : AreLimits limits v
+  pub limits_small : All IsSmall limits

@@ -1,6 +1,7 @@
 //! The marks of a ray's wanted points, a word of 64 at a time.
 #![tactic(auto)]
 
+mod hull;
 mod limits;
 mod line;
 mod move_marker;

@@ -1,4 +1,5 @@
 ghost use Rattle.std.specs.Prelude.{◌≡◌, ◌*◌, ◌≤◌, ◌≤ℤ◌, ◌⊎◌, pos, All};
+ghost use Rattle.bern_form.specs.Forms.{IsSmall};
 ghost use Rattle.bern_form.specs.Sizes.{IsBounded2, axis_limit, scale_limit};
 ghost use Rattle.axis_cells.specs.Exclusion.{squared};
 ghost use Rattle.wanted_marks.specs.Limits.{IsNoWider, all_not_below_zero, not_below_zero};
@@ -53,7 +54,8 @@ pub fn limits_of(n: &Form2, scale: u32, diameter: i32) -> [i128; 5]
     requires scale { scale ≤ scale_limit }
     requires not_negative { pos 0 ≤ℤ diameter }
     requires few { diameter ≤ℤ pos 200000 }
-    ensures { result ≡ all_not_below_zero (squared (pos scale) diameter n.now.c) }
+    ensures value { result ≡ all_not_below_zero (squared (pos scale) diameter n.now.c) }
+    ensures small { All IsSmall result }
 {
     let [a, b, c, d, e] = lift24(&scale2(n, scaled_square(scale, diameter))).c;
     [

@@ -88,6 +88,16 @@ impl Line {
         }
     }
 
+    /// A coefficient of the width form, of the point l steps on.
+    #[inline]
+    pub fn width(&self, k: usize, l: u32) -> i128
+        requires place { k < 5 }
+        requires small { IsSmall (coefficient_at self.now k (pos l)) }
+        ensures { result ≡ coefficient_at self.now k (pos l) }
+    {
+        quadratic(self.constant.c[k], self.first.c[k], self.second.c[k], l)
+    }
+
     /// Whether a coefficient at the point l steps on is above its limit.
     #[inline]
     fn is_above(&self, k: usize, l: u32, limit: i128) -> bool
@@ -95,16 +105,17 @@ impl Line {
         requires small { IsSmall (coefficient_at self.now k (pos l)) }
         ensures { result ≡ int_lt limit (coefficient_at self.now k (pos l)) }
     {
-        limit < quadratic(self.constant.c[k], self.first.c[k], self.second.c[k], l)
+        limit < self.width(k, l)
     }
 
-    /// Whether each coefficient at the point l steps on is above its limit.
+    /// Whether each coefficient at the point l steps on is above its limit. The last one is looked at first, for it is the one that
+    /// most often isn't.
     pub fn exceed(&self, l: u32, limits: &[i128; 5]) -> bool
         requires { FitsAt self.now (pos l) }
         ensures { result ≡ all_positive (difference4 (width_at self.now (pos l)) limits.now) }
     {
         for k in 0..5 {
-            if !self.is_above(k, l, limits[k]) {
+            if !self.is_above(4 - k, l, limits[4 - k]) {
                 return false;
             }
         }
@@ -152,6 +163,6 @@ impl Line {
         requires { FitsAt self.now (pos l) }
         ensures { result ≡ at (width_at self.now (pos l)) 4 }
     {
-        quadratic(self.constant.c[4], self.first.c[4], self.second.c[4], l)
+        self.width(4, l)
     }
 }

@@ -1,3 +1,4 @@
+use crate::hull::{are_behind, are_beside};
 use crate::limits::{greatest_diameter, limits_of};
 use crate::line::Line;
 use crate::ray_marker::RayMarker;
@@ -37,12 +38,13 @@ impl<'a> Model for MoveMarker<'a> {
 }
 
 impl<'a> MoveMarker<'a> {
-    ghost use Rattle.std.specs.Prelude.{◌≡◌, ◌^◌, ◌<◌, ◌≤◌, ℕ, ℤ, List, pos, IsTrue};
+    ghost use Rattle.std.specs.Prelude.{◌≡◌, ◌^◌, ◌<◌, ◌≤◌, ◌-◌, ℕ, ℤ, List, pos, IsTrue, All};
     ghost use Rattle.std.specs.Option.{IfSome};
     ghost use Rattle.space.specs.Ranges.{IsPoint};
     ghost use Rattle.ray_grid.specs.Families.{first_axis};
     ghost use Rattle.ray_grid.specs.Lattice.{IsRay, nodes_of};
-    ghost use Rattle.wanted_marks.specs.Lines.{FitsAt, HasFormsIn, IsLineOf};
+    ghost use Rattle.bern_form.specs.Forms.{IsSmall};
+    ghost use Rattle.wanted_marks.specs.Lines.{FitsAt, HasFormsIn, IsLineOf, bend_over};
     ghost use Rattle.wanted_marks.specs.Rays.{IsClearOf, IsRemovedBy, is_possible_in, is_sure_in, move_of};
     ghost use Rattle.wanted_marks.specs.Strips.{IsSheetOf};
     ghost use Rattle.wanted_marks.specs.Told.{tells_possible, tells_sure};
@@ -172,6 +174,24 @@ impl<'a> MoveMarker<'a> {
             return true;
         }
         line.exceed(l, limits)
+    }
+
+    /// Whether the points from the one l steps on to the one m steps on are all behind the tip throughout the move, or all beside
+    /// every outer slab.
+    pub(crate) fn are_apart(&self, line: &Line, l: u32, m: u32) -> bool
+        requires order { l ≤ m }
+        requires few { m - l < 64 }
+        requires first { FitsAt line.now (pos l) }
+        requires last { FitsAt line.now (pos m) }
+        requires bend { All IsSmall (bend_over line.now (pos (m - l))) }
+        ensures { IsTrue result → (x : ℕ) → l ≤ x → x ≤ m → (p : List ℤ) → HasFormsIn line.now (pos x) self.now p
+            → IsClearOf self.now p }
+    {
+        let limits = &self.limits;
+        if are_behind(line, l, m) {
+            return true;
+        }
+        are_beside(line, l, m, limits)
     }
 
     /// Whether some inner slab holds the point l steps on at the last sample. It is then sure.

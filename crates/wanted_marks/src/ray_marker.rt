@@ -1,6 +1,6 @@
 use crate::line::Line;
 use crate::move_marker::MoveMarker;
-use crate::word::{WordMarks, chosen_bits, without_bit};
+use crate::word::{WordMarks, chosen_bits, highest_bit, without_bit};
 use axis_cells::Mark;
 use ray_grid::{Grid, Ray};
 use std::marker::Model;
@@ -27,7 +27,7 @@ impl<'a> Model for RayMarker<'a> {
 }
 
 impl<'a> RayMarker<'a> {
-    ghost use Rattle.std.specs.Prelude.{◌≡◌, ℕ, ◌<◌, IsTrue};
+    ghost use Rattle.std.specs.Prelude.{◌≡◌, ℕ, ◌+◌, ◌-◌, ◌<◌, ◌≤◌, true, IsTrue};
     ghost use Rattle.std.specs.Option.{IfSome};
     ghost use Rattle.ray_grid.specs.Lattice.{IsRay, point_of, points_of};
     ghost use Rattle.vf_spans.specs.Words.{has_bit};
@@ -75,6 +75,35 @@ impl<'a> RayMarker<'a> {
             None => false,
             Some(line) => self.mover.is_apart(line, l),
         }
+    }
+
+    /// Whether the points from one index to another are all behind the tip throughout the move, or all beside every outer slab.
+    #[inline]
+    fn are_apart(&self, l: u32, m: u32) -> bool
+        requires order { l ≤ m }
+        requires few { m - l < 64 }
+        requires within { m < points_of self.now.grid self.now.ray.family }
+        ensures { IsTrue result → (x : ℕ) → l ≤ x → x ≤ m → IsClearOf self.now.sweep (point_of self.now.grid self.now.ray x) }
+    {
+        match &self.line {
+            None => false,
+            Some(line) => self.mover.are_apart(line, l, m),
+        }
+    }
+
+    /// Whether the points of these bits are apart, for which all points from the lowest of them to the highest have to be.
+    #[inline]
+    fn are_bits_apart(&self, first: u32, bits: u64) -> bool
+        requires { AreOnRay self.now first bits }
+        ensures { IsTrue result → (b : ℕ) → b < 64 → has_bit bits b ≡ true
+            → IsClearOf self.now.sweep (point_of self.now.grid self.now.ray (first + b)) }
+    {
+        // The points are few by the type, which is known where a field is seen.
+        let _few = &self.ray;
+        if bits == 0 {
+            return true;
+        }
+        self.are_apart(first + lowest_bit(bits), first + highest_bit(bits))
     }
 
     /// Whether some inner slab holds the point at an index at the last sample. It is then sure.
@@ -136,6 +165,12 @@ impl<'a> RayMarker<'a> {
         ensures sure { (b : ℕ) → b < 64 → has_bit result.sure b ≡ is_sure_bit self.now first wanted b }
         ensures possible { (b : ℕ) → b < 64 → has_bit result.possible b ≡ is_told_bit self.now first wanted sure_only b }
     {
+        if self.are_bits_apart(first, wanted) {
+            return WordMarks {
+                sure: 0,
+                possible: 0,
+            };
+        }
         let marks = self.mark_each(first, wanted);
         WordMarks {
             sure: marks.sure,

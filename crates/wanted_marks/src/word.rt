@@ -1,4 +1,4 @@
-ghost use Rattle.std.specs.Prelude.{◌≡◌, ℕ, ◌<◌, ◌&&◌, not, nat_eq, true, if◌then◌else◌};
+ghost use Rattle.std.specs.Prelude.{◌≡◌, ℕ, ◌<◌, ◌&&◌, not, nat_eq, true, false, if◌then◌else◌};
 ghost use Rattle.vf_spans.specs.Words.{has_bit};
 ghost use Rattle.wanted_marks.specs.Told.{tells_possible, tells_sure, with_told};
 
@@ -13,6 +13,17 @@ pub fn without_bit(word: u64, b: u32) -> u64
     ensures less { has_bit word b ≡ true → result < word }
 {
     word & !(1 << b)
+}
+
+/// The highest bit that is set.
+#[inline]
+pub fn highest_bit(word: u64) -> u32
+    requires { 0 < word }
+    ensures within { result < 64 }
+    ensures set { has_bit word result ≡ true }
+    ensures highest { (k : ℕ) → result < k → has_bit word k ≡ false }
+{
+    63 - word.leading_zeros()
 }
 
 /// The bits of the second word in these places, and elsewhere those of the first.

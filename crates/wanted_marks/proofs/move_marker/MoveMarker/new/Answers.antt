@@ -25,7 +25,7 @@ invariant_of-result c =
     let fits : FitsSigned w32 widest = search rules in
     let n_is : turn.result.n.c ≡ n_between m 0 S S = turn.ensures.n_is ∙ ap (λ k. n_between m 0 k k) scale.ensures.cells in
     let limits : c.limits_of-limits.result ≡ all_not_below_zero (squared (pos S) widest (n_between m 0 S S)) =
-    (simp to_z-of_z at c.limits_of-limits.ensures) ∙ ap₂ (λ k n. all_not_below_zero (squared (pos k) widest n)) scale.ensures.cells n_is in
+    (simp to_z-of_z at c.limits_of-limits.ensures.value) ∙ ap₂ (λ k n. all_not_below_zero (squared (pos k) widest n)) scale.ensures.cells n_is in
     record {
       shallow = c.requires;
       valid = valid;
@@ -35,4 +35,5 @@ invariant_of-result c =
       few = scale.ensures.few;
       turn = turn.ensures;
       limits_are = all_within S widest (n_between m 0 S S) c.limits_of-limits.result _ limits (subst (λ (l : List SlabSize). All (IsNoWider widest) l) c.outer.ensures.stack c.greatest_diameter.ensures.greatest);
+      limits_small = c.limits_of-limits.ensures.small;
     }

@@ -1,0 +1,16 @@
+use Rattle.std.proofs.Common.{◌+◌, ◌≤◌, arith, ap, subst, sym, ◌∙◌}
+use Rattle.vf_spans.specs.Words.{has_bit}
+use Rattle.wanted_marks.specs.Rays.{IsRayOf}
+use Rattle.vf_spans.proofs.WordBits.{has_bit-zero}
+use Rattle.wanted_marks.proofs.BitLemmas.{at_least, at_most}
+use Rattle.wanted_marks.proofs.ray_marker.RayMarker.are_bits_apart.Goals as goal
+
+pub returns-then-bits-eq0 : goal.returns-then-bits-eq0
+returns-then-bits-eq0 c = λ yes b below set. let none = ap (λ z. has_bit z b) c.if-bits-eq0.true ∙ has_bit-zero b in absurd (cc)
+
+pub returns : goal.returns
+returns c = λ yes b below set.
+    let low = c.lowest_bit in let high = c.highest_bit in
+    c.are_apart.ensures yes (c.args.first + b)
+    (let l = at_least c.args.bits low.result b low.ensures.lowest set in omega (arith, l))
+    (let l = at_most c.args.bits high.result b high.ensures.highest set in omega (arith, l))
