@@ -4,8 +4,8 @@ ghost use Rattle.bern_form.specs.Sizes.{axis_limit, offset_limit, scale_limit};
 ghost use Rattle.bern_form.specs.Slab.{covers};
 ghost use Rattle.axis_cells.specs.Exclusion.{covered_by_some};
 
-use axis_cells::scaled_square;
 use bern_form::Slab;
+use width_bisect::{product, scaled_square};
 
 /// n times the square of a length that is taken times the scale.
 #[inline]
@@ -15,7 +15,8 @@ fn squared(scale: u32, length: i32, n: i128) -> i128
     requires n { unsigned_abs n ≤ 3 * (axis_limit * axis_limit) }
     ensures { result ≡ scaled_square scale length *ℤ n }
 {
-    scaled_square(scale, length) * n
+    // n fits 64 bits, and the square does.
+    product(scaled_square(scale, length), n as i64)
 }
 
 /// Whether a square is at least that of a length, times n.

@@ -14,4 +14,5 @@ mod turn;
 mod whole;
 
 pub use forms::WholeForms;
+pub use length::{product, scaled_square};
 pub use point::mark_by_forms;
