@@ -17,8 +17,9 @@ use Rattle.job_model.specs.Points.{left_moves, moves_of, strip_points, totals_af
 use Rattle.job_model.specs.Tasks.{Job, JobMove, PlanOf}
 use Rattle.strip_journal.specs.Strips.{AddsFound, IsFoundAt, StripOf, most_before}
 use Rattle.strip_plan.specs.Plans.{HasNumber}
-use Rattle.job_run.specs.Founds.{AreLeft, HaveFound, first_points, rows_of}
+use Rattle.job_run.specs.Founds.{AreBroughtUp, AreLeft, HaveFound, first_points, rows_of}
 use Rattle.job_run.specs.Left.{IsBelow}
+use Rattle.job_run.specs.declared.left.LeftMove.{LeftMove}
 use Rattle.job_run.specs.Strips.{AreAt, strip_with}
 use Rattle.job_run.proofs.Listed.{rows_found}
 use Rattle.job_run.proofs.Parts.{all_within, first_all, found_more, room_for, totals_more, totals_within, within_room}
@@ -112,13 +113,9 @@ found_all job left strips k counts are le found =
     subst (λ (points : List LatticePoint). HaveFound job points counts)
     (first_all job.plan.grid k (omega (arith, are.strips_are.first.many))) found
 
--- strips at the last version, with so many moves that are left
-pub left_from : (plan : PlanOf) (job : Job) (left : ℕ) (strips : List StripOf) → AreAt plan job (length plan.edits) strips
-    → left ≡ length (left_of plan.edits) → All (IsBelow (length plan.moves)) (left_of plan.edits) → AreLeft job left strips
-left_from plan job left strips at many named =
-    let F : PlanOf → Type 0 = λ p. AreAt p job (length p.edits) strips → left ≡ length (left_of p.edits)
-    → All (IsBelow (length p.moves)) (left_of p.edits) → AreLeft job left strips in
-    subst F at.plan_is (λ a m n. record { strips_are = a; many = m; named = n }) at many named
+-- strips at the last version, with so many moves that are told
+pub left_up : (job : Job) (left : List LeftMove) (strips : List StripOf) → AreBroughtUp job left strips → AreLeft job (length left) strips
+left_up job left strips up = record { strips_are = up.strips_are; many = up.told.all.many; named = up.told.named }
 
 -- their rows are what is found of the moves that are left
 pub rows_of_left : (plan : PlanOf) (job : Job) (counts : List Counts) → job.plan ≡ plan

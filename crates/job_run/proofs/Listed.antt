@@ -13,8 +13,10 @@ use Rattle.job_model.specs.Findings.{found_by, found_from, found_over}
 use Rattle.job_model.specs.Points.{moves_of}
 use Rattle.job_model.specs.Tasks.{Job, JobMove, PlanOf}
 use Rattle.strip_plan.specs.Plans.{HasNumber}
-use Rattle.job_run.specs.Founds.{found_with, row_of, rows_of}
-use Rattle.job_run.specs.Left.{IsBelow}
+use Rattle.edit_plan.specs.Edits.{left_of}
+use Rattle.job_run.specs.Founds.{found_told, found_with, row_of, rows_of}
+use Rattle.job_run.specs.Left.{AreTold, IsBelow, IsTold}
+use Rattle.job_run.specs.declared.left.LeftMove.{LeftMove}
 
 -- a number below the length has one element
 alone : {X : Type 0} (xs : List X) (i : ℕ) (d : X) → i < length xs → take 1 (drop i xs) ≡ get_or xs i d ∷ []
@@ -82,3 +84,17 @@ rows_found job ahead (n ∷ numbers) (x ∷ counts) e named each =
     (λ j number m at has. each (suc j) number m at has
     ∙ ap (λ l. found_over job points (moves_of job.plan l) m) (sym (append_assoc ahead (n ∷ []) (take j numbers)))) in
     ap₂ (λ (a b : List Found). a ++ b) head rest
+
+-- the row of a move as it is told
+pub told_row : (plan : PlanOf) (left : List LeftMove) (j : ℕ) (one : LeftMove) (counts : Counts) → AreTold plan left
+    → slice_get left j ≡ Some one → found_told one counts ∷ [] ≡ row_of plan (get_or (left_of plan.edits) j 0) counts
+told_row plan left j one counts told at =
+    let number : ℕ = get_or (left_of plan.edits) j 0 in
+    let here : IsTold plan number one = told.all.each j one at in
+    row_is plan number counts (found_told one counts) here.below
+    (λ move has. λ i. record {
+      number = here.number_is i + 1;
+      line = here.line move has i;
+      rapid = here.rapid move has i;
+      counts = counts;
+    })

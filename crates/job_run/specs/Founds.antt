@@ -13,7 +13,8 @@ use Rattle.job_model.specs.Points.{moves_of}
 use Rattle.job_model.specs.Tasks.{Job, JobMove, PlanOf}
 use Rattle.strip_journal.specs.Strips.{StripOf}
 use Rattle.strip_plan.specs.Plans.{HasNumber}
-use Rattle.job_run.specs.Left.{IsBelow}
+use Rattle.job_run.specs.declared.left.LeftMove.{LeftMove}
+use Rattle.job_run.specs.Left.{AreTold, IsBelow}
 use Rattle.job_run.specs.Strips.{AreAt}
 
 -- the points of the first so many strips
@@ -31,6 +32,20 @@ pub record HaveFound (job : Job) (points : List LatticePoint) (counts : List Cou
   pub many : length counts ≡ length (left_of job.plan.edits)
   pub each : (j number : ℕ) (move : JobMove) → slice_get (left_of job.plan.edits) j ≡ Some number → HasNumber job.plan number move
       → slice_index_or counts j no_counts ≡ found_over job points (moves_of job.plan (take j (left_of job.plan.edits))) move
+
+-- all strips of the job after all its edits, with the moves that are left, as they are told
+pub record AreBroughtUp (job : Job) (left : List LeftMove) (strips : List StripOf) : Type 0 where
+  pub strips_are : AreAt job.plan job (length job.plan.edits) strips
+  pub told : AreTold job.plan left
+
+-- all strips of the job after all its edits, which are so many
+pub record AreLast (job : Job) (edits : ℕ) (strips : List StripOf) : Type 0 where
+  pub strips_are : AreAt job.plan job (length job.plan.edits) strips
+  pub many : edits ≡ length job.plan.edits
+
+-- what is reported of a move as it is told, with its counts
+abbrev pub found_told : LeftMove → Counts → Found
+found_told left counts = record { number = left.number + 1; line = left.line; rapid = left.rapid; counts = counts }
 
 -- what is reported of a move with its number and its counts
 abbrev pub found_with : ℕ → Counts → JobMove → Found

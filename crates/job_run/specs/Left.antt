@@ -1,6 +1,9 @@
 -- The moves that are left.
-use Rattle.std.specs.Prelude.{ℕ, ◌<◌, List}
-use Rattle.edit_plan.specs.Edits.{MoveLists}
+use Rattle.std.specs.Prelude.{◌≡◌, ℕ, ◌<◌, List, All, Some, length, slice_get, slice_index}
+use Rattle.edit_plan.specs.Edits.{MoveLists, left_of}
+use Rattle.job_model.specs.Tasks.{JobMove, PlanOf}
+use Rattle.strip_plan.specs.Plans.{HasNumber}
+use Rattle.job_run.specs.declared.left.LeftMove.{LeftMove}
 
 -- a number below another
 abbrev pub IsBelow : ℕ → ℕ → Type 0
@@ -9,3 +12,20 @@ IsBelow most number = number < most
 -- the two lists by which edits are followed
 abbrev pub lists_with : List ℕ → List ℕ → MoveLists
 lists_with left dropped = record { left = left; dropped = dropped }
+
+-- a move as it is told: the plan's with that number
+pub record IsTold (plan : PlanOf) (number : ℕ) (told : LeftMove) : Type 0 where
+  pub number_is : told.number ≡ number
+  pub below : number < length plan.moves
+  pub line : (move : JobMove) → HasNumber plan number move → told.line ≡ move.line
+  pub rapid : (move : JobMove) → HasNumber plan number move → told.rapid ≡ move.rapid
+
+-- so many of the moves with these numbers, from the first on, each as it is told
+pub record AreFirstTold (plan : PlanOf) (numbers : List ℕ) (count : ℕ) (told : List LeftMove) : Type 0 where
+  pub many : length told ≡ count
+  pub each : (j : ℕ) (one : LeftMove) → slice_get told j ≡ Some one → IsTold plan (slice_index numbers j) one
+
+-- the moves that are left, each as it is told, in order
+pub record AreTold (plan : PlanOf) (told : List LeftMove) : Type 0 where
+  pub named : All (IsBelow (length plan.moves)) (left_of plan.edits)
+  pub all : AreFirstTold plan (left_of plan.edits) (length (left_of plan.edits)) told

@@ -1,11 +1,19 @@
-ghost use Rattle.std.specs.Prelude.{◌≡◌, ◌++◌, All, IfOk, OnOk, length};
+ghost use Rattle.std.specs.Prelude.{◌≡◌, ◌++◌, ◌<◌, All, IfOk, OnOk, length};
 ghost use Rattle.edit_plan.specs.Edits.{after_edit, all_but_last, last_alone, left_of};
-ghost use Rattle.job_run.specs.Left.{IsBelow, lists_with};
+ghost use Rattle.job_run.specs.Left.{AreTold, IsBelow, IsTold, lists_with};
 
 use edit_plan::Edit;
 use std::alloc::Global;
 use strip_plan::Plan;
 use vf_io::NoMemory;
+
+/// A move that is left, as the plan tells it: its number from 0, the line of its record, and whether it is rapid.
+#[derive(Clone, Copy, Debug, PartialEq, Eq)]
+pub struct LeftMove {
+    pub number: u32,
+    pub line: u32,
+    pub rapid: bool,
+}
 
 /// Takes the last item of a list to the end of another, if there is one.
 fn move_last(from: &mut Vec<u32>, to: &mut Vec<u32>) -> Result<(), NoMemory>
@@ -34,7 +42,7 @@ fn take_edit(left: &mut Vec<u32>, dropped: &mut Vec<u32>, edit: Edit) -> Result<
 }
 
 /// The numbers of the moves that are left after all edits.
-pub fn left_moves(alloc: Global, plan: &Plan) -> Result<Vec<u32>, NoMemory>
+fn left_numbers(alloc: Global, plan: &Plan) -> Result<Vec<u32>, NoMemory>
     ensures left { IfOk result (λ left. left.items ≡ left_of plan.now.edits) }
     ensures named { IfOk result (λ left. All (IsBelow (length plan.now.moves)) left.items) }
 {
@@ -44,4 +52,28 @@ pub fn left_moves(alloc: Global, plan: &Plan) -> Result<Vec<u32>, NoMemory>
         take_edit(&mut left, &mut dropped, plan.edit(version))?;
     }
     Ok(left)
+}
+
+/// A move of the plan, as it is told.
+fn told_of(plan: &Plan, number: u32) -> LeftMove
+    requires { number < length plan.now.moves }
+    ensures { IsTold plan.now number result }
+{
+    LeftMove {
+        number,
+        line: plan.line(number),
+        rapid: plan.is_rapid(number),
+    }
+}
+
+/// The moves that are left after all edits, in order.
+pub fn left_moves(alloc: Global, plan: &Plan) -> Result<Vec<LeftMove>, NoMemory>
+    ensures { IfOk result (λ told. AreTold plan.now told.items) }
+{
+    let numbers = left_numbers(alloc, plan)?;
+    let mut told = Vec::with_capacity(alloc, numbers.len())?;
+    for j in 0..numbers.len() {
+        told.push(told_of(plan, numbers[j]))?;
+    }
+    Ok(told)
 }

@@ -1,4 +1,4 @@
-ghost use Rattle.std.specs.Prelude.{◌≡◌, ◌≤◌, All, IfOk, IsTrue, length};
+ghost use Rattle.std.specs.Prelude.{◌≡◌, ◌×◌, ◌<◌, ◌≤◌, All, IfOk, IsTrue, length};
 ghost use Rattle.edit_plan.specs.Limits.{most_queries};
 ghost use Rattle.edit_plan.specs.Queries.{IsQuery};
 ghost use Rattle.job_facts.specs.Facts.{are_answered};
@@ -8,6 +8,7 @@ ghost use Rattle.job_run.specs.Steps.{asked_with};
 
 use crate::bodies::JobBodies;
 use crate::facts::{found_moves, last_totals};
+use crate::left::left_moves;
 use crate::strips::fresh_strips;
 use crate::versions::bring_up;
 use edit_plan::{Ask, Query};
@@ -32,29 +33,30 @@ fn answered(
     Ok(pairs)
 }
 
-/// Does a whole job, and gives what is reported of it. Fails only for want of memory.
+/// Does a whole job by so many workers, and gives what is reported of it. Fails only for want of memory.
 pub fn run_job(
     alloc: Global,
-    plan: &Plan,
+    plan: Plan,
     bodies: &JobBodies,
     passed: u32,
     queries: &[Query],
 ) -> Result<Facts, NoMemory>
-    requires queries { All (IsQuery plan.now.grid (length plan.now.edits)) queries.now }
+    requires queries { All (IsQuery plan.grid (length plan.edits)) queries.now }
     requires few { length queries.now ≤ most_queries }
-    // What the definitions say, point by point, of the whole lattice.
+    // What the definitions say, point by point, of the whole lattice, whoever does which part when.
     ensures facts { IfOk result (λ facts. facts
-        ≡ facts_of record { job = job_with plan.now bodies.now; passed = passed; queries = queries.now }) }
+        ≡ facts_of record { job = job_with plan bodies.now; passed = passed; queries = queries.now }) }
     ensures answered { IfOk result (λ facts. IsTrue (are_answered facts.answers)) }
 {
-    let mut made = fresh_strips(alloc, plan, bodies)?;
-    let strips = made.as_mut_slice();
-    let answers = bring_up(alloc, strips, plan, queries)?;
-    let left = found_moves(alloc, plan, strips)?;
-    let totals = last_totals(plan, strips);
+    let (moves, edits) = (plan.moves(), plan.edits());
+    let left = left_moves(alloc, &plan)?;
+    let mut strips = fresh_strips(alloc, &plan, bodies)?;
+    let answers = bring_up(alloc, strips.as_mut_slice(), &plan, queries)?;
+    let left = found_moves(alloc, &left, &strips)?;
+    let totals = last_totals(edits, &strips);
     let answers = answered(alloc, queries, &answers)?;
     Ok(Facts {
-        moves: plan.moves(),
+        moves,
         passed,
         left,
         answers,

@@ -1,9 +1,5 @@
-use Rattle.std.proofs.Common.{◌≡◌, All, length, take}
-use Rattle.edit_plan.specs.Edits.{AppliesBelow, lists_after}
-use Rattle.job_run.specs.Left.{lists_with}
+use Rattle.job_run.specs.Left.{AreFirstTold}
 use Rattle.job_run.proofs.left.left_moves.Given as goal
 
-abbrev pub invariant-loop-version : goal.invariant-loop-version
-invariant-loop-version l =
-    (lists_with l.left.items l.dropped.items ≡ lists_after (take l.version l.plan.edits))
-    × All (AppliesBelow (length l.plan.moves)) (take l.version l.plan.edits)
+abbrev pub invariant-loop-j : goal.invariant-loop-j
+invariant-loop-j l = AreFirstTold l.plan l.numbers.items l.j l.told.items
