@@ -40,10 +40,7 @@ fn home_words(alloc: Global, plan: &Plan, strips: &Vec<Strip>) -> Result<Vec<u64
     ensures within { IfOk result (λ _. AreWithin (length plan.now.edits) strips.now.items (length strips.now.items)) }
 {
     let count = plan.grid().strips();
-    let edits = plan.edits();
-    let Ok(mut words) = vec![in alloc; 0; (count as usize + 1) * APART] else {
-        return Err(NoMemory);
-    };
+    let mut words = vec![in alloc; 0u64; (count as usize + 1) * APART]?;
     for strip in 0..count {
         let done = strips[strip as usize].done();
         words[word_at(strip)] = (u64::from(done) + 1) * VERSION;
