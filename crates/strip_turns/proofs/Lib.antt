@@ -8,6 +8,7 @@ pub mod Giving
 pub mod Looking
 pub mod Cutting
 pub mod Cases
+pub mod HomeWords
 pub mod Starting
 pub mod Closing
 pub mod OutAndBack

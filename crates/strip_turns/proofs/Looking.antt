@@ -1,5 +1,5 @@
 -- A step that changes nothing keeps the rule, and tells a pass that is alone of its tickets.
-use Rattle.std.proofs.Common.{◌≡◌, ℕ, ◌≤◌, set, Option, arith, refl, sym, ◌∙◌, subst}
+use Rattle.std.proofs.Common.{◌≡◌, ℕ, ◌<◌, set, Option, arith, refl, sym, ◌∙◌, subst}
 use mathlib.Core.Option.{none}
 use lib.ListN.{get_or}
 use Rattle.atomic_table.specs.Table.{Me, step, keeps, Allows}
