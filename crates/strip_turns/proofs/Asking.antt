@@ -59,8 +59,8 @@ pub all_raised_more : (c : Card) (version n : ℕ) (v u w : View) → AllRaised 
 all_raised_more c version n v u w h one =
     let t = one.trip in
     let to = max one.at version in
-    let es = Trip n one.at to ∷ [] in
-    let ms = record { strip = n; misses = t.met } ∷ [] in
+    let es : List Entry = Trip n one.at to ∷ [] in
+    let ms : List Met = record { strip = n; misses = t.met } ∷ [] in
     let further = t.further in
     let within = t.within in
     let log : w.log ≡ u.log ++ Trip n one.at to ∷ [] = ap (λ z. z.log) t.view in
@@ -107,8 +107,8 @@ pub some_raised : (c : Card) (version n count : ℕ) (v u w : View) → AllRaise
     → SomeRaised c version 0 count v w
 some_raised c version n count v u w h short lt =
     let t = short.trip in
-    let es = Trip n short.at short.to ∷ [] in
-    let ms = record { strip = n; misses = t.met } ∷ [] in
+    let es : List Entry = Trip n short.at short.to ∷ [] in
+    let ms : List Met = record { strip = n; misses = t.met } ∷ [] in
     let part = rise_part c version 0 n count h.log h.rise (omega arith) in record {
       log = h.log ++ Trip n short.at short.to ∷ [];
       met = h.met ++ record { strip = n; misses = t.met } ∷ [];
@@ -129,7 +129,7 @@ one_raised c k version v w h = rise_one c version k h.at (let a = h.trip.further
 pub one_short : (c : Card) (k version : ℕ) (v w : View) → Short c k version v w → SomeRaised c version k 1 v w
 one_short c k version v w h =
     let t = h.trip in
-    let none = record { each = λ i e at. absurd (some-ne-none e (sym at)) } in record {
+    let none : IsPartRise version k 1 [] = record { each = λ i e at. absurd (some-ne-none e (sym at)) } in record {
       log = Trip k h.at h.to ∷ [];
       met = record { strip = k; misses = t.met } ∷ [];
       view = t.view;

@@ -12,5 +12,5 @@ pub mod HomeWords
 pub mod Starting
 pub mod Closing
 pub mod OutAndBack
-pub mod Reading
+pub mod ReadBack
 pub mod Asking
