@@ -1,0 +1,61 @@
+ghost use Rattle.std.specs.Prelude.{◌≡◌, ◌<◌, ◌≤◌, length, IfOk, IfErr};
+ghost use Rattle.ray_grid.specs.Strips.{strips_of};
+ghost use Rattle.strip_turns.specs.Passes.{card, IsIdle, RaisedOut};
+ghost use Rattle.strip_turns.specs.Asks.{Short, AllRaised, SomeRaised};
+
+use crate::board::Board;
+use crate::moves::{put, wait_and_take};
+use crate::view::View;
+use atomic_table::Seat;
+use std::sync::Wait;
+use strip_journal::Strip;
+use turn_core::raise;
+use vf_io::NoMemory;
+
+/// Takes a strip and raises it to a version, and tells the version at which it was taken. After want of memory it is back.
+pub(crate) fn raised<R: Wait>(
+    rt: &R,
+    board: &Board,
+    seat: &mut Seat<Option<Strip>, View>,
+    strip: u32,
+    version: u32,
+) -> Result<(Strip, u32), NoMemory>
+    requires idle { IsIdle board.now seat.old }
+    requires strip { strip < length (strips_of board.now.plan.grid) }
+    requires version { version ≤ length board.now.plan.edits }
+    ensures out { IfOk result (λ r. RaisedOut board.now strip r.1 version seat.old seat.new r.0) }
+    ensures idle { IfErr result (λ _. IsIdle board.now seat.new) }
+    ensures short { IfErr result (λ _. Short (card board.now) strip version seat.old.me.0 seat.new.me.0) }
+{
+    let mut piece = wait_and_take(rt, board, seat, strip);
+    let from = piece.done();
+    match raise(&mut piece, &board.plan, version) {
+        Ok(()) => Ok((piece, from)),
+        Err(NoMemory) => {
+            put(board, seat, strip, from, piece);
+            Err(NoMemory)
+        }
+    }
+}
+
+/// Raises all strips to a version.
+pub(crate) fn all_raised<R: Wait>(
+    rt: &R,
+    board: &Board,
+    seat: &mut Seat<Option<Strip>, View>,
+    version: u32,
+) -> Result<(), NoMemory>
+    requires idle { IsIdle board.now seat.old }
+    requires version { version ≤ length board.now.plan.edits }
+    ensures idle { IsIdle board.now seat.new }
+    ensures raised { let strips = length (strips_of board.now.plan.grid) in
+        IfOk result (λ _. AllRaised (card board.now) version strips seat.old.me.0 seat.new.me.0) }
+    ensures some { let strips = length (strips_of board.now.plan.grid) in
+        IfErr result (λ _. SomeRaised (card board.now) version 0 strips seat.old.me.0 seat.new.me.0) }
+{
+    for strip in 0..board.plan.grid().strips() {
+        let (piece, from) = raised(rt, board, seat, strip, version)?;
+        put(board, seat, strip, from, piece);
+    }
+    Ok(())
+}
