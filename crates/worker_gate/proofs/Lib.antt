@@ -1,0 +1,6 @@
+pub mod Working
+pub mod Answering
+pub mod Teams
+pub mod Merging
+pub mod Draws
+pub mod Crewing
