@@ -6,6 +6,7 @@ mod playing;
 mod step;
 mod turning;
 
+pub use asking::state_at;
 pub use playing::play;
 pub use step::Step;
 pub use turning::{raise, turn_strip};

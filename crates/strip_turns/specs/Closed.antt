@@ -1,0 +1,41 @@
+-- What is left when a board is closed.
+use Rattle.std.specs.Prelude.{◌≡◌, ℕ, ◌<◌, ◌≤◌, List, length, slice_get, Option, Some}
+use mathlib.Core.Option.{some}
+use lib.ListN.{get_elem?}
+use Rattle.strip_journal.specs.Strips.{StripOf}
+use Rattle.strip_turns.specs.declared.view.View.{View}
+use Rattle.strip_turns.specs.declared.view.Card.{Card}
+use Rattle.strip_turns.specs.Log.{tally, drew, did, between, seen}
+use Rattle.strip_turns.specs.Cards.{start, IsCase}
+use Rattle.strip_turns.specs.Sound.{once_below}
+
+-- The strip k as it is given: the one that was put in, at a version not below what the pass has seen. Each edit that was done on it
+-- since lies in exactly one trip of the log.
+pub record IsGiven (c : Card) (v : View) (k : ℕ) (s : StripOf) : Type 0 where
+  pub of_case : IsCase c k s.done s
+  pub seen : seen k (start c k) v.log ≤ s.done
+  pub did : (x : ℕ) → tally (did k x) v.log ≡ between (start c k) s.done x
+
+-- the tickets in the log are the numbers below some n, each once
+abbrev pub AllDrawn : View → Type 0
+AllDrawn v = (n : ℕ) × ((x : ℕ) → tally (drew x) v.log ≡ once_below n x)
+
+-- each slot has its strip
+pub record AllHome (c : Card) (v : View) (slots : List (Option StripOf)) : Type 0 where
+  pub many : length slots ≡ length c.strips
+  pub each : (k : ℕ) → k < length slots → (s : StripOf) × (get_elem? slots k ≡ some (Some s)) × IsGiven c v k s
+  pub drawn : AllDrawn v
+
+-- all strips of the card, in order
+pub record InOrder (c : Card) (v : View) (strips : List StripOf) : Type 0 where
+  pub many : length strips ≡ length c.strips
+  pub each : (k : ℕ) (s : StripOf) → slice_get strips k ≡ Some s → IsGiven c v k s
+
+-- no slot is empty
+pub record AllThere (slots : List (Option StripOf)) : Type 0 where
+  pub each : (k : ℕ) → k < length slots → (s : StripOf) × (get_elem? slots k ≡ some (Some s))
+
+-- the strips of the first n slots, in order
+pub record AllOut (slots : List (Option StripOf)) (strips : List StripOf) (n : ℕ) : Type 0 where
+  pub many : length strips ≡ n
+  pub each : (k : ℕ) (s : StripOf) → slice_get strips k ≡ Some s → get_elem? slots k ≡ some (Some s)

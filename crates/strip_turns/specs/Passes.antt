@@ -1,0 +1,66 @@
+-- A pass of a board, and what the board's calls do to it.
+use Rattle.std.specs.Prelude.{◌≡◌, ℕ, ◌≤◌, [], ◌∷◌, Option, Some, None, max}
+use Rattle.atomic_table.specs.declared.shared.Seat.{Seat}
+use Rattle.strip_journal.specs.Strips.{StripOf}
+use Rattle.strip_turns.specs.declared.view.View.{View}
+use Rattle.strip_turns.specs.declared.view.Card.{Card}
+use Rattle.strip_turns.specs.declared.view.Entry.TheVariants.{Trip}
+use Rattle.strip_turns.specs.declared.board.Board.{Board}
+use Rattle.strip_turns.specs.declared.board.Pass.{Pass}
+use Rattle.strip_turns.specs.Log.{seen}
+use Rattle.strip_turns.specs.Cards.{start, last, card_of, IsCase}
+use Rattle.strip_turns.specs.Views.{with_strip, with_trip, with_log}
+
+-- the board's card
+abbrev pub card : Board → Card
+card b = card_of b.table.shared.key
+
+-- a seat of the board that holds no strip
+pub record IsIdle (b : Board) (seat : Seat (Option StripOf) View) : Type 0 where
+  pub own : seat.table_id ≡ b.table.shared.table_id
+  pub named : seat.me.0.card ≡ Some (card b)
+  pub held : seat.me.0.held ≡ None
+  pub slots : seat.me.1 ≡ []
+
+-- a pass of the board, that holds no strip
+abbrev pub IsPass : Board → Pass → Type 0
+IsPass b p = IsIdle b p.seat
+
+-- the strip k was taken out at `from`, and the seat holds its empty slot
+pub record Holds (b : Board) (k from : ℕ) (old seat : Seat (Option StripOf) View) : Type 0 where
+  pub own : seat.table_id ≡ b.table.shared.table_id
+  pub me : seat.me ≡ (with_strip k from old.me.0, (k, None) ∷ [])
+  pub seen : seen k (start (card b) k) old.me.0.log ≤ from
+
+-- the strip was taken out as it was
+pub record TookOut (b : Board) (k : ℕ) (old seat : Seat (Option StripOf) View) (strip : StripOf) : Type 0 where
+  pub out : Holds b k strip.done old seat
+  pub of_case : IsCase (card b) k strip.done strip
+
+-- it was taken out at `from`, and raised to a version that it wasn't past
+pub record RaisedOut (b : Board) (k from version : ℕ) (old seat : Seat (Option StripOf) View) (strip : StripOf) : Type 0 where
+  pub out : Holds b k from old seat
+  pub of_case : IsCase (card b) k (max from version) strip
+
+-- the strip k is out with the seat, which took it at `from` and holds its empty slot
+pub record IsOut (b : Board) (k from : ℕ) (seat : Seat (Option StripOf) View) : Type 0 where
+  pub own : seat.table_id ≡ b.table.shared.table_id
+  pub named : seat.me.0.card ≡ Some (card b)
+  pub held : seat.me.0.held ≡ Some (record { strip = k; at = from })
+  pub slots : seat.me.1 ≡ (k, None) ∷ []
+
+-- the strip k was put back at `to`
+pub record IsBack (b : Board) (k from to : ℕ) (old seat : Seat (Option StripOf) View) : Type 0 where
+  pub own : seat.table_id ≡ b.table.shared.table_id
+  pub met : ℕ
+  pub me : seat.me ≡ (with_trip k from to met old.me.0, [])
+  pub seen : seen k (start (card b) k) seat.me.0.log ≡ to
+
+-- the pass did one trip of the strip k, from where it had seen it or further
+pub record Tripped (c : Card) (k from to : ℕ) (v w : View) : Type 0 where
+  pub met : ℕ
+  pub view : w ≡ with_log (Trip k from to ∷ []) (record { strip = k; misses = met } ∷ []) v
+  pub newer : seen k (start c k) v.log ≤ from
+  pub further : from ≤ to
+  pub within : to ≤ last c
+  pub seen : seen k (start c k) w.log ≡ to

@@ -1,0 +1,121 @@
+ghost use Rattle.std.specs.Prelude.{◌≡◌, ◌<◌, ◌≤◌, ◌^◌, length, MatchOption};
+ghost use Rattle.ray_grid.specs.Strips.{strips_of};
+ghost use Rattle.strip_turns.specs.Cards.{IsCase};
+ghost use Rattle.strip_turns.specs.Plays.{Missed, Looked};
+ghost use Rattle.strip_turns.specs.Sound.{word_of};
+ghost use Rattle.strip_turns.specs.Passes.{card, IsIdle, TookOut, IsOut, IsBack};
+
+use crate::board::Board;
+use crate::rule::{Adding, Giving, Looking, Trying};
+use crate::view::View;
+use atomic_table::Seat;
+use std::sync::Wait;
+use std::thread;
+use strip_journal::Strip;
+
+/// The unit of a version in a strip's word, below which misses are counted.
+pub(crate) const VERSION: u64 = 1 << 40;
+
+/// The words in use stand so many words apart: no two share a line of the processor's cache, so steps on different strips don't
+/// slow each other.
+pub(crate) const APART: usize = 8;
+
+/// The place of a strip's word. The first word is that of the tickets.
+pub(crate) fn word_at(strip: u32) -> usize
+    ensures { result ≡ word_of strip }
+{
+    (strip as usize + 1) * APART
+}
+
+/// Takes the strip where it is home, and else counts a miss.
+pub(crate) fn take(board: &Board, seat: &mut Seat<Option<Strip>, View>, strip: u32) -> Option<Strip>
+    requires idle { IsIdle board.now seat.old }
+    requires strip { strip < length (strips_of board.now.plan.grid) }
+    requires few { seat.old.me.0.missed < 2 ^ 32 }
+    ensures own { seat.new.table_id ≡ seat.old.table_id }
+    ensures told { MatchOption result (Missed strip seat.old.me seat.new.me) (λ piece. TookOut board.now strip seat.old seat.new piece) }
+{
+    let word = word_at(strip);
+    let found = board.table.shared.fetch_add::<Adding>(seat, word, 1);
+    if found % VERSION != 0 {
+        return None;
+    }
+    board.table.shared.exchange(seat, strip as usize, None)
+}
+
+/// Takes the strip, and waits until it is home.
+pub(crate) fn wait_and_take<R: Wait>(
+    rt: &R,
+    board: &Board,
+    seat: &mut Seat<Option<Strip>, View>,
+    strip: u32,
+) -> Strip
+    requires idle { IsIdle board.now seat.old }
+    requires strip { strip < length (strips_of board.now.plan.grid) }
+    ensures { TookOut board.now strip seat.old seat.new result }
+{
+    for _ in rt.forever() {
+        match try_take(board, seat, strip) {
+            Some(piece) => return piece,
+            None => thread::yield_now(),
+        }
+    }
+    unreachable!()
+}
+
+/// Takes the strip where it is home, and else does nothing.
+fn try_take(board: &Board, seat: &mut Seat<Option<Strip>, View>, strip: u32) -> Option<Strip>
+    requires idle { IsIdle board.now seat.old }
+    requires strip { strip < length (strips_of board.now.plan.grid) }
+    ensures own { seat.new.table_id ≡ seat.old.table_id }
+    ensures told { MatchOption result (seat.new.me ≡ seat.old.me) (λ piece. TookOut board.now strip seat.old seat.new piece) }
+{
+    let at = word_at(strip);
+    let word = board.table.shared.load::<Looking>(seat, at);
+    if word % VERSION != 0 {
+        return None;
+    }
+    let found = board
+        .table
+        .shared
+        .compare_exchange::<Trying>(seat, at, word, word + 1);
+    if found != word {
+        return None;
+    }
+    board.table.shared.exchange(seat, strip as usize, None)
+}
+
+/// Puts the strip back, that was taken at `from`.
+pub(crate) fn put(
+    board: &Board,
+    seat: &mut Seat<Option<Strip>, View>,
+    strip: u32,
+    from: u32,
+    piece: Strip,
+)
+    requires out { IsOut board.now strip from seat.old }
+    requires strip { strip < length (strips_of board.now.plan.grid) }
+    requires of_case { IsCase (card board.now) strip piece.done piece }
+    requires further { from ≤ piece.done }
+    ensures { IsBack board.now strip from piece.done seat.old seat.new }
+{
+    let to = u64::from(piece.done());
+    let word = word_at(strip);
+    board
+        .table
+        .shared
+        .exchange(seat, strip as usize, Some(piece));
+    board
+        .table
+        .shared
+        .swap::<Giving>(seat, word, (to + 1) * VERSION);
+}
+
+/// Learns what the pass may know. Nothing changes.
+pub(crate) fn look(board: &Board, seat: &mut Seat<Option<Strip>, View>)
+    requires idle { IsIdle board.now seat.old }
+    ensures idle { IsIdle board.now seat.new }
+    ensures looked { Looked seat.old.me seat.new.me }
+{
+    board.table.shared.load::<Looking>(seat, 0);
+}

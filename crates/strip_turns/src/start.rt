@@ -1,0 +1,62 @@
+ghost use Rattle.std.specs.Prelude.{◌≡◌, map, length, IfOk, Some};
+ghost use Rattle.turn_core.specs.World.{AreOfPlan};
+ghost use Rattle.strip_turns.specs.Starts.{AreHome, AreWithin, Starts};
+
+use crate::board::{Board, Pass};
+use crate::moves::{APART, VERSION, word_at};
+use crate::view::Key;
+use atomic_table::Table;
+use std::alloc::Global;
+use std::snapshot::Snapshot;
+use strip_journal::Strip;
+use strip_plan::Plan;
+use vf_io::NoMemory;
+
+impl Board {
+    /// A board on which each strip is home, and its first pass. Fails only for want of memory.
+    pub fn new(alloc: Global, plan: Plan, strips: Vec<Strip>) -> Result<(Board, Pass), NoMemory>
+        requires { AreOfPlan plan strips.items }
+        ensures { IfOk result (λ b. Starts plan strips.items b.0 b.1) }
+    {
+        let key = Key {
+            plan: Snapshot::of(&plan),
+            strips: Snapshot::of(&strips),
+        };
+        // The edits are few.
+        let _edits = plan.edits();
+        let words = home_words(alloc, &plan, &strips)?;
+        let slots = filled_slots(alloc, strips)?;
+        match Table::new(alloc, words.as_slice(), slots, &key) {
+            Ok((table, seat)) => Ok((Board { plan, table }, Pass { seat })),
+            Err(_) => Err(NoMemory),
+        }
+    }
+}
+
+/// The ticket word and each strip's, far enough apart.
+fn home_words(alloc: Global, plan: &Plan, strips: &Vec<Strip>) -> Result<Vec<u64>, NoMemory>
+    requires { AreOfPlan plan.now strips.now.items }
+    ensures home { IfOk result (λ words. AreHome strips.now.items (length strips.now.items) words.items) }
+    ensures within { IfOk result (λ _. AreWithin (length plan.now.edits) strips.now.items (length strips.now.items)) }
+{
+    let count = plan.grid().strips();
+    let edits = plan.edits();
+    let Ok(mut words) = vec![in alloc; 0; (count as usize + 1) * APART] else {
+        return Err(NoMemory);
+    };
+    for strip in 0..count {
+        let done = strips[strip as usize].done();
+        words[word_at(strip)] = (u64::from(done) + 1) * VERSION;
+    }
+    Ok(words)
+}
+
+/// Each strip in its slot.
+fn filled_slots(alloc: Global, strips: Vec<Strip>) -> Result<Vec<Option<Strip>>, NoMemory>
+    ensures { IfOk result (λ slots. slots.items ≡ map Some strips.items) }
+{
+    match strips.into_iter().map(Some).collect(alloc) {
+        Ok(slots) => Ok(slots),
+        Err(_) => Err(NoMemory),
+    }
+}
