@@ -1,6 +1,5 @@
-ghost use Rattle.std.specs.Prelude.{All};
+ghost use Rattle.std.specs.Prelude.{All, length};
 ghost use Rattle.edit_plan.specs.Queries.{IsQuery};
-ghost use Rattle.strip_turns.specs.Cards.{last};
 ghost use Rattle.strip_turns.specs.Passes.{card, IsPass};
 ghost use Rattle.worker_gate.specs.Asking.{AsksAll};
 
@@ -20,7 +19,7 @@ pub(crate) fn ask_all<R: Wait>(
     queries: &[Query],
 ) -> Result<Vec<Answer>, NoMemory>
     requires pass { IsPass board.now pass.old }
-    requires queries { All (IsQuery (card board.now).plan.grid (last (card board.now))) queries.now }
+    requires queries { All (IsQuery board.now.plan.grid (length board.now.plan.edits)) queries.now }
     ensures pass { IsPass board.now pass.new }
     ensures told { AsksAll (card board.now) queries.now result pass.old.seat.me.0 pass.new.seat.me.0 }
 {

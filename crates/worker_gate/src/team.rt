@@ -1,7 +1,6 @@
 ghost use Rattle.std.specs.Prelude.{All, ◌≡◌, ℕ, [], ◌+◌, ◌<◌, ◌≤◌, length, IfOk, IfErr, true, false};
 ghost use Rattle.std.specs.Thread.{IsSync};
 ghost use Rattle.edit_plan.specs.Queries.{IsQuery};
-ghost use Rattle.strip_turns.specs.Cards.{last};
 ghost use Rattle.strip_turns.specs.Passes.{card, IsPass};
 ghost use Rattle.worker_gate.specs.Asking.{AsksAll};
 ghost use Rattle.worker_gate.specs.Workers.{AreFresh, AreDone, AreNumbered};
@@ -32,7 +31,7 @@ pub fn crew<R: Threads + Wait + Sync, G: Gate + Sync>(
 ) -> Result<Vec<Answer>, NoMemory>
     requires workers { (0 < workers) × (workers ≤ 16) }
     requires ready { CanHire board.now workers pass.old }
-    requires queries { All (IsQuery (card board.now).plan.grid (last (card board.now))) queries.now }
+    requires queries { All (IsQuery board.now.plan.grid (length board.now.plan.edits)) queries.now }
     ensures pass { IsPass board.now pass.new }
     ensures told { Crews (card board.now) queries.now workers result pass.old.seat.me.0 pass.new.seat.me.0 }
 {
@@ -90,7 +89,7 @@ fn ask_beside<R: Threads + Wait + Sync, G: Gate + Sync>(
     gate: &G,
 ) -> (Result<Vec<Answer>, NoMemory>, Vec<Worker>)
     requires pass { IsPass board.now pass.old }
-    requires queries { All (IsQuery (card board.now).plan.grid (last (card board.now))) queries.now }
+    requires queries { All (IsQuery board.now.plan.grid (length board.now.plan.edits)) queries.now }
     requires fresh { AreFresh board.now team.items }
     ensures pass { IsPass board.now pass.new }
     ensures told { AsksAll (card board.now) queries.now result.0 pass.old.seat.me.0 pass.new.seat.me.0 }
