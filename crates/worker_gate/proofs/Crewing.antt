@@ -1,5 +1,5 @@
 -- What the asker, the workers and the finisher did, put together.
-use Rattle.std.proofs.Common.{◌≡◌, ℕ, ◌+◌, ◌<◌, ◌≤◌, List, [], ◌++◌, length, Bool, false, arith, refl, sym, ap, ◌∙◌, Result, Ok, Err}
+use Rattle.std.proofs.Common.{◌≡◌, ℕ, ◌+◌, ◌<◌, ◌≤◌, List, [], ◌++◌, length, Bool, false, arith, refl, sym, ap, ◌∙◌, subst, Result, Ok, Err}
 use Rattle.std.specs.Global.{Vec}
 use Rattle.std.proofs.lemmas.List.{append-nil, append_assoc}
 use Rattle.std.proofs.lemmas.Bool.Decides.{nat_tests}
@@ -18,8 +18,9 @@ use Rattle.strip_turns.specs.Sound.{once_below}
 use Rattle.strip_turns.specs.Plays.{IsAlone}
 use Rattle.strip_turns.specs.Asks.{Finished, SomeRaised}
 use Rattle.strip_turns.proofs.Logs.{tally_both}
-use Rattle.worker_gate.specs.Asking.{AskedAll, Logged}
+use Rattle.worker_gate.specs.Asking.{AskedAll, AsksAll, Logged}
 use Rattle.worker_gate.specs.Crew.{Answered, Crews, Merged, Stopped, with_crew, with_merged, with_splits}
+use Rattle.worker_gate.proofs.Answering.{asks_logged}
 use Rattle.worker_gate.proofs.Draws.{asking_no_draw, rise_no_draw}
 
 crew_merged : (v : View) (n : ℕ) (es fs : List Entry) (ms ns : List Met) (out : List ℕ) → out ≡ [] → v.out ≡ []
@@ -59,6 +60,12 @@ stopped c n short v a u w split log merge gone alone = record {
   met = log.met ++ merge.met;
   view = after_merge n log.log merge.log log.met merge.met v a u w split log.view merge.view gone alone;
 }
+
+-- the same, however the asking ended
+pub stopped_by : (c : Card) (qs : List Query) (r : Result (Vec Answer) NoMemory) (n m : ℕ) (short : Bool) (v a u w : View)
+    → a ≡ with_splits n v → AsksAll c qs r a u → Merged c m short u w → m ≡ n → w.out ≡ [] → v.out ≡ [] → Stopped n v w
+stopped_by c qs r n m short v a u w split asks merge all gone alone =
+    stopped c n short v a u w split (asks_logged c qs r a u asks) (subst (λ k. Merged c k short u w) all merge) gone alone
 
 -- the finishing found no memory
 pub stopped_late : (c : Card) (n version first count : ℕ) (v w x : View) → Stopped n v w → SomeRaised c version first count w x
@@ -117,6 +124,16 @@ crewed c qs xs n v a u w x any is split asked merge gone finish =
         drawn = drawn;
       };
     }
+
+-- the same, with what tells that the answers were given and that no worker stopped
+pub crewed_by : (c : Card) (qs : List Query) (r : Result (Vec Answer) NoMemory) (xs : Vec Answer) (n m : ℕ) (short : Bool) (v a u w x : View)
+    → 0 < n → IsAlone v → a ≡ with_splits n v → AsksAll c qs r a u → r ≡ Ok xs → Merged c m short u w → m ≡ n → short ≡ false
+    → w.out ≡ [] → Finished c w x → Answered c qs n xs.items v x
+crewed_by c qs r xs n m short v a u w x any is split asks ok merge all long gone finish =
+    crewed c qs xs.items n v a u w x any is split
+    (subst (λ z. AsksAll c qs z a u) ok asks)
+    (subst (λ s. Merged c n s u w) long (subst (λ k. Merged c k short u w) all merge))
+    gone finish
 
 -- however a crew ends, no other pass is out
 pub crews_alone : (c : Card) (qs : List Query) (n : ℕ) (r : Result (Vec Answer) NoMemory) (v w : View) → Crews c qs n r v w → IsAlone v

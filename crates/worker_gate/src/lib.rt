@@ -8,3 +8,6 @@ mod worker;
 
 pub use gate::{Gate, Open};
 pub use team::crew;
+
+#[cfg(test)]
+mod tests;

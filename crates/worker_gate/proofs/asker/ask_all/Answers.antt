@@ -1,9 +1,9 @@
 use Rattle.std.proofs.Common.{arith, ap, sym, subst, List, [], length}
 use Rattle.std.proofs.lemmas.Grind.{common_steps}
-use Rattle.strip.specs.declared.query.Answer.{Answer}
+use Rattle.job_facts.specs.declared.totals.Answer.{Answer}
 use Rattle.strip_turns.specs.Passes.{card}
 use Rattle.worker_gate.specs.Asking.{AskedAll}
-use Rattle.worker_gate.proofs.Crewing.{logged_none, asked_none, asked_more, one_more}
+use Rattle.worker_gate.proofs.Answering.{logged_none, asked_none, asked_more, one_more}
 use Rattle.worker_gate.proofs.asker.ask_all.Goals as goal
 
 pub returns-in_default-clause-told : goal.returns-in_default-clause-told
@@ -25,9 +25,10 @@ loop-query-preserved g c =
     let b = c.args.board.now in
     let i = c.loop-query.query-index in
     let inv = c.loop-query.invariant in
+    let answers = c.loop-query.answers.items in
     let told = c.in-Ok-ask.ensures.told in
-    let more = asked_more (card b) _ _ c.loop-query.answers.items c.in-Ok-ask.answer _ _ _ inv.1 told in
+    let more = asked_more (card b) _ _ answers c.in-Ok-ask.answer _ _ _ inv.1 told in
     let e = c.push_reserved.ensures in
-    let queries = c.args.queries.now in
-    let asked = one_more (card b) queries i _ c.loop-query.answers.items c.push_reserved.new.self.items c.in-Ok-ask.answer c.args.pass.now.seat.me.0 c.ask.new.pass.seat.me.0 c.loop-query-test.true e.items more in
+    let asked = one_more (card b) c.args.queries.now i _ answers c.push_reserved.new.self.items c.in-Ok-ask.answer
+        c.args.pass.now.seat.me.0 c.ask.new.pass.seat.me.0 c.loop-query-test.true e.items more in
     (c.in-Ok-ask.ensures.pass, asked, grind (arith, common_steps, e.items, inv.2), omega (arith, inv.3, e.capacity))

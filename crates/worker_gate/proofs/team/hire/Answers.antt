@@ -5,7 +5,7 @@ use Rattle.strip_turns.specs.Views.{fresh}
 use Rattle.strip_turns.specs.Passes.{card}
 use Rattle.worker_gate.specs.Workers.{IsFresh, AreFresh, AreNumbered}
 use Rattle.worker_gate.specs.declared.worker.Worker.{Worker}
-use Rattle.worker_gate.proofs.Crewing.{split_none, split_more, numbered_none, numbered_more}
+use Rattle.worker_gate.proofs.Teams.{split_none, split_more, numbered_none, numbered_more}
 use Rattle.worker_gate.proofs.team.hire.Goals as goal
 
 pub loop-i-init : goal.loop-i-init

@@ -4,7 +4,8 @@ use Rattle.std.proofs.lemmas.List.Elements.{All-pop}
 use Rattle.std.proofs.lemmas.Grind.{common_steps}
 use Rattle.strip_turns.specs.Passes.{card}
 use Rattle.worker_gate.specs.Workers.{IsDone}
-use Rattle.worker_gate.proofs.Crewing.{merged_none, merged_more, pop_len, team_pop, team_none}
+use Rattle.worker_gate.proofs.Merging.{merged_none, merged_more}
+use Rattle.worker_gate.proofs.Teams.{pop_len, team_pop, team_none}
 use Rattle.worker_gate.proofs.team.merge_all.Goals as goal
 
 pub loop-worker-init : goal.loop-worker-init

@@ -1,5 +1,5 @@
 use Rattle.std.proofs.Common.{rules, ◌≡◌, ◌+◌, ◌<◌, get_or, length}
-use Rattle.worker_gate.proofs.Crewing.{number_kept}
+use Rattle.worker_gate.proofs.Teams.{number_kept}
 use Rattle.worker_gate.proofs.team.work_each.Goals as goal
 
 pub returns-clause-numbered : goal.returns-clause-numbered

@@ -6,4 +6,4 @@ abbrev pub invariant-loop-ticket : goal.invariant-loop-ticket
 invariant-loop-ticket g l = IsWorking l.fn.board l.fn.worker.pass.seat.me.0.number l.ticket l.worker
 
 abbrev pub decreases-loop-ticket : goal.decreases-loop-ticket
-decreases-loop-ticket g l = l.turns_due - l.ticket
+decreases-loop-ticket g l = l.due - l.ticket

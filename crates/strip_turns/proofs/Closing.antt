@@ -1,0 +1,119 @@
+-- With one pass, which holds nothing, each strip is home.
+use Rattle.std.proofs.Common.{◌≡◌, ℕ, zero, suc, ◌+◌, ◌<◌, ⊎_elim, ◌⊎◌, inl, inr, List, [], ◌∷◌, ◌++◌, length, slice_get, Option, Some, None, arith, refl, sym, ap, ◌∙◌, subst, get_or}
+use Rattle.std.proofs.Math.ListN.{length-append}
+use Rattle.std.proofs.lemmas.Option.{slice_get_within}
+use mathlib.Core.Option.{some, some-injective}
+use lib.ListN.{get_elem?}
+use Rattle.atomic_table.specs.Table.{Final, Seen}
+use Rattle.job_model.specs.Tasks.{Job, PlanOf}
+use Rattle.strip_journal.specs.Strips.{StripOf}
+use Rattle.turn_core.specs.World.{AreOfPlan, AreStrips}
+use Rattle.strip_turns.specs.declared.view.View.{View}
+use Rattle.strip_turns.specs.declared.view.Card.{Card}
+use Rattle.strip_turns.specs.Log.{tally, drew, did, strayed}
+use Rattle.strip_turns.specs.Cards.{start, last}
+use Rattle.strip_turns.specs.Sound.{held_in, IsSound}
+use Rattle.strip_turns.specs.Plays.{IsAlone}
+use Rattle.strip_turns.specs.Closed.{IsGiven, AllHome, AllThere, AllOut, InOrder}
+use Rattle.strip_turns.proofs.Totals.{total_at}
+use Rattle.strip_turns.proofs.Logs.{seen_within}
+use Rattle.strip_turns.proofs.Rosters.{some_is, some_none, named, alone}
+use Rattle.strip_turns.proofs.Cases.{plan_of, number_of, job_of}
+
+all_home_at : (card : Card) (id : ℕ) (v : View) (c : Card) (words : List ℕ) (slots : List (Option StripOf)) → v.card ≡ Some c
+    → v.held ≡ None → IsAlone v → Final (Seen (IsSound card) id v) words slots → AllHome card v slots
+all_home_at card id v c words slots has idle is f =
+    let s = f.0 in
+    let h = f.1.0 in
+    let at = f.1.1 in
+    let only = alone card s.views id v h.roster at is.first is.out in record {
+      many = sym f.3 ∙ h.strips;
+      each = λ k lt.
+          let lt' : k < length s.homes = (let q = f.3 in omega arith) in
+          ⊎_elim
+          (λ p. (
+            p.0,
+            f.4 k (Some p.0) p.1.there,
+            record {
+              of_case = p.1.of_case;
+              seen =
+                  (let a = total_at (λ u. tally (strayed k (start card k) p.0.done) u.log) s.views id v at in
+                  let b = p.1.logged.strayed in
+                  seen_within k (start card k) (start card k) p.0.done v.log (omega arith) p.1.logged.started);
+              did = λ x. sym (only (λ u. tally (did k x) u.log) refl) ∙ p.1.logged.did x;
+            },
+          ))
+          (λ p.
+          let a = only (λ u. held_in k u.held) refl in
+          let b : held_in k v.held ≡ 0 = ap (held_in k) idle in
+          let d = p.2.logged.held in absurd (omega arith))
+          (h.places k lt');
+      drawn = (get_or s.words 0 0, λ x. sym (only (λ u. tally (drew x) u.log) refl) ∙ h.drawn.once x);
+    }
+
+pub all_home : (card : Card) (id : ℕ) (v : View) (c : Card) (words : List ℕ) (slots : List (Option StripOf)) → v.card ≡ Some c
+    → v.held ≡ None → IsAlone v → Final (Seen (IsSound card) id v) words slots → AllHome c v slots
+all_home card id v c words slots has idle is f =
+    let e : card ≡ c = some_is card c (sym (named card f.0.views id v c f.1.0.roster f.1.1 has) ∙ has) in
+    subst (λ z. AllHome z v slots) e (all_home_at card id v c words slots has idle is f)
+
+pub all_there : (c : Card) (v : View) (slots : List (Option StripOf)) → AllHome c v slots → AllThere slots
+all_there c v slots h = record { each = λ k lt. let e = h.each k lt in (e.0, e.1) }
+
+-- the strips that were taken out are given in order
+pub in_order : (c : Card) (v : View) (slots : List (Option StripOf)) (strips : List StripOf) (n : ℕ) → AllHome c v slots
+    → length slots ≡ n → AllOut slots strips n → InOrder c v strips
+in_order c v slots strips n h len out = record {
+  many = out.many ∙ sym len ∙ h.many;
+  each = λ k s at.
+      let within = slice_get_within strips k s at in
+      let many = out.many in
+      let e = h.each k (omega arith) in
+      subst (IsGiven c v k) (some_is e.0 s (some-injective (Some e.0) (Some s) (sym e.1 ∙ out.each k s at))) e.2;
+}
+
+-- they are the plan's
+pub given_plan : (c : Card) (plan : PlanOf) (v : View) (strips : List StripOf) → AreOfPlan c.plan c.strips → c.plan ≡ plan
+    → InOrder c v strips → AreOfPlan plan strips
+given_plan c plan v strips h is given =
+    subst (λ (p : PlanOf). AreOfPlan p strips) is (record {
+      many = given.many ∙ h.many;
+      plans = λ k s at. plan_of c k s.done s h (given.each k s at).of_case;
+      numbers = λ k s at. number_of c k s.done s h (given.each k s at).of_case;
+    })
+
+-- and the job's
+pub given_job : (c : Card) (job : Job) (v : View) (strips : List StripOf) → AreOfPlan c.plan c.strips → AreStrips job c.strips
+    → InOrder c v strips → AreStrips job strips
+given_job c job v strips h all given = record {
+  many = given.many ∙ all.many;
+  each = λ k s at.
+      let case = (given.each k s at).of_case in
+      let same : job.plan ≡ c.plan = ap (λ (j : Job). j.plan) (sym (job_of c job k s.done s all case)) ∙ plan_of c k s.done s h case in
+      let edits : length job.plan.edits ≡ last c = ap (λ (p : PlanOf). length p.edits) same in
+      let within = case.within in
+      record { job_is = job_of c job k s.done s all case; number_is = number_of c k s.done s h case; within = omega arith };
+}
+
+-- the strip that stands at a place
+pub there_is : (slots : List (Option StripOf)) (k : ℕ) (x : Option StripOf) → AllThere slots → k < length slots
+    → get_elem? slots k ≡ some x → (s : StripOf) × (x ≡ Some s)
+there_is slots k x h lt at = let e = h.each k lt in (e.0, some-injective x (Some e.0) (sym at ∙ e.1))
+
+-- an element of a list with one more was there before, or is the one
+one_more : {A : Type 0} (xs : List A) (y : A) (k : ℕ) (x : A) → slice_get (xs ++ y ∷ []) k ≡ Some x
+    → (slice_get xs k ≡ Some x) ⊎ ((k ≡ length xs) × (y ≡ x))
+one_more [] y zero x e = inr (refl, some_is y x e)
+one_more [] y (suc k) x e = absurd (some_none x e)
+one_more (z ∷ xs) y zero x e = inl e
+one_more (z ∷ xs) y (suc k) x e = ⊎_elim inl (λ p. inr (let q = p.0 in omega arith, p.1)) (one_more xs y k x e)
+
+pub all_out_push : (slots : List (Option StripOf)) (strips : List StripOf) (n : ℕ) (s : StripOf) → AllOut slots strips n
+    → get_elem? slots n ≡ some (Some s) → AllOut slots (strips ++ s ∷ []) (n + 1)
+all_out_push slots strips n s h there = record {
+  many = length-append strips (s ∷ []) ∙ (let l = h.many in omega arith);
+  each = λ k x at. ⊎_elim
+      (λ old. h.each k x old)
+      (λ p. ap (get_elem? slots) (p.0 ∙ h.many) ∙ there ∙ ap (λ z. some (Some z)) p.1)
+      (one_more strips s k x at);
+}

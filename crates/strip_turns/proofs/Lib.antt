@@ -1,0 +1,13 @@
+pub mod Totals
+pub mod Logs
+pub mod Rosters
+pub mod Places
+pub mod Drawing
+pub mod Taking
+pub mod Giving
+pub mod Looking
+pub mod Cutting
+pub mod Cases
+pub mod Starting
+pub mod Closing
+pub mod OutAndBack

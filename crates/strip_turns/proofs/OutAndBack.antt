@@ -1,0 +1,114 @@
+-- A strip out of its slot, and back.
+use Rattle.std.proofs.Common.{◌≡◌, ℕ, ◌+◌, ◌*◌, ◌^◌, ◌≤◌, List, [], ◌∷◌, Option, Some, None, MatchOption, sym, ap, ◌∙◌, subst}
+use mathlib.Core.Option.{none}
+use Rattle.atomic_table.specs.Table.{Me, step, rest}
+use Rattle.atomic_table.specs.declared.shared.Seat.{Seat}
+use Rattle.strip_journal.specs.Strips.{StripOf}
+use Rattle.strip_turns.specs.declared.view.View.{View}
+use Rattle.strip_turns.specs.declared.view.Card.{Card}
+use Rattle.strip_turns.specs.declared.board.Board.{Board}
+use Rattle.strip_turns.specs.Views.{with_strip, with_trip}
+use Rattle.strip_turns.specs.Log.{seen}
+use Rattle.strip_turns.specs.Cards.{start, last}
+use Rattle.strip_turns.specs.Sound.{word_of}
+use Rattle.strip_turns.specs.Plays.{Took, Gives}
+use Rattle.strip_turns.specs.Passes.{card, IsIdle, Holds, TookOut, IsOut, IsBack, Tripped}
+
+heads : {A : Type 0} (a b : A) (xs ys : List A) → a ∷ xs ≡ b ∷ ys → a ≡ b
+heads a b xs ys e = cc
+
+-- what lies in the slot k is told twice
+pub same_slot : (k : ℕ) (x y : Option StripOf) (xs ys zs : List (ℕ × Option StripOf)) → zs ≡ (k, x) ∷ xs → zs ≡ (k, y) ∷ ys → x ≡ y
+same_slot k x y xs ys zs p q = ap (λ (z : ℕ × Option StripOf). z.1) (heads (k, x) (k, y) xs ys (sym p ∙ q))
+
+pub slot_of : (c : Card) (k : ℕ) (before after : Me (Option StripOf) View) (t : (j : StripOf) × Took c k before after j) → (x : Option StripOf) × (after.1 ≡ (k, x) ∷ rest after.1)
+slot_of c k before after t = let e : after.1 ≡ (k, Some t.0) ∷ before.1 = ap (λ m. m.1) t.1.me in (Some t.0, e ∙ ap (λ l. (k, Some t.0) ∷ l) (sym (ap rest e)))
+
+-- what came out of the slot is the strip that was taken
+pub taken_out : (b : Board) (k : ℕ) (X : Type 0) (old mid new : Seat (Option StripOf) View) (x : Option StripOf) → IsIdle b old
+    → ((s : StripOf) × Took (card b) k old.me mid.me s) → new.table_id ≡ b.table.shared.table_id → mid.me.1 ≡ (k, x) ∷ rest mid.me.1
+    → new.me ≡ (mid.me.0, (k, None) ∷ rest mid.me.1) → MatchOption x X (λ s. TookOut b k old new s)
+taken_out b k X old mid new x idle t own has me =
+    let s = t.0 in
+    let e : mid.me.1 ≡ (k, Some s) ∷ old.me.1 = ap (λ m. m.1) t.1.me in
+    let f : mid.me.0 ≡ with_strip k s.done old.me.0 = ap (λ m. m.0) t.1.me in
+    let is : x ≡ Some s = same_slot k x (Some s) (rest mid.me.1) old.me.1 mid.me.1 has e in
+    let none_left : rest mid.me.1 ≡ [] = ap rest e ∙ idle.slots in
+    subst (λ y. MatchOption y X (λ s. TookOut b k old new s)) (sym is) (record {
+      out = record { own = own; me = me ∙ (λ i. (f i, (k, None) ∷ none_left i)); seen = t.1.seen };
+      of_case = t.1.of_case;
+    })
+
+pub put_back_told : (b : Board) (slots k from new found : ℕ) (old mid seat : Seat (Option StripOf) View) (s : StripOf)
+    → IsOut b k from old → mid.me ≡ (old.me.0, (k, Some s) ∷ rest old.me.1) → new ≡ (s.done + 1) * 2 ^ 40
+    → Gives (step slots (word_of k) new 0 none) mid.me found seat.me → seat.table_id ≡ b.table.shared.table_id
+    → IsBack b k from s.done old seat
+put_back_told b slots k from new found old mid seat s h is value g own =
+    let v : mid.me.0 ≡ old.me.0 = ap (λ m. m.0) is in
+    let e : mid.me.1 ≡ (k, Some s) ∷ rest old.me.1 = ap (λ m. m.1) is in
+    let named = ap (λ z. z.card) v ∙ h.named in
+    let held = ap (λ z. z.held) v ∙ h.held in
+    let t = g (card b) (record { strip = k; at = from }) s.done named held value in
+    record {
+      own = own;
+      met = t.0;
+      me = t.1.me ∙ (λ i. (with_trip k from s.done t.0 (v i), (ap rest e ∙ ap rest h.slots) i));
+      seen = t.1.seen;
+    }
+
+-- a seat after a step that changed nothing
+pub still_idle : (b : Board) (old seat : Seat (Option StripOf) View) → IsIdle b old → seat.table_id ≡ old.table_id
+    → seat.me ≡ old.me → IsIdle b seat
+still_idle b old seat h own me = record {
+  own = own ∙ h.own;
+  named = ap (λ m. m.0.card) me ∙ h.named;
+  held = ap (λ m. m.0.held) me ∙ h.held;
+  slots = ap (λ m. m.1) me ∙ h.slots;
+}
+
+pub still_out : (b : Board) (k : ℕ) (old mid seat : Seat (Option StripOf) View) (x : Option StripOf) (X : Type 0) → mid.me ≡ old.me
+    → MatchOption x X (λ s. TookOut b k mid seat s) → MatchOption x X (λ s. TookOut b k old seat s)
+still_out b k old mid seat None X me h = h
+still_out b k old mid seat (Some s) X me h = record {
+  out = record {
+    own = h.out.own;
+    me = h.out.me ∙ (λ i. (with_strip k s.done (me i).0, (k, None) ∷ []));
+    seen = subst (λ (m : Me (Option StripOf) View). seen k (start (card b) k) m.0.log ≤ s.done) me h.out.seen;
+  };
+  of_case = h.of_case;
+}
+
+-- the strip that was taken out is out
+pub is_out : (b : Board) (k from : ℕ) (old seat : Seat (Option StripOf) View) → IsIdle b old → Holds b k from old seat
+    → IsOut b k from seat
+is_out b k from old seat idle h = record {
+  own = h.own;
+  named = ap (λ m. m.0.card) h.me ∙ idle.named;
+  held = ap (λ m. m.0.held) h.me;
+  slots = ap (λ m. m.1) h.me;
+}
+
+-- out and back makes one trip
+pub tripped : (b : Board) (k from to : ℕ) (old mid seat : Seat (Option StripOf) View) → IsIdle b old → Holds b k from old mid
+    → IsBack b k from to mid seat → from ≤ to → to ≤ last (card b) → Tripped (card b) k from to old.me.0 seat.me.0
+tripped b k from to old mid seat idle h back further within =
+    let v : mid.me.0 ≡ with_strip k from old.me.0 = ap (λ m. m.0) h.me in
+    record {
+      met = back.met;
+      view = ap (λ m. m.0) back.me ∙ ap (with_trip k from to back.met) v
+          ∙ (λ i. record (with_trip k from to back.met old.me.0) { held = sym idle.held i });
+      newer = h.seen;
+      further = further;
+      within = within;
+      seen = back.seen;
+    }
+
+-- and the seat holds no strip
+pub back_idle : (b : Board) (k from to : ℕ) (old mid seat : Seat (Option StripOf) View) → IsIdle b old → Holds b k from old mid
+    → IsBack b k from to mid seat → IsIdle b seat
+back_idle b k from to old mid seat idle h back = record {
+  own = back.own;
+  named = ap (λ m. m.0.card) back.me ∙ ap (λ m. m.0.card) h.me ∙ idle.named;
+  held = ap (λ m. m.0.held) back.me;
+  slots = ap (λ m. m.1) back.me;
+}
