@@ -50,6 +50,12 @@ pub record IsWorking (b : Board) (n t : ℕ) (w : Worker) : Type 0 where
 pub record AreNumbered (s : ℕ) (ws : List Worker) : Type 0 where
   pub each : (k : ℕ) (d : Worker) → k < length ws → (slice_index_or ws k d).pass.seat.me.0.number ≡ s + k + 1
 
+-- what working does to workers: each did its work, and has the number that it had
+pub record HaveWorked (b : Board) (old new : List Worker) : Type 0 where
+  pub done : AreDone b new
+  pub many : length new ≡ length old
+  pub numbered : (s : ℕ) → AreNumbered s old → AreNumbered s new
+
 -- what a turn of the strip k that found memory does to a pass
 pub record OneTurn (c : Card) (k : ℕ) (v w : View) : Type 0 where
   pub entry : Entry

@@ -4,6 +4,7 @@
 mod asker;
 mod gate;
 mod team;
+mod threads;
 mod worker;
 
 pub use gate::{Gate, Open};

@@ -1,25 +1,25 @@
-ghost use Rattle.std.specs.Prelude.{All, ◌≡◌, ℕ, [], ◌+◌, ◌<◌, ◌≤◌, length, IfOk, IfErr, true, false};
-ghost use Rattle.std.specs.Thread.{IsSync};
+ghost use Rattle.std.specs.Prelude.{◌≡◌, ℕ, [], ◌+◌, ◌<◌, ◌≤◌, All, length, IfOk, IfErr, true, false};
 ghost use Rattle.edit_plan.specs.Queries.{IsQuery};
+ghost use Rattle.strip_turns.specs.Plays.{IsAlone};
 ghost use Rattle.strip_turns.specs.Passes.{card, IsPass};
-ghost use Rattle.worker_gate.specs.Asking.{AsksAll};
-ghost use Rattle.worker_gate.specs.Workers.{AreFresh, AreDone, AreNumbered};
-ghost use Rattle.worker_gate.specs.Crew.{IsTeam, with_splits, Merged, Crews, CanHire};
+ghost use Rattle.worker_gate.specs.Workers.{AreDone, AreFresh, AreNumbered};
+ghost use Rattle.worker_gate.specs.Crew.{CanHire, Crews, IsTeam, Merged, with_splits};
 
-use crate::asker::ask_all;
 use crate::gate::Gate;
-use crate::worker::{Worker, work};
+use crate::threads::ask_beside;
+use crate::worker::Worker;
 use edit_plan::Query;
 use job_facts::Answer;
 use std::alloc::Global;
 use std::sync::Wait;
-use std::thread;
 use std::thread::Threads;
 use strip_turns::{Board, Pass};
 use vf_io::NoMemory;
 
-/// The answers, in order, while so many workers turn the strips. Then each strip is brought to the last version. After
-/// `NoMemory` it may be called again.
+/// Answers the queries in order while so many workers turn the strips, and then takes each strip to the last version.
+///
+/// After want of memory all workers were joined and merged: it may be called again while the pass can still be split so often, and
+/// the board can be closed.
 pub fn crew<R: Threads + Wait + Sync, G: Gate + Sync>(
     rt: &R,
     alloc: Global,
@@ -34,6 +34,8 @@ pub fn crew<R: Threads + Wait + Sync, G: Gate + Sync>(
     requires queries { All (IsQuery board.now.plan.grid (length board.now.plan.edits)) queries.now }
     ensures pass { IsPass board.now pass.new }
     ensures told { Crews (card board.now) queries.now workers result pass.old.seat.me.0 pass.new.seat.me.0 }
+    // However it ends, no other pass is out.
+    ensures alone { IsAlone pass.new.seat.me.0 }
 {
     let Ok(team) = hire(alloc, board, pass, workers) else {
         return Err(NoMemory);
@@ -52,7 +54,7 @@ pub fn crew<R: Threads + Wait + Sync, G: Gate + Sync>(
     Ok(answers)
 }
 
-// A pass for each worker.
+/// So many workers, each with a pass of its own.
 fn hire(
     alloc: Global,
     board: &Board,
@@ -78,68 +80,7 @@ fn hire(
     Ok(team)
 }
 
-// The answers, with each worker in a thread beside.
-fn ask_beside<R: Threads + Wait + Sync, G: Gate + Sync>(
-    rt: &R,
-    alloc: Global,
-    board: &Board,
-    pass: &mut Pass,
-    queries: &[Query],
-    mut team: Vec<Worker>,
-    gate: &G,
-) -> (Result<Vec<Answer>, NoMemory>, Vec<Worker>)
-    requires pass { IsPass board.now pass.old }
-    requires queries { All (IsQuery board.now.plan.grid (length board.now.plan.edits)) queries.now }
-    requires fresh { AreFresh board.now team.items }
-    ensures pass { IsPass board.now pass.new }
-    ensures told { AsksAll (card board.now) queries.now result.0 pass.old.seat.me.0 pass.new.seat.me.0 }
-    ensures done { AreDone board.now result.1.items × (length result.1.items ≡ length team.items) }
-    ensures numbered { (s : ℕ) → AreNumbered s team.items → AreNumbered s result.1.items }
-{
-    let (answers, _) = thread::join_mut(
-        rt,
-        &mut || ask_all(rt, alloc, board, pass, queries),
-        &mut || -> ()
-            requires { IsSync R.row × IsSync G.row × AreFresh board.now team.items }
-            ensures { AreDone board.entry.now team.exit.items × (length team.exit.items ≡ length team.entry.items) × ((s : ℕ) → AreNumbered s team.entry.items → AreNumbered s team.exit.items) }
-        { work_list(rt, board, &mut team, gate) },
-    );
-    (answers, team)
-}
-
-fn work_list<R: Threads + Sync, G: Gate + Sync>(
-    rt: &R,
-    board: &Board,
-    team: &mut Vec<Worker>,
-    gate: &G,
-)
-    requires fresh { AreFresh board.now team.old.items }
-    ensures done { AreDone board.now team.new.items }
-    ensures len { length team.new.items ≡ length team.old.items }
-    ensures numbered { (s : ℕ) → AreNumbered s team.old.items → AreNumbered s team.new.items }
-{
-    work_each(rt, board, team.as_mut_slice(), gate);
-}
-
-// Each worker in a thread.
-fn work_each<R: Threads + Sync, G: Gate + Sync>(
-    rt: &R,
-    board: &Board,
-    team: &mut [Worker],
-    gate: &G,
-)
-    requires fresh { AreFresh board.now team.old }
-    ensures done { AreDone board.now team.new }
-    ensures numbered { (s : ℕ) → AreNumbered s team.old → AreNumbered s team.new }
-{
-    if team.len() == 0 {
-        return;
-    }
-    let count = team.len();
-    thread::for_each_mut(rt, team, count, &|_, worker| work(board, worker, gate));
-}
-
-// The first pass takes in what the workers did. Whether one found no memory.
+/// The first pass takes in what the workers did. Tells whether one of them found no memory.
 fn merge_all(board: &Board, pass: &mut Pass, mut team: Vec<Worker>) -> bool
     requires pass { IsPass board.now pass.old }
     requires first { pass.old.seat.me.0.first ≡ true }
@@ -161,6 +102,7 @@ fn merge_all(board: &Board, pass: &mut Pass, mut team: Vec<Worker>) -> bool
     short
 }
 
+/// Whether one of the two is so. The choice stands in a function of its own, so that what it says is known behind it.
 fn any_short(short: bool, failed: bool) -> bool
     ensures { result ≡ false → (short ≡ false) × (failed ≡ false) }
 {

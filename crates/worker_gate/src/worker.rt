@@ -44,8 +44,10 @@ fn turns_due(board: &Board) -> u64
     ensures few { result < 2 ^ 32 }
 {
     let plan = board.plan();
-    let strips = u64::from(plan.grid().strips());
-    strips * u64::from(plan.edits().div_ceil(EDITS))
+    let grid = plan.grid();
+    // A grid has few strips, which is known where a field of it is seen.
+    let _valid = &grid.origin;
+    u64::from(grid.strips()) * u64::from(plan.edits().div_ceil(EDITS))
 }
 
 /// Whether a turn found no memory.

@@ -1,4 +1,5 @@
 use Rattle.std.proofs.Common.{arith, ap, sym, subst, length, ◌≡◌, ◌∙◌, ◌%◌}
+use Rattle.ray_grid.specs.Grids.{GridSize}
 use Rattle.ray_grid.specs.Strips.{strips_of}
 use Rattle.job_model.specs.Tasks.{PlanOf}
 use Rattle.strip_turns.specs.Passes.{card}
@@ -28,7 +29,8 @@ loop-ticket-preserved g c =
     let one = turned b _ _ c.turn-turned.result _ _ c.turn-turned.ensures.told c.is_short.ensures c.if-is_short.false in
     let above = drawn_above b _ t _ next.result c.loop-ticket.worker _ c.loop-ticket.invariant one next.ensures.above in
     let strips : c.from-strips.result ≡ length (strips_of (card b).plan.grid) =
-    c.from-strips.ensures ∙ c.strips.ensures ∙ ap (λ (p : PlanOf). length (strips_of p.grid)) c.plan.ensures.card in
+    c.from-strips.ensures ∙ c.strips.ensures ∙ ap (λ (g : GridSize). length (strips_of g)) c.grid.ensures
+    ∙ ap (λ (p : PlanOf). length (strips_of p.grid)) c.plan.ensures.card in
     let here : OneTurn (card b) (t % length (strips_of (card b).plan.grid)) old new = subst (λ n. OneTurn (card b) (t % n) old new) strips one in
     working_more b _ t next.result c.loop-ticket.worker new next.new.pass c.loop-ticket.invariant
     (omega (arith, c.loop-ticket-test.true, c.turns_due-due.ensures.due)) here above next.ensures.pass next.ensures.drew
