@@ -5,7 +5,8 @@ ghost use Rattle.strip_turns.specs.Asks.{Asks, Finishes};
 
 use crate::board::{Board, Pass};
 use crate::moves::look;
-use crate::raising::{all_raised, counted, probed};
+use crate::raising::all_raised;
+use crate::reading::{counted, probed};
 use edit_plan::{Ask, Query};
 use job_facts::Answer;
 use std::sync::Wait;

@@ -7,6 +7,7 @@ mod claim;
 mod close;
 mod moves;
 mod raising;
+mod reading;
 mod rule;
 mod start;
 mod turn;

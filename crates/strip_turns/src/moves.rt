@@ -1,5 +1,6 @@
-ghost use Rattle.std.specs.Prelude.{◌≡◌, ◌<◌, ◌≤◌, ◌^◌, length, MatchOption};
+ghost use Rattle.std.specs.Prelude.{◌≡◌, ◌+◌, ◌*◌, ◌<◌, ◌≤◌, ◌^◌, length, MatchOption};
 ghost use Rattle.ray_grid.specs.Strips.{strips_of};
+ghost use Rattle.edit_plan.specs.Limits.{most_edits};
 ghost use Rattle.strip_turns.specs.Cards.{IsCase};
 ghost use Rattle.strip_turns.specs.Plays.{Missed, Looked};
 ghost use Rattle.strip_turns.specs.Sound.{word_of};
@@ -14,7 +15,7 @@ use std::thread;
 use strip_journal::Strip;
 
 /// The unit of a version in a strip's word, below which misses are counted.
-pub(crate) const VERSION: u64 = 1 << 40;
+const VERSION: u64 = 1 << 40;
 
 /// The words in use stand so many words apart: no two share a line of the processor's cache, so steps on different strips don't
 /// slow each other.
@@ -25,6 +26,14 @@ pub(crate) fn word_at(strip: u32) -> usize
     ensures { result ≡ word_of strip }
 {
     (strip as usize + 1) * APART
+}
+
+/// The word of a strip that is home at a version.
+pub(crate) fn home_word(done: u32) -> u64
+    requires { done ≤ most_edits }
+    ensures { result ≡ (done + 1) * 2 ^ 40 }
+{
+    (u64::from(done) + 1) * VERSION
 }
 
 /// Takes the strip where it is home, and else counts a miss.
@@ -99,16 +108,13 @@ pub(crate) fn put(
     requires further { from ≤ piece.done }
     ensures { IsBack board.now strip from piece.done seat.old seat.new }
 {
-    let to = u64::from(piece.done());
+    let home = home_word(piece.done());
     let word = word_at(strip);
     board
         .table
         .shared
         .exchange(seat, strip as usize, Some(piece));
-    board
-        .table
-        .shared
-        .swap::<Giving>(seat, word, (to + 1) * VERSION);
+    board.table.shared.swap::<Giving>(seat, word, home);
 }
 
 /// Learns what the pass may know. Nothing changes.

@@ -3,7 +3,7 @@ ghost use Rattle.turn_core.specs.World.{AreOfPlan};
 ghost use Rattle.strip_turns.specs.Starts.{AreHome, AreWithin, Starts};
 
 use crate::board::{Board, Pass};
-use crate::moves::{APART, VERSION, word_at};
+use crate::moves::{APART, home_word, word_at};
 use crate::view::Key;
 use atomic_table::Table;
 use std::alloc::Global;
@@ -40,13 +40,12 @@ fn home_words(alloc: Global, plan: &Plan, strips: &Vec<Strip>) -> Result<Vec<u64
     ensures within { IfOk result (λ _. AreWithin (length plan.now.edits) strips.now.items (length strips.now.items)) }
 {
     let count = plan.grid().strips();
-    let edits = plan.edits();
-    let Ok(mut words) = vec![in alloc; 0; (count as usize + 1) * APART] else {
-        return Err(NoMemory);
-    };
+    // The edits are few.
+    let _edits = plan.edits();
+    let mut words = vec![in alloc; 0u64; (count as usize + 1) * APART]?;
     for strip in 0..count {
         let done = strips[strip as usize].done();
-        words[word_at(strip)] = (u64::from(done) + 1) * VERSION;
+        words[word_at(strip)] = home_word(done);
     }
     Ok(words)
 }
