@@ -35,3 +35,4 @@ pub mod ToldStates
 pub mod FreshRays
 pub mod FreshJournal
 pub mod ToldNext
+pub mod Sent

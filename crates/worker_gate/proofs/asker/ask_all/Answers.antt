@@ -1,0 +1,34 @@
+use Rattle.std.proofs.Common.{arith, ap, sym, subst, List, [], length}
+use Rattle.std.proofs.lemmas.Grind.{common_steps}
+use Rattle.job_facts.specs.declared.totals.Answer.{Answer}
+use Rattle.strip_turns.specs.Passes.{card}
+use Rattle.worker_gate.specs.Asking.{AskedAll}
+use Rattle.worker_gate.proofs.Answering.{logged_none, asked_none, asked_more, one_more}
+use Rattle.worker_gate.proofs.asker.ask_all.Goals as goal
+
+pub returns-in_default-clause-told : goal.returns-in_default-clause-told
+returns-in_default-clause-told g c = logged_none c.args.pass.now.seat.me.0
+
+pub loop-query-init : goal.loop-query-init
+loop-query-init g c =
+    let e = c.in-Ok.ensures in
+    let b = c.args.board.now in
+    let v = c.args.pass.now.seat.me.0 in (
+      c.requires.pass,
+      subst (λ (l : List Answer). AskedAll (card b) [] l v v) (sym e.items) (asked_none (card b) v),
+      ap length e.items,
+      e.capacity,
+    )
+
+pub loop-query-preserved : goal.loop-query-preserved
+loop-query-preserved g c =
+    let b = c.args.board.now in
+    let i = c.loop-query.query-index in
+    let inv = c.loop-query.invariant in
+    let answers = c.loop-query.answers.items in
+    let told = c.in-Ok-ask.ensures.told in
+    let more = asked_more (card b) _ _ answers c.in-Ok-ask.answer _ _ _ inv.1 told in
+    let e = c.push_reserved.ensures in
+    let asked = one_more (card b) c.args.queries.now i _ answers c.push_reserved.new.self.items c.in-Ok-ask.answer
+        c.args.pass.now.seat.me.0 c.ask.new.pass.seat.me.0 c.loop-query-test.true e.items more in
+    (c.in-Ok-ask.ensures.pass, asked, grind (arith, common_steps, e.items, inv.2), omega (arith, inv.3, e.capacity))

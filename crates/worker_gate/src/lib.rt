@@ -1,0 +1,14 @@
+//! Workers that turn the strips of a board by tickets, while queries are answered beside them.
+#![tactic(auto)]
+
+mod asker;
+mod gate;
+mod team;
+mod threads;
+mod worker;
+
+pub use gate::{Gate, Open};
+pub use team::crew;
+
+#[cfg(test)]
+mod tests;

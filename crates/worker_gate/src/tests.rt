@@ -1,0 +1,4 @@
+mod again;
+mod crews;
+mod jobs;
+mod meeting;

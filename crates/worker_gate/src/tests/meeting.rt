@@ -1,0 +1,50 @@
+ghost use Rattle.std.specs.Prelude.{◌<◌};
+
+use crate::Gate;
+use std::sync::atomic::AtomicBool;
+use std::sync::atomic::Ordering::SeqCst;
+
+/// How often one looks for the other.
+const LOOKS: u32 = 100_000_000;
+
+/// A gate that lets the strips 0 and 1 in once a worker has come to each.
+#[derive(Drop)]
+pub struct Meeting {
+    came: [AtomicBool; 2],
+    met: [AtomicBool; 2],
+}
+
+impl Meeting {
+    /// Nobody came yet.
+    pub fn new() -> Meeting {
+        Meeting {
+            came: [AtomicBool::new(false), AtomicBool::new(false)],
+            met: [AtomicBool::new(false), AtomicBool::new(false)],
+        }
+    }
+
+    /// Whether each saw the other in time.
+    pub fn took_place(&self) -> bool {
+        self.met[0].load(SeqCst) && self.met[1].load(SeqCst)
+    }
+
+    fn wait(&self, here: usize)
+        requires { here < 2 }
+    {
+        self.came[here].store(true, SeqCst);
+        for _ in 0..LOOKS {
+            if self.came[1 - here].load(SeqCst) {
+                self.met[here].store(true, SeqCst);
+                return;
+            }
+        }
+    }
+}
+
+impl Gate for Meeting {
+    fn enter(&self, strip: u32, _ticket: u64) {
+        if strip < 2 {
+            self.wait(strip as usize);
+        }
+    }
+}
