@@ -110,6 +110,23 @@ pub fn length_up(a: i128, b: i128, c: i128) -> i128
     root_up(square(a) + square(b) + square(c))
 }
 
+/// The greatest number of 64 bits. Most squares are no greater, and their roots are found in half as many steps, of one word each.
+const SHORT: i128 = 18_446_744_073_709_551_615;
+
+/// The square root of a number of 64 bits, rounded up.
+fn short_root_up(n: u64) -> i128
+    ensures value { pos n ≤ℤ (result *ℤ result) }
+    ensures some { pos 0 ≤ℤ result }
+    ensures small { unsigned_abs result ≤ 10 ^ 18 }
+{
+    let below = n.isqrt();
+    if below * below == n {
+        i128::from(below)
+    } else {
+        i128::from(below) + 1
+    }
+}
+
 /// The square root, rounded up.
 pub fn root_up(n: i128) -> i128
     requires some { pos 0 ≤ℤ n }
@@ -118,5 +135,8 @@ pub fn root_up(n: i128) -> i128
     ensures some { pos 0 ≤ℤ result }
     ensures small { unsigned_abs result ≤ 10 ^ 18 }
 {
+    if n <= SHORT {
+        return short_root_up(n as u64);
+    }
     isqrt_ceil(n as u128) as i128
 }
