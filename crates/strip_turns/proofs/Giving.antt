@@ -127,12 +127,9 @@ module _ (card : Card) (slots id : ℕ) (me : Me (Option StripOf) View) (c : Car
         ),
       ))
       (h.places k lt')
-<<<<<<< HEAD
-=======
 
   -- the same for a word that is the strip's
   pub giving_at : (word new : ℕ) → word ≡ word_of k → k < slots → new ≡ (j.done + 1) * 2 ^ 40
       → Allows (IsSound card) slots id me word (λ _. new) (Gives (step slots word new 0 none) me)
   giving_at word new is lt value =
       subst (λ w. Allows (IsSound card) slots id me w (λ _. new) (Gives (step slots w new 0 none) me)) (sym is) (giving new lt value)
->>>>>>> 0078f2deb2a0567f162d8b1604317e4df3b25497

@@ -8,16 +8,10 @@ pub mod Giving
 pub mod Looking
 pub mod Cutting
 pub mod Cases
-<<<<<<< HEAD
-pub mod Starting
-pub mod Closing
-pub mod OutAndBack
-=======
 pub mod HomeWords
 pub mod Starting
 pub mod Closing
 pub mod OutAndBack
 pub mod ReadBack
 pub mod Asking
->>>>>>> 0078f2deb2a0567f162d8b1604317e4df3b25497
 pub mod Sent

@@ -1,9 +1,5 @@
 -- A step that changes nothing keeps the rule, and tells a pass that is alone of its tickets.
-<<<<<<< HEAD
-use Rattle.std.proofs.Common.{◌≡◌, ℕ, ◌≤◌, set, Option, arith, refl, sym, ◌∙◌, subst}
-=======
 use Rattle.std.proofs.Common.{◌≡◌, ℕ, ◌<◌, set, Option, arith, refl, sym, ◌∙◌, subst}
->>>>>>> 0078f2deb2a0567f162d8b1604317e4df3b25497
 use mathlib.Core.Option.{none}
 use lib.ListN.{get_or}
 use Rattle.atomic_table.specs.Table.{Me, step, keeps, Allows}

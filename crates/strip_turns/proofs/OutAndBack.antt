@@ -1,9 +1,5 @@
 -- A strip out of its slot, and back.
-<<<<<<< HEAD
-use Rattle.std.proofs.Common.{◌≡◌, ℕ, ◌+◌, ◌*◌, ◌^◌, ◌≤◌, List, [], ◌∷◌, Option, Some, None, MatchOption, sym, ap, ◌∙◌, subst}
-=======
 use Rattle.std.proofs.Common.{◌≡◌, ℕ, ◌+◌, ◌*◌, ◌^◌, ◌≤◌, List, [], ◌∷◌, Option, Some, None, MatchOption, max, arith, sym, ap, ◌∙◌, subst}
->>>>>>> 0078f2deb2a0567f162d8b1604317e4df3b25497
 use mathlib.Core.Option.{none}
 use Rattle.atomic_table.specs.Table.{Me, step, rest}
 use Rattle.atomic_table.specs.declared.shared.Seat.{Seat}
@@ -13,18 +9,11 @@ use Rattle.strip_turns.specs.declared.view.Card.{Card}
 use Rattle.strip_turns.specs.declared.board.Board.{Board}
 use Rattle.strip_turns.specs.Views.{with_strip, with_trip}
 use Rattle.strip_turns.specs.Log.{seen}
-<<<<<<< HEAD
-use Rattle.strip_turns.specs.Cards.{start, last}
-use Rattle.strip_turns.specs.Sound.{word_of}
-use Rattle.strip_turns.specs.Plays.{Took, Gives}
-use Rattle.strip_turns.specs.Passes.{card, IsIdle, Holds, TookOut, IsOut, IsBack, Tripped}
-=======
 use Rattle.strip_turns.specs.Cards.{start, last, IsCase}
 use Rattle.strip_turns.specs.Sound.{word_of}
 use Rattle.strip_turns.specs.Plays.{Took, Gives}
 use Rattle.strip_turns.specs.Passes.{card, IsIdle, Holds, TookOut, RaisedOut, IsOut, IsBack, Tripped}
 use Rattle.strip_turns.specs.Asks.{Raised}
->>>>>>> 0078f2deb2a0567f162d8b1604317e4df3b25497
 
 heads : {A : Type 0} (a b : A) (xs ys : List A) → a ∷ xs ≡ b ∷ ys → a ≡ b
 heads a b xs ys e = cc
@@ -51,19 +40,11 @@ taken_out b k X old mid new x idle t own has me =
       of_case = t.1.of_case;
     })
 
-<<<<<<< HEAD
-pub put_back_told : (b : Board) (slots k from new found : ℕ) (old mid seat : Seat (Option StripOf) View) (s : StripOf)
-    → IsOut b k from old → mid.me ≡ (old.me.0, (k, Some s) ∷ rest old.me.1) → new ≡ (s.done + 1) * 2 ^ 40
-    → Gives (step slots (word_of k) new 0 none) mid.me found seat.me → seat.table_id ≡ b.table.shared.table_id
-    → IsBack b k from s.done old seat
-put_back_told b slots k from new found old mid seat s h is value g own =
-=======
 pub put_back_told : (b : Board) (slots k from word new found : ℕ) (old mid seat : Seat (Option StripOf) View) (s : StripOf)
     → IsOut b k from old → mid.me ≡ (old.me.0, (k, Some s) ∷ rest old.me.1) → new ≡ (s.done + 1) * 2 ^ 40
     → Gives (step slots word new 0 none) mid.me found seat.me → seat.table_id ≡ b.table.shared.table_id
     → IsBack b k from s.done old seat
 put_back_told b slots k from word new found old mid seat s h is value g own =
->>>>>>> 0078f2deb2a0567f162d8b1604317e4df3b25497
     let v : mid.me.0 ≡ old.me.0 = ap (λ m. m.0) is in
     let e : mid.me.1 ≡ (k, Some s) ∷ rest old.me.1 = ap (λ m. m.1) is in
     let named = ap (λ z. z.card) v ∙ h.named in
@@ -132,8 +113,6 @@ back_idle b k from to old mid seat idle h back = record {
   held = ap (λ m. m.0.held) back.me;
   slots = ap (λ m. m.1) back.me;
 }
-<<<<<<< HEAD
-=======
 
 -- the strip that was raised may be put back
 pub raised_case : (b : Board) (k from version : ℕ) (old seat : Seat (Option StripOf) View) (s : StripOf)
@@ -149,4 +128,3 @@ raised_told b k from version old mid seat s idle h back = record {
       let there = subst (λ n. IsBack b k from n mid seat) h.of_case.at back in
       tripped b k from (max from version) old mid seat idle h.out there (omega arith) h.of_case.within;
 }
->>>>>>> 0078f2deb2a0567f162d8b1604317e4df3b25497

@@ -260,8 +260,6 @@ module _ (card : Card) (slots id k : ℕ) (me : Me (Option StripOf) View) (c : C
       let test = ne_eqb n old ne in
       subst (λ b. After s (either b new n) then) (sym test)
       (me.0, keeps, tt, same_state s h lt' at, told_as (λ c k. MatchBool (eqb n old) ((i : StripOf) × Took c k me me i) (me ≡ me)) card k me.0 mine (by_false _ _ _ test refl)))
-<<<<<<< HEAD
-=======
 
   -- the same for a word that is the strip's
   pub takes_or_misses_at : (word : ℕ) → word ≡ word_of k → k < slots → me.0.missed < 2 ^ 32
@@ -275,4 +273,3 @@ module _ (card : Card) (slots id k : ℕ) (me : Me (Option StripOf) View) (c : C
   takes_or_not_at word old new word_is lt even is =
       subst (λ w. Allows (IsSound card) slots id me w (λ n. either (eqb n old) new n) (TakesOrNot (step slots w old new none) me))
       (sym word_is) (takes_or_not old new lt even is)
->>>>>>> 0078f2deb2a0567f162d8b1604317e4df3b25497
