@@ -12,7 +12,7 @@ use Rattle.job_model.specs.Points.{left_moves}
 use Rattle.job_model.specs.Report.{answer_after, answered}
 use Rattle.job_model.specs.Tasks.{Job, JobMove}
 use Rattle.turn_core.specs.World.{answer_of}
-use Rattle.job_run.specs.Steps.{asked_with}
+use Rattle.job_run.specs.Asked.{asked_with}
 
 asked_append : (queries : List Query) (answers : List Answer) (query : Query) (answer : Answer) → length queries ≡ length answers
     → asked_with (queries ++ query ∷ []) (answers ++ answer ∷ []) ≡ asked_with queries answers ++ (query.ask, answer) ∷ []

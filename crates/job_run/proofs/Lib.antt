@@ -4,7 +4,7 @@ pub mod Named
 pub mod Telling
 pub mod Listed
 pub mod Asked
-pub mod Played
 pub mod Standing
+pub mod Brought
 pub mod Counted
 pub mod FirstStrips

@@ -2,4 +2,4 @@ pub mod Jobs
 pub mod Strips
 pub mod Left
 pub mod Founds
-pub mod Steps
+pub mod Asked

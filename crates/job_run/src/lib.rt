@@ -5,7 +5,6 @@ mod bodies;
 mod facts;
 mod left;
 mod run;
-mod steps;
 mod strips;
 mod versions;
 

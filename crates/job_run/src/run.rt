@@ -1,10 +1,9 @@
-ghost use Rattle.std.specs.Prelude.{◌≡◌, ◌×◌, ◌<◌, ◌≤◌, All, IfOk, IsTrue, length};
-ghost use Rattle.edit_plan.specs.Limits.{most_queries};
+ghost use Rattle.std.specs.Prelude.{◌≡◌, ◌<◌, ◌≤◌, All, IfOk, IsTrue, length};
 ghost use Rattle.edit_plan.specs.Queries.{IsQuery};
 ghost use Rattle.job_facts.specs.Facts.{are_answered};
 ghost use Rattle.job_model.specs.Report.{facts_of};
 ghost use Rattle.job_run.specs.Jobs.{job_with};
-ghost use Rattle.job_run.specs.Steps.{asked_with};
+ghost use Rattle.job_run.specs.Asked.{asked_with};
 
 use crate::bodies::JobBodies;
 use crate::facts::{found_moves, last_totals};
@@ -14,8 +13,11 @@ use crate::versions::bring_up;
 use edit_plan::{Ask, Query};
 use job_facts::{Answer, Facts};
 use std::alloc::Global;
+use std::sync::Wait;
+use std::thread::Threads;
 use strip_plan::Plan;
 use vf_io::NoMemory;
+use worker_gate::Gate;
 
 /// Each question with its answer.
 fn answered(
@@ -34,15 +36,18 @@ fn answered(
 }
 
 /// Does a whole job by so many workers, and gives what is reported of it. Fails only for want of memory.
-pub fn run_job(
+pub fn run_job<R: Threads + Wait + Sync, G: Gate + Sync>(
+    rt: &R,
     alloc: Global,
     plan: Plan,
     bodies: &JobBodies,
     passed: u32,
     queries: &[Query],
+    workers: u32,
+    gate: &G,
 ) -> Result<Facts, NoMemory>
     requires queries { All (IsQuery plan.grid (length plan.edits)) queries.now }
-    requires few { length queries.now ≤ most_queries }
+    requires workers { (0 < workers) × (workers ≤ 16) }
     // What the definitions say, point by point, of the whole lattice, whoever does which part when.
     ensures facts { IfOk result (λ facts. facts
         ≡ facts_of record { job = job_with plan bodies.now; passed = passed; queries = queries.now }) }
@@ -50,8 +55,8 @@ pub fn run_job(
 {
     let (moves, edits) = (plan.moves(), plan.edits());
     let left = left_moves(alloc, &plan)?;
-    let mut strips = fresh_strips(alloc, &plan, bodies)?;
-    let answers = bring_up(alloc, strips.as_mut_slice(), &plan, queries)?;
+    let strips = fresh_strips(alloc, &plan, bodies)?;
+    let (answers, strips) = bring_up(rt, alloc, plan, strips, queries, workers, gate)?;
     let left = found_moves(alloc, &left, &strips)?;
     let totals = last_totals(edits, &strips);
     let answers = answered(alloc, queries, &answers)?;

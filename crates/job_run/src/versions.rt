@@ -1,73 +1,40 @@
-ghost use Rattle.std.specs.Prelude.{◌≡◌, ◌<◌, ◌≤◌, All, IfOk, OnOk, length, map, slice_set};
-ghost use Rattle.edit_plan.specs.Limits.{most_queries};
+ghost use Rattle.std.specs.Prelude.{◌≡◌, ◌<◌, ◌≤◌, All, IfOk, length, map};
 ghost use Rattle.edit_plan.specs.Queries.{IsQuery};
-ghost use Rattle.ray_grid.specs.Strips.{strips_of};
 ghost use Rattle.job_model.specs.Tasks.{Job};
-ghost use Rattle.turn_core.specs.World.{AreStripsAt, answer_of, versions_of};
+ghost use Rattle.turn_core.specs.World.{answer_of};
 ghost use Rattle.job_run.specs.Jobs.{OfSomeJob};
-ghost use Rattle.job_run.specs.Strips.{AreAt, AreOf, AreRaised};
+ghost use Rattle.job_run.specs.Strips.{AreAt, AreOf};
 
-use crate::steps::{asks, turns};
 use edit_plan::Query;
 use job_facts::Answer;
 use std::alloc::Global;
+use std::sync::Wait;
+use std::thread::Threads;
 use strip_journal::Strip;
 use strip_plan::Plan;
-use turn_core::play;
+use strip_turns::Board;
 use vf_io::NoMemory;
+use worker_gate::{Gate, crew};
 
-/// Takes one strip to the last version. Its steps are all that are kept in memory at a time.
-fn finish_strip(
+/// Answers all queries, and takes all strips to the last version: so many workers take turns with them while the queries are asked.
+/// Who takes which turn, and in which order, is seen nowhere.
+pub fn bring_up<R: Threads + Wait + Sync, G: Gate + Sync>(
+    rt: &R,
     alloc: Global,
-    strips: &mut [Strip],
-    plan: &Plan,
+    plan: Plan,
+    strips: Vec<Strip>,
     queries: &[Query],
-    strip: u32,
-) -> Result<(), NoMemory>
-    requires strips { OfSomeJob (λ job. AreOf plan.now job strips.old) }
-    requires queries { All (IsQuery plan.now.grid (length plan.now.edits)) queries.now }
-    requires strip { strip < length (strips_of plan.now.grid) }
-    ensures { OnOk result ((job : Job) → AreOf plan.now job strips.old
-        → AreStripsAt job strips.new (slice_set (versions_of strips.old) strip (length plan.now.edits))) }
+    workers: u32,
+    gate: &G,
+) -> Result<(Vec<Answer>, Vec<Strip>), NoMemory>
+    requires workers { (0 < workers) × (workers ≤ 16) }
+    requires strips { OfSomeJob (λ job. AreOf plan job strips.items) }
+    requires queries { All (IsQuery plan.grid (length plan.edits)) queries.now }
+    ensures strips { IfOk result (λ up. (job : Job) → AreOf plan job strips.items → AreAt plan job (length plan.edits) up.1.items) }
+    ensures answers { IfOk result (λ up. (job : Job) → AreOf plan job strips.items → up.0.items ≡ map (answer_of job) queries.now) }
 {
-    let steps = turns(alloc, strip, plan.edits())?;
-    let _none = play(alloc, strips, plan, queries, &steps)?;
-    Ok(())
-}
-
-/// Takes all strips to the last version.
-fn finish_strips(
-    alloc: Global,
-    strips: &mut [Strip],
-    plan: &Plan,
-    queries: &[Query],
-) -> Result<(), NoMemory>
-    requires strips { OfSomeJob (λ job. AreOf plan.now job strips.old) }
-    requires queries { All (IsQuery plan.now.grid (length plan.now.edits)) queries.now }
-    ensures { OnOk result ((job : Job) → AreOf plan.now job strips.old → AreAt plan.now job (length plan.now.edits) strips.new) }
-{
-    for strip in 0..plan.grid().strips() {
-        finish_strip(alloc, strips, plan, queries, strip)?;
-    }
-    Ok(())
-}
-
-/// Answers all queries, and takes all strips to the last version. Which steps are taken, and in which order, is seen nowhere.
-pub fn bring_up(
-    alloc: Global,
-    strips: &mut [Strip],
-    plan: &Plan,
-    queries: &[Query],
-) -> Result<Vec<Answer>, NoMemory>
-    requires strips { OfSomeJob (λ job. AreOf plan.now job strips.old) }
-    requires queries { All (IsQuery plan.now.grid (length plan.now.edits)) queries.now }
-    requires few { length queries.now ≤ most_queries }
-    ensures done { OnOk result ((job : Job) → AreOf plan.now job strips.old → AreAt plan.now job (length plan.now.edits) strips.new) }
-    ensures answers { IfOk result (λ answers. (job : Job) → AreOf plan.now job strips.old
-        → answers.items ≡ map (answer_of job) queries.now) }
-{
-    let steps = asks(alloc, queries.len())?;
-    let answers = play(alloc, strips, plan, queries, &steps)?;
-    finish_strips(alloc, strips, plan, queries)?;
-    Ok(answers)
+    let (board, mut first) = Board::new(alloc, plan, strips)?;
+    let answers = crew(rt, alloc, &board, &mut first, queries, workers, gate)?;
+    let strips = board.close(alloc, first)?;
+    Ok((answers, strips))
 }

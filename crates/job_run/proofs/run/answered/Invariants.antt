@@ -1,5 +1,5 @@
 use Rattle.std.proofs.Common.{◌≡◌, take}
-use Rattle.job_run.specs.Steps.{asked_with}
+use Rattle.job_run.specs.Asked.{asked_with}
 use Rattle.job_run.proofs.run.answered.Given as goal
 
 abbrev pub invariant-loop-n : goal.invariant-loop-n

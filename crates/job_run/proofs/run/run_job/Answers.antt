@@ -4,7 +4,7 @@ use Rattle.job_facts.specs.Facts.{are_answered}
 use Rattle.job_model.specs.Report.{answered}
 use Rattle.turn_core.specs.World.{answer_of}
 use Rattle.job_run.specs.Jobs.{job_with}
-use Rattle.job_run.specs.Steps.{asked_with}
+use Rattle.job_run.specs.Asked.{asked_with}
 use Rattle.job_run.proofs.Asked.{all_answered, asked_is}
 use Rattle.job_run.proofs.Standing.{of_made}
 use Rattle.job_run.proofs.run.run_job.Goals as goal
