@@ -6,6 +6,7 @@ use std::alloc::Global;
 use std::env::{Env, FillError};
 use std::test::Fail;
 use vf_io::{MemShelf, MemSink};
+use worker_gate::Open;
 
 /// The usage line.
 const USAGE: &str =
@@ -13,14 +14,14 @@ const USAGE: &str =
 
 /// The status and the text of a call over one file, named `a.cls`. The calls with these numbers fail.
 fn answer(
-    alloc: Global,
+    rt: &HostRuntime,
     words: &[&str],
     file: &[u8],
     failing_reads: &[u64],
     failing_writes: &[u64],
 ) -> Result<(Status, Vec<u8>), Fail> {
     answer_over(
-        alloc,
+        rt,
         words,
         &[("a.cls", file)],
         failing_reads,
@@ -30,12 +31,13 @@ fn answer(
 
 /// The same over files with these names.
 fn answer_over(
-    alloc: Global,
+    rt: &HostRuntime,
     words: &[&str],
     named: &[(&str, &[u8])],
     failing_reads: &[u64],
     failing_writes: &[u64],
 ) -> Result<(Status, Vec<u8>), Fail> {
+    let alloc = rt.alloc();
     let mut files = Vec::new(alloc);
     for (name, bytes) in named {
         files.push((
@@ -52,7 +54,7 @@ fn answer_over(
     else {
         return Err(Fail::from("no memory for the sink"));
     };
-    let status = run(alloc, texts.as_slice(), &mut shelf, &mut sink);
+    let status = run(rt, alloc, &texts, &mut shelf, &mut sink, &Open);
     Ok((status, Vec::from_slice(alloc, sink.written())?))
 }
 
@@ -137,7 +139,7 @@ fn marks_one_move(rt: HostRuntime) -> Result<(), Fail> {
     for (file, question, mark) in rows {
         let mut words = vec![in rt.alloc(); "point", "a.cls"]?;
         words.extend_from_slice(question)?;
-        let (status, written) = answer(rt.alloc(), &words, file, &[], &[])?;
+        let (status, written) = answer(&rt, &words, file, &[], &[])?;
         let want = format!(in rt.alloc(); "clverify point 1\nmove 1 line 3 {mark}\nmoves 1\n")?;
         assert_eq!(rt; status.code(), 0, "the code at {question:?}");
         assert_eq!(rt;
@@ -206,7 +208,7 @@ fn marks_each_move_or_refuses(rt: HostRuntime) -> Result<(), Fail> {
         ),
     ];
     for (file, words, code, text) in rows {
-        let (status, written) = answer(rt.alloc(), words, file, &[], &[])?;
+        let (status, written) = answer(&rt, words, file, &[], &[])?;
         assert_eq!(rt; status.code(), code, "the code of {text}");
         assert_eq!(rt; written.as_slice(), text.as_bytes(), "the text of {text}");
     }
@@ -227,7 +229,7 @@ fn is_command(alloc: Global, words: &str) -> Result<bool, Fail> {
 
 #[test]
 fn words_of_commands(rt: HostRuntime) -> Result<(), Fail> {
-    let rows: [(&str, bool); 40] = [
+    let rows: [(&str, bool); 47] = [
         ("list a", true),
         ("list --x", true),
         ("list", false),
@@ -248,6 +250,13 @@ fn words_of_commands(rt: HostRuntime) -> Result<(), Fail> {
         ("verify a s --script", false),
         ("verify a s --script ", false),
         ("verify a s --script f g", false),
+        ("selftest 0", true),
+        ("selftest 000007", true),
+        ("selftest 999999", true),
+        ("selftest", false),
+        ("selftest 1000000", false),
+        ("selftest 0000007", false),
+        ("selftest 1 2", false),
         ("point a 0 0 0 --depth 0", true),
         ("point a 0 0 0 --depth 010", true),
         ("point a 0 0 0 --depth 2 --slabs 1", true),
@@ -273,7 +282,7 @@ fn words_of_commands(rt: HostRuntime) -> Result<(), Fail> {
         let found = is_command(rt.alloc(), words)?;
         assert_eq!(rt; found, is_taken, "the words {words:?}");
     }
-    let (status, written) = answer(rt.alloc(), &["list"], b"", &[0], &[])?;
+    let (status, written) = answer(&rt, &["list"], b"", &[0], &[])?;
     assert_eq!(rt; status, Status::Usage, "words that are no command");
     assert_eq!(rt; written.as_slice(), USAGE.as_bytes(), "the usage line");
     Ok(())
@@ -293,7 +302,7 @@ fn faults_outside_are_told_apart(rt: HostRuntime) -> Result<(), Fail> {
         (&["list"], &[], &[0], Status::WriteFault, ""),
     ];
     for (words, reads, writes, end, text) in rows {
-        let (status, written) = answer(rt.alloc(), words, file, reads, writes)?;
+        let (status, written) = answer(&rt, words, file, reads, writes)?;
         assert_eq!(rt; status, end, "the reads {reads:?} and writes {writes:?}");
         assert_eq!(rt;
             written.as_slice(),
@@ -387,6 +396,15 @@ count removed 49 possible 49 of 108\n\
 total removed 0 possible 0 of 108\n\
 verdict clean\n";
 
+/// What is due to two made jobs, a clean one and one whose moves cut into the part.
+const SELFTEST_1: &str = "clverify selftest 1\n\
+total removed 2748 possible 2970 of 8712\n\
+verdict clean\n";
+
+const SELFTEST_5260: &str = "clverify selftest 5260\n\
+total removed 3461 possible 3636 of 8712\n\
+verdict findings\n";
+
 #[test]
 fn verifies_or_refuses(rt: HostRuntime) -> Result<(), Fail> {
     let files: [(&str, &[u8]); 7] = [
@@ -398,10 +416,18 @@ fn verifies_or_refuses(rt: HostRuntime) -> Result<(), Fail> {
         ("F", b"run 1 1\ncount\nundo 1\n"),
         ("G", b"go\n"),
     ];
-    let rows: [(&[&str], &[u64], u8, &str); 9] = [
+    let rows: [(&[&str], &[u64], u8, &str); 12] = [
         (&["verify", "A", "S"], &[], 0, CLEAN),
         (&["verify", "A", "P"], &[], 1, FINDINGS),
         (&["verify", "A", "S", "--script", "F"], &[], 0, UNDONE),
+        (
+            &["verify", "--workers=16", "A", "--script=F", "S"],
+            &[],
+            0,
+            UNDONE,
+        ),
+        (&["selftest", "1"], &[], 0, SELFTEST_1),
+        (&["selftest", "5260"], &[], 1, SELFTEST_5260),
         (&["verify", "A"], &[], 2, USAGE),
         (&["verify", "A", "M"], &[], 4, ""),
         (&["verify", "A", "S"], &[2], 5, TWO_LINES),
@@ -425,7 +451,7 @@ fn verifies_or_refuses(rt: HostRuntime) -> Result<(), Fail> {
         ),
     ];
     for (words, writes, code, text) in rows {
-        let (status, written) = answer_over(rt.alloc(), words, &files, &[], writes)?;
+        let (status, written) = answer_over(&rt, words, &files, &[], writes)?;
         assert_eq!(rt; status.code(), code, "the code of {words:?}");
         assert_eq!(rt;
             written.as_slice(),
