@@ -10,6 +10,7 @@ mod sample;
 mod scaled;
 mod sets;
 mod sheet;
+mod start;
 mod strip_marker;
 mod turn;
 mod word;

@@ -1,15 +1,18 @@
-ghost use Rattle.std.specs.Prelude.{◌≡◌, ◌*◌, ◌<◌, ◌≤◌, ℤ, List, pos, ◌+ℤ◌, ◌*ℤ◌, int_lt, unsigned_abs};
+ghost use Rattle.std.specs.Prelude.{◌≡◌, ℕ, ◌*◌, ◌<◌, ◌≤◌, ℤ, List, pos, ◌+ℤ◌, ◌*ℤ◌, int_lt, unsigned_abs};
 ghost use Rattle.std.specs.Int.{int_wrap};
 ghost use mir.Syntax.{w128};
-ghost use Rattle.space.specs.Ranges.{IsPoint};
+ghost use Rattle.space.specs.Motion.{Motion};
+ghost use Rattle.space.specs.Ranges.{IsPoint, IsWithin};
 ghost use Rattle.space.specs.Vectors.{at};
 ghost use Rattle.bern_form.specs.Forms.{IsSmall, all_negative, all_positive, difference4};
 ghost use Rattle.bern_form.specs.Sizes.{IsBounded2, axis_limit, offset_limit, scale_limit};
 ghost use Rattle.wanted_marks.specs.Ways.{scaled_way};
+ghost use Rattle.wanted_marks.specs.Starts.{IsStart};
 ghost use Rattle.wanted_marks.specs.Lines.{FitsAt, IsThrough, coefficient_at, height_at, heights_at, width_at};
 ghost use Rattle.wanted_marks.specs.Widths.{IsTurn, quadratic, spread_form};
 
 use crate::scaled::scaled_way;
+use crate::start::Start;
 use crate::turn::Turn;
 use axis_cells::{Sweep, scalar_product_on_cell};
 use bern_form::{Form2, Form4, minus4, scale4, times22};
@@ -71,19 +74,25 @@ impl Line {
         requires scale { scale ≤ scale_limit }
         ensures { IsThrough result sweep.now start.now (scaled_way (pos scale) start.now next.now) scale }
     {
-        let from = scaled_way(scale, &sweep.from, start);
-        let to = scaled_way(scale, &sweep.to, start);
         let step = scaled_way(scale, start, next);
-        let u = scalar_product_on_cell(&from, &to, &turn.first, &turn.last);
-        let u_step = scalar_product_on_cell(&step, &step, &turn.first, &turn.last);
-        let d = scalar_product_on_cell(&from, &to, &from, &to);
-        let d_step = scalar_product_on_cell(&from, &to, &step, &step);
-        let step_square = scalar_product_on_cell(&step, &step, &step, &step);
+        Line::from_start(&Start::of_point(start, sweep, turn, scale), &step, turn)
+    }
+
+    /// The line that begins at a point and goes on by a step, which is taken times the scale.
+    pub fn from_start(start: &Start, step: &[i64; 3], turn: &Turn) -> Line
+        requires { IsWithin offset_limit step.now }
+        ensures through { (m : Motion) (p : List ℤ) (S : ℕ) → IsStart start.now.from start.now.to start.now.height.c start.now.width.c m p S
+            → IsTurn turn.now.first turn.now.last turn.now.n.c m S → IsThrough result m p step.now S }
+        ensures small { IsBounded2 (3 * (offset_limit * axis_limit)) result.height_step.c }
+    {
+        let u_step = scalar_product_on_cell(step, step, &turn.first, &turn.last);
+        let d_step = scalar_product_on_cell(&start.from, &start.to, step, step);
+        let step_square = scalar_product_on_cell(step, step, step, step);
         Line {
-            constant: spread_form(&d, &turn.n, &u, &u, 4),
-            first: spread_form(&d_step, &turn.n, &u, &u_step, 8),
+            constant: start.width,
+            first: spread_form(&d_step, &turn.n, &start.height, &u_step, 8),
             second: spread_form(&step_square, &turn.n, &u_step, &u_step, 4),
-            height: u,
+            height: start.height,
             height_step: u_step,
         }
     }

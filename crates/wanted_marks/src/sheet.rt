@@ -8,6 +8,7 @@ ghost use Rattle.wanted_marks.specs.Widths.{IsTurn, moved3, moved5};
 
 use crate::line::{Line, quadratic, spread_form, wrapped};
 use crate::scaled::scaled_way;
+use crate::start::Start;
 use crate::turn::Turn;
 use axis_cells::{Sweep, scalar_product_on_cell};
 use bern_form::{Form2, Form4};
@@ -106,13 +107,15 @@ impl Sheet {
     {
         let step = scaled_way(scale, start, next);
         let side = scaled_way(scale, start, beside);
+        let from = Start::of_point(start, sweep, turn, scale);
+        let along = Line::from_start(&from, &step, turn);
+        let across = Line::from_start(&from, &side, turn);
         let both = scalar_product_on_cell(&side, &side, &step, &step);
-        let u_side = scalar_product_on_cell(&side, &side, &turn.first, &turn.last);
-        let u_step = scalar_product_on_cell(&step, &step, &turn.first, &turn.last);
+        let mixed = spread_form(&both, &turn.n, &across.height_step, &along.height_step, 8);
         Sheet {
-            along: Line::through(start, next, sweep, turn, scale),
-            across: Line::through(start, beside, sweep, turn, scale),
-            mixed: spread_form(&both, &turn.n, &u_side, &u_step, 8),
+            along,
+            across,
+            mixed,
         }
     }
 
