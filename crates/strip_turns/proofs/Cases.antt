@@ -1,6 +1,6 @@
 -- A strip of the case is of the plan, has its number, and stays of the case as it advances.
-use Rattle.std.proofs.Common.{◌≡◌, ℕ, ◌≤◌, Some, ap, sym, ◌∙◌}
-use Rattle.job_model.specs.Tasks.{Job, PlanOf}
+use Rattle.std.proofs.Common.{◌≡◌, ℕ, ◌≤◌, Some, sym, ◌∙◌}
+use Rattle.job_model.specs.Tasks.{Job}
 use Rattle.strip_journal.specs.Strips.{StripOf}
 use Rattle.turn_core.specs.World.{AreOfPlan, AreStrips}
 use Rattle.strip_turns.specs.declared.view.Card.{Card}

@@ -1,7 +1,12 @@
 -- With one pass, which holds nothing, each strip is home.
-use Rattle.std.proofs.Common.{◌≡◌, ℕ, zero, suc, ◌+◌, ◌<◌, ⊎_elim, ◌⊎◌, inl, inr, List, [], ◌∷◌, ◌++◌, length, slice_get, Option, Some, None, arith, refl, sym, ap, ◌∙◌, subst, get_or}
+use Rattle.std.proofs.Common.{◌≡◌, ℕ, zero, suc, ◌+◌, ◌<◌, ⊎_elim, ◌⊎◌, inl, inr, List, [], ◌∷◌, ◌++◌, length, slice_get, Option, Some, None, arith, refl, sym, ap, ◌∙◌, subst, get_or, set, Bool, false}
 use Rattle.std.proofs.Math.ListN.{length-append}
+use Rattle.std.proofs.lemmas.Grind.{common_steps}
+use Rattle.std.proofs.lemmas.List.{get_or-set_other}
 use Rattle.std.proofs.lemmas.Option.{slice_get_within}
+use Rattle.std.specs.Mem.Slots.Ownership.{Filled}
+use mathlib.Core.Logic.{dite}
+use native.Mathlib.Decide.{ℕ_discrete}
 use mathlib.Core.Option.{some, some-injective}
 use lib.ListN.{get_elem?}
 use Rattle.atomic_table.specs.Table.{Final, Seen}
@@ -117,3 +122,17 @@ all_out_push slots strips n s h there = record {
       (λ p. ap (get_elem? slots) (p.0 ∙ h.many) ∙ there ∙ ap (λ z. some (Some z)) p.1)
       (one_more strips s k x at);
 }
+
+-- the marks of full slots, once one more was emptied
+pub filled_after : (fs gs : List Bool) (i m n : ℕ) → gs ≡ set fs i false → n ≡ m → Filled fs i m → Filled gs (i + 1) n
+filled_after fs gs i m n e same h =
+    λ k low high. ap (λ l. get_or l k false) e ∙ get_or-set_other fs i k false false (λ q. omega arith) ∙ h k (omega arith) (omega arith)
+
+emptied : (fs : List Bool) (k i : ℕ) → k ≡ i → get_or (set fs i false) k false ≡ false
+emptied fs k i same = grind (arith, common_steps)
+
+pub emptied_after : (fs gs : List Bool) (i : ℕ) → gs ≡ set fs i false → ((k : ℕ) → k < i → get_or fs k false ≡ false)
+    → (k : ℕ) → k < i + 1 → get_or gs k false ≡ false
+emptied_after fs gs i e h = λ k lt. dite (ℕ_discrete k i)
+    (λ same. ap (λ l. get_or l k false) e ∙ emptied fs k i same)
+    (λ ne. ap (λ l. get_or l k false) e ∙ get_or-set_other fs i k false false (λ q. ne (omega arith)) ∙ h k (omega arith))

@@ -10,7 +10,6 @@ use Rattle.strip_turns.specs.declared.board.Board.{Board}
 use Rattle.strip_turns.specs.Views.{with_strip, with_trip}
 use Rattle.strip_turns.specs.Log.{seen}
 use Rattle.strip_turns.specs.Cards.{start, last, IsCase}
-use Rattle.strip_turns.specs.Sound.{word_of}
 use Rattle.strip_turns.specs.Plays.{Took, Gives}
 use Rattle.strip_turns.specs.Passes.{card, IsIdle, Holds, TookOut, RaisedOut, IsOut, IsBack, Tripped}
 use Rattle.strip_turns.specs.Asks.{Raised}

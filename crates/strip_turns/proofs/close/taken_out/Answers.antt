@@ -1,11 +1,10 @@
-use Rattle.std.proofs.Common.{arith, rules, ap, subst, sym, ◌≡◌, ◌∙◌, ◌<◌, ◌+◌, length, Some, None, Option, List}
+use Rattle.std.proofs.Common.{rules, ap, subst, sym, ◌≡◌, ◌∙◌, ◌<◌, ◌+◌, length, Some, None, Option, List}
 use mathlib.Core.Option.{some}
 use lib.ListN.{get_elem?}
 use Rattle.std.specs.Mem.Slots.{slots_items}
-use Rattle.std.proofs.lemmas.Grind.{common_steps}
 use Rattle.strip_journal.specs.Strips.{StripOf}
 use Rattle.strip_turns.specs.Closed.{AllThere, AllOut}
-use Rattle.strip_turns.proofs.Closing.{there_is, all_out_push}
+use Rattle.strip_turns.proofs.Closing.{there_is, all_out_push, filled_after, emptied_after}
 use Rattle.strip_turns.proofs.close.taken_out.Goals as goal
 
 none_some : (x : Option StripOf) (s : StripOf) → x ≡ None → x ≡ Some s → ⊥
@@ -29,8 +28,8 @@ loop-i-preserved c =
     let o = c.take.ensures.others in (
       o.2 ∙ inv.0,
       o.0 ∙ inv.1,
-      grind (arith, common_steps, o.1),
-      grind (arith, common_steps, o.1),
+      filled_after _ _ c.loop-i.i _ _ o.1 o.2 inv.2,
+      emptied_after _ _ c.loop-i.i o.1 inv.3,
       out,
       c.push_reserved.ensures.capacity ∙ inv.5,
     )

@@ -1,4 +1,4 @@
-use Rattle.std.proofs.Common.{◌≡◌, ◌+◌, ◌<◌, ◌≤◌, length, rules, arith, ap, ap₂, sym, ◌∙◌, subst, Fits, w64}
+use Rattle.std.proofs.Common.{◌+◌, ◌<◌, ◌≤◌, length, rules, arith, ap, ap₂, sym, ◌∙◌, subst, Fits, w64}
 use Rattle.std.proofs.lemmas.List.{length-append}
 use Rattle.ray_grid.specs.Points.{lattice_of}
 use Rattle.ray_grid.specs.Strips.{strips_of}

@@ -1,11 +1,11 @@
-use Rattle.std.proofs.Common.{◌≡◌, ◌<◌, rules, slice_get, Some, max, arith, ap, sym, ◌∙◌, subst}
+use Rattle.std.proofs.Common.{◌<◌, rules, slice_get, ap, sym, ◌∙◌, subst}
 use Rattle.ray_grid.specs.Lattice.{points_of}
 use Rattle.ray_grid.specs.Strips.{strip_at, strip_number}
 use Rattle.ray_grid.proofs.Rows.{only_place}
 use Rattle.job_model.specs.Tasks.{PlanOf}
 use Rattle.strip_turns.specs.Passes.{card}
 use Rattle.strip_turns.specs.Asks.{Raised, Short}
-use Rattle.strip_turns.proofs.OutAndBack.{back_idle, raised_told}
+use Rattle.strip_turns.proofs.OutAndBack.{raised_told}
 use Rattle.strip_turns.proofs.ReadBack.{ray_there, ray_within, point_within, state_read}
 use Rattle.strip_turns.proofs.reading.probed.Goals as goal
 

@@ -1,8 +1,8 @@
-use Rattle.std.proofs.Common.{◌≡◌, ◌<◌, ◌≤◌, length, arith, refl, sym, ap, ◌∙◌, subst}
+use Rattle.std.proofs.Common.{◌≡◌, ◌<◌, length, arith, refl, sym, ap, ◌∙◌}
 use Rattle.std.proofs.lemmas.Option.{slice_get_read}
-use Rattle.job_model.specs.Tasks.{Job, PlanOf}
+use Rattle.job_model.specs.Tasks.{PlanOf}
 use Rattle.ray_grid.specs.Strips.{strips_of}
-use Rattle.strip_turns.proofs.HomeWords.{none_home, none_within, home_more, within_more, all_home, all_within}
+use Rattle.strip_turns.proofs.HomeWords.{none_home, none_within, home_more, within_more}
 use Rattle.strip_turns.proofs.start.home_words.Goals as goal
 
 pub loop-strip-init : goal.loop-strip-init
