@@ -1,4 +1,5 @@
 pub mod Done
+pub mod Made
 pub mod Endings
 pub mod Programs
 pub mod Scripts

@@ -1,0 +1,19 @@
+use Rattle.std.proofs.Common.{◌∙◌, ap, subst}
+use Rattle.job_facts.specs.Facts.{JobFacts}
+use Rattle.job_model.specs.Report.{facts_of}
+use Rattle.job_model.specs.Tasks.{IsPlan, Task}
+use Rattle.clverify.specs.Commands.Selftest.{summed_up}
+use Rattle.clverify.specs.Settled.{IsReport}
+use Rattle.clverify.proofs.Made.{sums_truly}
+use Rattle.clverify.proofs.commands.selftest.verify_made.Goals as goal
+
+pub returns-in-Ok-clause-report : goal.returns-in-Ok-clause-report
+returns-in-Ok-clause-report r g c =
+    let facts = c.in-Ok.ensures.facts ∙ ap facts_of c.requires in
+    subst (λ (found : JobFacts). IsReport c.summary.result (summed_up c.args.number found)) facts c.summary.ensures.report
+
+pub returns-in-Ok-clause-sound : goal.returns-in-Ok-clause-sound
+returns-in-Ok-clause-sound r g c =
+    let facts = c.in-Ok.ensures.facts ∙ ap facts_of c.requires in
+    let valid = subst (λ (task : Task). IsPlan task.job.plan) c.requires c.in-Ok.ensures.valid in
+    sums_truly c.summary.result c.args.number c.in-Ok.facts facts valid c.summary.ensures.text
