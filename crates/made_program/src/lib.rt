@@ -1,0 +1,10 @@
+//! The program of a self-test: moves that are made from a number, all valid, without a file.
+#![tactic(auto)]
+
+mod draw;
+mod place;
+mod program;
+#[cfg(test)]
+mod tests;
+
+pub use program::{MADE_MOVES, made_program};
