@@ -21,10 +21,10 @@ use Rattle.strip_turns.specs.Closed.{AllDrawn}
 use Rattle.strip_turns.specs.Asks.{Raised, Short, IsRise, IsPartRise, SomeRaised, AllRaised, Finished}
 use Rattle.strip_turns.proofs.Logs.{seen_both}
 
-no_log : (v : View) → v ≡ with_log [] [] v
+pub no_log : (v : View) → v ≡ with_log [] [] v
 no_log v = λ i. record v { met = sym (append-nil v.met) i; log = sym (append-nil v.log) i }
 
-log_both : (v : View) (es fs : List Entry) (ms ns : List Met) → with_log fs ns (with_log es ms v) ≡ with_log (es ++ fs) (ms ++ ns) v
+pub log_both : (v : View) (es fs : List Entry) (ms ns : List Met) → with_log fs ns (with_log es ms v) ≡ with_log (es ++ fs) (ms ++ ns) v
 log_both v es fs ms ns = λ i. record v { met = append_assoc v.met ms ns i; log = append_assoc v.log es fs i }
 
 seen_else : (k j v from to : ℕ) (xs : List Entry) → j ≢ k → seen k v (xs ++ Trip j from to ∷ []) ≡ seen k v xs
@@ -81,7 +81,7 @@ all_raised_more c version n v u w h one =
           (λ ne. let o = other k ne in let r = h.within k (omega arith) in omega arith);
     }
 
-below_len : (es : List Entry) (i n : ℕ) (e : Entry) → get_elem? es i ≡ some e → length es ≡ n → i < n
+pub below_len : (es : List Entry) (i n : ℕ) (e : Entry) → get_elem? es i ≡ some e → length es ≡ n → i < n
 below_len [] i n e at len = absurd (some-ne-none e (sym at))
 below_len (x ∷ es) zero n e at len = omega arith
 below_len (x ∷ es) (suc i) n e at len = let r = below_len es i (length es) e at refl in omega arith

@@ -1,32 +1,37 @@
 -- A pass may go to another thread, and any thread may share the board.
-use denote.Param.Send.{IsSend, IsSync, recorded_sync, sendable, struct_sync}
+use denote.Param.Send.{IsSend, IsSync, recorded_send, recorded_sync, sendable, struct_send, struct_sync}
 use denote.Struct.Declared.{shape}
-use Rattle.std.proofs.Crossing.{frees}
 use Rattle.std.proofs.Crossing as heap
+use Rattle.std.specs.contracts.alloc.Global as global
+use Rattle.std.specs.contracts.impls.GlobalAllocator.TheImpl as allocator
 use Rattle.std.specs.contracts.option.Option as option
 use Rattle.atomic_table.proofs.owned.Table.TheSendSync as table
 use Rattle.atomic_table.proofs.shared.Seat.TheSendSync as seat
+use Rattle.atomic_table.specs.contracts.owned.Table as table_row
 use Rattle.strip_plan.proofs.plan.Plan.TheSendSync as plan
-use Rattle.strip_journal.specs.contracts.strip.Strip as strip
 use Rattle.strip_journal.proofs.Sent.{strip_send}
-use Rattle.atomic_table.specs.contracts.owned.Table as table'
-use Rattle.std.specs.contracts.alloc.Global as heap'
-use Rattle.std.specs.contracts.impls.GlobalAllocator.TheImpl as allocator
-use Rattle.strip_turns.specs.contracts.rule.Sound as sound
-use Rattle.strip_turns.specs.contracts.rule.SoundTableRuleOptionStripViewKey.TheImpl as rule
-use Rattle.strip_turns.specs.contracts.view.View as view
-use Rattle.strip_turns.specs.contracts.view.Key as key
+use Rattle.strip_journal.specs.contracts.strip.Strip as strip
 use Rattle.strip_turns.specs.contracts.board.Board as board
 use Rattle.strip_turns.specs.contracts.board.Pass as pass
+use Rattle.strip_turns.specs.contracts.rule.Sound as sound
+use Rattle.strip_turns.specs.contracts.rule.SoundTableRuleOptionStripViewKey.TheImpl as rule
+use Rattle.strip_turns.specs.contracts.view.Key as key
+use Rattle.strip_turns.specs.contracts.view.View as view
 
 slot_send : IsSend (option.the_row strip.the_row)
 slot_send = search (sendable, strip_send) depth 20
 
+-- the same of a pass that is a field of something
+pub pass_field_send : IsSend (pass.the_field).row
+pass_field_send = struct_send (shape pass.the_type) (seat.the_send _ view.the_row slot_send, tt)
+
 pub pass_send : IsSend pass.the_row
-pass_send = search (sendable, slot_send, seat.the_send) depth 20
+pass_send = recorded_send (pass.the_field).row _ _ (pass.the_type).to_one pass_field_send
+
+slots_sync : IsSync (table_row.the_field (option.the_row strip.the_row) view.the_row key.the_row sound.the_row global.the_row rule.ghosts allocator.ghosts).row
+slots_sync = table.the_field_sync (option.the_row strip.the_row) view.the_row key.the_row sound.the_row global.the_row rule.ghosts allocator.ghosts
+    slot_send heap.send heap.sync heap.frees
 
 pub board_sync : IsSync board.the_row
-board_sync =
-    let slots : IsSync (table'.the_field (option.the_row strip.the_row) view.the_row key.the_row sound.the_row heap'.the_row rule.ghosts allocator.ghosts).row =
-    table.the_field_sync (option.the_row strip.the_row) view.the_row key.the_row sound.the_row heap'.the_row rule.ghosts allocator.ghosts slot_send heap.send heap.sync frees in
-    recorded_sync (board.the_field).row _ _ (board.the_type).to_one (struct_sync (shape board.the_type) (plan.the_sync, (slots, tt)))
+board_sync = recorded_sync (board.the_field).row _ _ (board.the_type).to_one
+    (struct_sync (shape board.the_type) (plan.the_sync, (slots_sync, tt)))

@@ -4,4 +4,4 @@ pub mod Teams
 pub mod Merging
 pub mod Draws
 pub mod Crewing
-pub mod Shared
+pub mod Sent

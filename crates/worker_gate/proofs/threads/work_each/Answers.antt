@@ -1,13 +1,13 @@
 use Rattle.std.proofs.Common.{rules, ◌≡◌, ◌+◌, ◌<◌, get_or, length}
 use denote.Exit.{no}
-use denote.Param.Send.{arg_sync, param_sync}
-use Rattle.strip_turns.proofs.Sent.{board_sync, pass_send}
-use Rattle.worker_gate.proofs.Shared.{both_shared}
+use denote.Param.Send.{arg_send, arg_sync, param_send, param_sync}
+use Rattle.strip_turns.proofs.Sent.{board_sync}
+use Rattle.worker_gate.proofs.Sent.{both_shared, worker_send}
 use Rattle.worker_gate.proofs.Teams.{number_kept}
 use Rattle.worker_gate.proofs.threads.work_each.Goals as goal
 
 pub for_each_mut-requires-send-T : goal.for_each_mut-requires-send-T
-for_each_mut-requires-send-T g c κs within = search (rules, pass_send)
+for_each_mut-requires-send-T g c κs within = param_send 1 _ (arg_send _ no _ worker_send)
 
 pub for_each_mut-requires-sync-F : goal.for_each_mut-requires-sync-F
 for_each_mut-requires-sync-F g c κs within = param_sync 2 _ (arg_sync _ no _ (both_shared _ _ _ _ _ _ _ board_sync c.type_bounds.sync-G))
