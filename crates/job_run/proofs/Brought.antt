@@ -1,5 +1,5 @@
 -- The strips that a crew leaves are all at the last version.
-use Rattle.std.proofs.Common.{◌≡◌, ℕ, ◌<◌, ◌≤◌, List, Some, length, arith, sym, ap, ◌∙◌}
+use Rattle.std.proofs.Common.{◌≡◌, ℕ, ◌<◌, ◌≤◌, List, Some, length, arith, sym, ap, ◌∙◌, subst}
 use Rattle.std.specs.List.{slice_get}
 use Rattle.std.proofs.lemmas.Option.{slice_get_within}
 use Rattle.ray_grid.specs.Strips.{strips_of}
@@ -11,7 +11,10 @@ use Rattle.strip_turns.specs.Closed.{InOrder}
 use Rattle.strip_turns.specs.Log.{seen}
 use Rattle.strip_turns.specs.declared.view.Card.{Card}
 use Rattle.strip_turns.specs.declared.view.View.{View}
+use Rattle.job_run.specs.Founds.{AreBroughtUp, AreLast}
+use Rattle.job_run.specs.Left.{AreTold}
 use Rattle.job_run.specs.Strips.{AreAt, AreOf}
+use Rattle.job_run.specs.declared.left.LeftMove.{LeftMove}
 use Rattle.job_run.proofs.Standing.{raised_all}
 
 -- the strips of a job are those of its plan
@@ -42,3 +45,18 @@ brought_up plan job c v before after are strips order named reached =
           let high = one.within in
           omega (arith, edits, card, there, low, high);
     }
+
+-- read as slices, they and the moves that are left are those of the job
+pub up_from : (job : Job) (left read : List LeftMove) (strips there : List StripOf) → read ≡ left → there ≡ strips → AreTold job.plan left
+    → AreAt job.plan job (length job.plan.edits) strips → AreBroughtUp job read there
+up_from job left read strips there same_left same told at = record {
+  strips_are = subst (AreAt job.plan job (length job.plan.edits)) (sym same) at;
+  told = subst (AreTold job.plan) (sym same_left) told;
+}
+
+pub last_from : (job : Job) (edits : ℕ) (strips there : List StripOf) → there ≡ strips → edits ≡ length job.plan.edits
+    → AreAt job.plan job (length job.plan.edits) strips → AreLast job edits there
+last_from job edits strips there same many at = record {
+  strips_are = subst (AreAt job.plan job (length job.plan.edits)) (sym same) at;
+  many = many;
+}

@@ -93,7 +93,7 @@ told_row plan left j one counts told at =
     let here : IsTold plan number one = told.all.each j one at in
     row_is plan number counts (found_told one counts) here.below
     (λ move has. λ i. record {
-      number = here.number_is i + 1;
+      number = here.number_is i;
       line = here.line move has i;
       rapid = here.rapid move has i;
       counts = counts;

@@ -2,13 +2,14 @@
 use Rattle.std.proofs.Common.{◌≡◌, ℕ, ◌+◌, ◌<◌, ◌≤◌, List, [], ◌∷◌, ◌++◌, Some, length, get_or, arith, sym, ap, ◌∙◌, subst, length-append}
 use mathlib.Core.Logic.{dite}
 use native.Mathlib.Decide.{dec_le}
-use Rattle.std.specs.List.{slice_get}
+use Rattle.std.specs.List.{All, slice_get}
 use Rattle.std.proofs.lemmas.List.{get_or_append_left}
 use Rattle.std.proofs.Math.Seq.{get_or-append_seam}
 use Rattle.std.proofs.lemmas.Option.{get_or_from_slice_get, slice_get-get_or, slice_get_within}
+use Rattle.edit_plan.specs.Edits.{left_of}
 use Rattle.job_model.specs.Tasks.{PlanOf}
 use Rattle.job_run.specs.declared.left.LeftMove.{LeftMove}
-use Rattle.job_run.specs.Left.{AreFirstTold, IsTold}
+use Rattle.job_run.specs.Left.{AreFirstTold, AreTold, IsBelow, IsTold}
 
 pub told_more : (plan : PlanOf) (numbers : List ℕ) (n : ℕ) (told : List LeftMove) (one : LeftMove) → AreFirstTold plan numbers n told
     → IsTold plan (get_or numbers n 0) one → AreFirstTold plan numbers (n + 1) (told ++ one ∷ [])
@@ -27,4 +28,12 @@ told_more plan numbers n told one first is = record {
       let inside : j < length told = omega (arith, before) in
       let old = sym (get_or_append_left told (one ∷ []) t j inside) ∙ read in
       first.each j t (slice_get-get_or told j t inside ∙ ap Some old));
+}
+
+-- where all are told that are left, these are the moves that are left
+pub all_told : (plan : PlanOf) (numbers read : List ℕ) (told : List LeftMove) → read ≡ numbers → numbers ≡ left_of plan.edits
+    → All (IsBelow (length plan.moves)) numbers → AreFirstTold plan read (length read) told → AreTold plan told
+all_told plan numbers read told same left named first = record {
+  named = subst (All (IsBelow (length plan.moves))) left named;
+  all = subst (λ l. AreFirstTold plan l (length l) told) (same ∙ left) first;
 }

@@ -45,7 +45,7 @@ pub record AreLast (job : Job) (edits : ℕ) (strips : List StripOf) : Type 0 wh
 
 -- what is reported of a move as it is told, with its counts
 abbrev pub found_told : LeftMove → Counts → Found
-found_told left counts = record { number = left.number + 1; line = left.line; rapid = left.rapid; counts = counts }
+found_told left counts = record { number = left.number; line = left.line; rapid = left.rapid; counts = counts }
 
 -- what is reported of a move with its number and its counts
 abbrev pub found_with : ℕ → Counts → JobMove → Found

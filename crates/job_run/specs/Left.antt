@@ -1,5 +1,5 @@
 -- The moves that are left.
-use Rattle.std.specs.Prelude.{◌≡◌, ℕ, ◌<◌, List, All, Some, length, slice_get, slice_index}
+use Rattle.std.specs.Prelude.{◌≡◌, ℕ, ◌+◌, ◌<◌, List, All, Some, length, slice_get, slice_index}
 use Rattle.edit_plan.specs.Edits.{MoveLists, left_of}
 use Rattle.job_model.specs.Tasks.{JobMove, PlanOf}
 use Rattle.strip_plan.specs.Plans.{HasNumber}
@@ -13,9 +13,9 @@ IsBelow most number = number < most
 abbrev pub lists_with : List ℕ → List ℕ → MoveLists
 lists_with left dropped = record { left = left; dropped = dropped }
 
--- a move as it is told: the plan's with that number
+-- a move as it is told: the plan's with that number, which counts from 1 there
 pub record IsTold (plan : PlanOf) (number : ℕ) (told : LeftMove) : Type 0 where
-  pub number_is : told.number ≡ number
+  pub number_is : told.number ≡ number + 1
   pub below : number < length plan.moves
   pub line : (move : JobMove) → HasNumber plan number move → told.line ≡ move.line
   pub rapid : (move : JobMove) → HasNumber plan number move → told.rapid ≡ move.rapid

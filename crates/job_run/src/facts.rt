@@ -1,4 +1,4 @@
-ghost use Rattle.std.specs.Prelude.{◌≡◌, [], ◌-◌, ◌<◌, ◌^◌, IfOk, length};
+ghost use Rattle.std.specs.Prelude.{◌≡◌, [], IfOk, length};
 ghost use Rattle.edit_plan.specs.Edits.{left_of};
 ghost use Rattle.ray_grid.specs.Points.{lattice_of};
 ghost use Rattle.job_model.specs.Findings.{found_from};
@@ -28,11 +28,10 @@ fn counts_over(alloc: Global, strips: &[Strip], left: usize) -> Result<Vec<Count
 
 /// What is reported of a move that is left, by its counts.
 fn found_of(left: &LeftMove, counts: Counts) -> Found
-    requires { left.now.number < 2 ^ 32 - 1 }
     ensures { result ≡ found_told left.now counts }
 {
     Found {
-        number: left.number + 1,
+        number: left.number,
         line: left.line,
         rapid: left.rapid,
         counts,

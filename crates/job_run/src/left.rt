@@ -1,13 +1,13 @@
 ghost use Rattle.std.specs.Prelude.{◌≡◌, ◌++◌, ◌<◌, All, IfOk, OnOk, length};
 ghost use Rattle.edit_plan.specs.Edits.{after_edit, all_but_last, last_alone, left_of};
-ghost use Rattle.job_run.specs.Left.{AreTold, IsBelow, IsTold, lists_with};
+ghost use Rattle.job_run.specs.Left.{AreFirstTold, AreTold, IsBelow, IsTold, lists_with};
 
 use edit_plan::Edit;
 use std::alloc::Global;
 use strip_plan::Plan;
 use vf_io::NoMemory;
 
-/// A move that is left, as the plan tells it: its number from 0, the line of its record, and whether it is rapid.
+/// A move that is left, as the plan tells it: its number from 1, the line of its record, and whether it is rapid.
 #[derive(Clone, Copy, Debug, PartialEq, Eq)]
 pub struct LeftMove {
     pub number: u32,
@@ -59,11 +59,25 @@ fn told_of(plan: &Plan, number: u32) -> LeftMove
     requires { number < length plan.now.moves }
     ensures { IsTold plan.now number result }
 {
+    // That a plan has few moves is told with their number.
+    let _few = plan.moves();
     LeftMove {
-        number,
+        number: number + 1,
         line: plan.line(number),
         rapid: plan.is_rapid(number),
     }
+}
+
+/// The moves of the plan with these numbers, in order.
+fn told(alloc: Global, plan: &Plan, numbers: &[u32]) -> Result<Vec<LeftMove>, NoMemory>
+    requires { All (IsBelow (length plan.now.moves)) numbers.now }
+    ensures { IfOk result (λ told. AreFirstTold plan.now numbers.now (length numbers.now) told.items) }
+{
+    let mut told = Vec::with_capacity(alloc, numbers.len())?;
+    for j in 0..numbers.len() {
+        told.push(told_of(plan, numbers[j]))?;
+    }
+    Ok(told)
 }
 
 /// The moves that are left after all edits, in order.
@@ -71,9 +85,5 @@ pub fn left_moves(alloc: Global, plan: &Plan) -> Result<Vec<LeftMove>, NoMemory>
     ensures { IfOk result (λ told. AreTold plan.now told.items) }
 {
     let numbers = left_numbers(alloc, plan)?;
-    let mut told = Vec::with_capacity(alloc, numbers.len())?;
-    for j in 0..numbers.len() {
-        told.push(told_of(plan, numbers[j]))?;
-    }
-    Ok(told)
+    told(alloc, plan, &numbers)
 }
