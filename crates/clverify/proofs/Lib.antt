@@ -6,3 +6,4 @@ pub mod Scripts
 pub mod Shapes
 pub mod Sizes
 pub mod Truths
+pub mod Unread

@@ -9,7 +9,7 @@ use Rattle.edit_plan.specs.declared.script.Script.{Script}
 use Rattle.edit_plan.specs.Script.{whole_of_moves}
 use Rattle.job_model.specs.Tasks.{JobMove, Task}
 use Rattle.made_program.specs.Made.{made_moves, made_of}
-use Rattle.made_program.specs.Setup.{made_setup}
+use Rattle.made_setup.specs.Made.{made_setup}
 use Rattle.ray_shapes.specs.declared.solid.Solid.TheVariants.{Bodies}
 use Rattle.report_text.specs.declared.fault.Fault.{Fault}
 use Rattle.report_text.specs.declared.fault.Fault.TheVariants.{CutterHeight}

@@ -8,12 +8,12 @@ use Rattle.clverify.proofs.Made.{sums_truly}
 use Rattle.clverify.proofs.commands.selftest.verify_made.Goals as goal
 
 pub returns-in-Ok-clause-report : goal.returns-in-Ok-clause-report
-returns-in-Ok-clause-report r g c =
+returns-in-Ok-clause-report g c =
     let facts = c.in-Ok.ensures.facts ∙ ap facts_of c.requires in
     subst (λ (found : JobFacts). IsReport c.summary.result (summed_up c.args.number found)) facts c.summary.ensures.report
 
 pub returns-in-Ok-clause-sound : goal.returns-in-Ok-clause-sound
-returns-in-Ok-clause-sound r g c =
+returns-in-Ok-clause-sound g c =
     let facts = c.in-Ok.ensures.facts ∙ ap facts_of c.requires in
     let valid = subst (λ (task : Task). IsPlan task.job.plan) c.requires c.in-Ok.ensures.valid in
     sums_truly c.summary.result c.args.number c.in-Ok.facts facts valid c.summary.ensures.text

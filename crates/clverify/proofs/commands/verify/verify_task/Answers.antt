@@ -6,7 +6,7 @@ use Rattle.clverify.proofs.Done.{report_is_true}
 use Rattle.clverify.proofs.commands.verify.verify_task.Goals as goal
 
 pub returns-in-Ok-clause-report : goal.returns-in-Ok-clause-report
-returns-in-Ok-clause-report c = subst (λ (facts : JobFacts). IsReport c.report.result (reported facts)) c.in-Ok.ensures.facts c.report.ensures.report
+returns-in-Ok-clause-report g c = subst (λ (facts : JobFacts). IsReport c.report.result (reported facts)) c.in-Ok.ensures.facts c.report.ensures.report
 
 pub returns-in-Ok-clause-sound : goal.returns-in-Ok-clause-sound
-returns-in-Ok-clause-sound c = report_is_true c.report.result c.args.inputs c.in-Ok.facts c.in-Ok.ensures.facts c.in-Ok.ensures.valid c.report.ensures.text
+returns-in-Ok-clause-sound g c = report_is_true c.report.result c.args.inputs c.in-Ok.facts c.in-Ok.ensures.facts c.in-Ok.ensures.valid c.report.ensures.text

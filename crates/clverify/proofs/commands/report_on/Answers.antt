@@ -1,0 +1,27 @@
+use Rattle.std.proofs.Common.{IfOk, IfSome, subst, sym}
+use Rattle.vf_io.specs.Files.{Files}
+use Rattle.clverify.specs.Asked.{command_seen}
+use Rattle.clverify.specs.Due.{command_due}
+use Rattle.clverify.specs.Inputs.{is_read_fault}
+use Rattle.clverify.specs.Settled.{IsReport}
+use Rattle.clverify.specs.Truth.{IsTrueText}
+use Rattle.clverify.specs.declared.commands.Command.{Command}
+use Rattle.clverify.proofs.Unread.{true_over_all, unread}
+use Rattle.clverify.proofs.commands.report_on.Goals as goal
+
+pub returns-in-Selftest-clause-report : goal.returns-in-Selftest-clause-report
+returns-in-Selftest-clause-report g c =
+    subst (λ (command : Command). IfSome (command_due (g.S.Shelf.files c.args.shelf.now) (command_seen command)) (IsReport c.selftest_report.result))
+    (sym c.in-Selftest.is) c.selftest_report.ensures.report
+
+pub returns-in-Selftest-clause-sound : goal.returns-in-Selftest-clause-sound
+returns-in-Selftest-clause-sound g c =
+    subst (λ (command : Command). IfSome (g.S.Shelf.files c.args.shelf.now) (λ (files : Files).
+    IfOk c.selftest_report.result (λ answer. IsTrueText files (command_seen command) answer.text.items)))
+    (sym c.in-Selftest.is)
+    (true_over_all (g.S.Shelf.files c.args.shelf.now) c.selftest_report.result c.in-Selftest.number c.selftest_report.ensures.sound)
+
+pub returns-in-Selftest-clause-read : goal.returns-in-Selftest-clause-read
+returns-in-Selftest-clause-read g c =
+    unread g.S.Shelf.files g.S.Shelf.faults g.S.Shelf.failures (is_read_fault c.selftest_report.result) c.args.shelf.now
+    c.selftest_report.ensures.memory
