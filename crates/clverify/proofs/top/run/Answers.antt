@@ -1,4 +1,4 @@
-use Rattle.std.proofs.Common.{Option, subst, sym}
+use Rattle.std.proofs.Common.{Option, ap, option_map, subst, sym, ◌∙◌}
 use Rattle.std.specs.List.{All}
 use Rattle.clverify.specs.Asked.{command_seen}
 use Rattle.clverify.specs.Commands.{Command, files_of}
@@ -10,59 +10,59 @@ use Rattle.clverify.proofs.top.run.Goals as goal
 
 pub report_on-report-requires-clause-allowed : goal.report_on-report-requires-clause-allowed
 report_on-report-requires-clause-allowed g c =
-    subst (λ (command : Option Command). All (g.S.Shelf.allows c.args.shelf.now) (files_of command)) (sym c.in-Some.ensures.command) c.requires
+    subst (λ (command : Option Command). All (g.S.Shelf.allows c.args.shelf.now) (files_of command)) (sym (ap (λ o. option_map command_seen o) (sym c.in-Ok-Some.field-0-is) ∙ c.in-Ok-Some.ensures.command)) c.requires
 
-pub returns-in-Some-clause-answer : goal.returns-in-Some-clause-answer
-returns-in-Some-clause-answer g c =
+pub returns-in-Ok-Some-clause-answer : goal.returns-in-Ok-Some-clause-answer
+returns-in-Ok-Some-clause-answer g c =
     subst (λ (command : Option Command). Answers c.settle.result (due (g.S.Shelf.files c.args.shelf.now) command) (g.K.Sink.written c.args.sink.now) (g.K.Sink.written c.settle.new.sink))
-    c.in-Some.ensures.command
+    (ap (λ o. option_map command_seen o) (sym c.in-Ok-Some.field-0-is) ∙ c.in-Ok-Some.ensures.command)
     (answers_due g.K.Sink.written g.K.Sink.pieces g.K.Sink.faults c.settle.result c.args.sink.now c.settle.new.sink c.report_on-report.result
-    (command_due (g.S.Shelf.files c.args.shelf.now) (command_seen c.in-Some.command)) c.report_on-report.ensures.report c.settle.ensures).answer
+    (command_due (g.S.Shelf.files c.args.shelf.now) (command_seen c.in-Ok-Some.command)) c.report_on-report.ensures.report c.settle.ensures).answer
 
-pub returns-in-Some-clause-hands : goal.returns-in-Some-clause-hands
-returns-in-Some-clause-hands g c =
+pub returns-in-Ok-Some-clause-hands : goal.returns-in-Ok-Some-clause-hands
+returns-in-Ok-Some-clause-hands g c =
     subst (λ (command : Option Command). Hands c.settle.result (due (g.S.Shelf.files c.args.shelf.now) command) (g.K.Sink.written c.args.sink.now) (g.K.Sink.written c.settle.new.sink) (g.K.Sink.pieces c.args.sink.now) (g.K.Sink.pieces c.settle.new.sink))
-    c.in-Some.ensures.command
+    (ap (λ o. option_map command_seen o) (sym c.in-Ok-Some.field-0-is) ∙ c.in-Ok-Some.ensures.command)
     (answers_due g.K.Sink.written g.K.Sink.pieces g.K.Sink.faults c.settle.result c.args.sink.now c.settle.new.sink c.report_on-report.result
-    (command_due (g.S.Shelf.files c.args.shelf.now) (command_seen c.in-Some.command)) c.report_on-report.ensures.report c.settle.ensures).hands
+    (command_due (g.S.Shelf.files c.args.shelf.now) (command_seen c.in-Ok-Some.command)) c.report_on-report.ensures.report c.settle.ensures).hands
 
-pub returns-in-Some-clause-sound : goal.returns-in-Some-clause-sound
-returns-in-Some-clause-sound g c =
+pub returns-in-Ok-Some-clause-sound : goal.returns-in-Ok-Some-clause-sound
+returns-in-Ok-Some-clause-sound g c =
     subst (λ (command : Option Command). TellsTruth c.settle.result (g.S.Shelf.files c.args.shelf.now) command (g.K.Sink.written c.args.sink.now) (g.K.Sink.written c.settle.new.sink))
-    c.in-Some.ensures.command
-    (tells_truth g.K.Sink.written g.K.Sink.pieces g.K.Sink.faults c.args.sink.now c.settle.new.sink (command_seen c.in-Some.command) c.settle.result
+    (ap (λ o. option_map command_seen o) (sym c.in-Ok-Some.field-0-is) ∙ c.in-Ok-Some.ensures.command)
+    (tells_truth g.K.Sink.written g.K.Sink.pieces g.K.Sink.faults c.args.sink.now c.settle.new.sink (command_seen c.in-Ok-Some.command) c.settle.result
     (g.S.Shelf.files c.args.shelf.now) c.report_on-report.result c.report_on-report.ensures.report c.report_on-report.ensures.sound c.settle.ensures)
 
-pub returns-in-Some-clause-usage_only : goal.returns-in-Some-clause-usage_only
-returns-in-Some-clause-usage_only g c = λ usage.
+pub returns-in-Ok-Some-clause-usage_only : goal.returns-in-Ok-Some-clause-usage_only
+returns-in-Ok-Some-clause-usage_only g c = λ usage.
     absurd (settled_not_usage g.K.Sink.written g.K.Sink.pieces g.K.Sink.faults c.settle.result c.args.sink.now c.settle.new.sink c.report_on-report.result
     c.report_on-report.ensures.verdict c.settle.ensures usage)
 
-pub returns-in-Some-clause-complete : goal.returns-in-Some-clause-complete
-returns-in-Some-clause-complete g c = λ reads_calm writes_calm.
+pub returns-in-Ok-Some-clause-complete : goal.returns-in-Ok-Some-clause-complete
+returns-in-Ok-Some-clause-complete g c = λ reads_calm writes_calm.
     let writes =
     answers_due g.K.Sink.written g.K.Sink.pieces g.K.Sink.faults c.settle.result c.args.sink.now c.settle.new.sink c.report_on-report.result
-    (command_due (g.S.Shelf.files c.args.shelf.now) (command_seen c.in-Some.command)) c.report_on-report.ensures.report c.settle.ensures in
+    (command_due (g.S.Shelf.files c.args.shelf.now) (command_seen c.in-Ok-Some.command)) c.report_on-report.ensures.report c.settle.ensures in
     subst (λ (command : Option Command). IsComplete c.settle.result (due (g.S.Shelf.files c.args.shelf.now) command) (g.K.Sink.written c.args.sink.now) (g.K.Sink.written c.settle.new.sink))
-    c.in-Some.ensures.command
-    (complete_from c.settle.result (command_due (g.S.Shelf.files c.args.shelf.now) (command_seen c.in-Some.command)) (g.K.Sink.written c.args.sink.now) (g.K.Sink.written c.settle.new.sink) writes.answer
+    (ap (λ o. option_map command_seen o) (sym c.in-Ok-Some.field-0-is) ∙ c.in-Ok-Some.ensures.command)
+    (complete_from c.settle.result (command_due (g.S.Shelf.files c.args.shelf.now) (command_seen c.in-Ok-Some.command)) (g.K.Sink.written c.args.sink.now) (g.K.Sink.written c.settle.new.sink) writes.answer
     (λ failed. reads_calm (c.report_on-report.ensures.read.rose
     (settled_read_fault g.K.Sink.written g.K.Sink.pieces g.K.Sink.faults c.settle.result c.args.sink.now c.settle.new.sink c.report_on-report.result c.report_on-report.ensures.verdict c.settle.ensures failed)))
     (λ failed. writes_calm (writes.rose failed)))
 
-pub returns-in-None-clause-answer : goal.returns-in-None-clause-answer
-returns-in-None-clause-answer g c =
+pub returns-in-Ok-None-clause-answer : goal.returns-in-Ok-None-clause-answer
+returns-in-Ok-None-clause-answer g c =
     subst (λ (command : Option Command). Answers c.write_answer.result (due (g.S.Shelf.files c.args.shelf.now) command) (g.K.Sink.written c.args.sink.now) (g.K.Sink.written c.write_answer.new.sink))
-    c.in-None.ensures.command c.write_answer.ensures.answer.answer
+    (ap (λ o. option_map command_seen o) (sym c.in-Ok-None.field-0-is) ∙ c.in-Ok-None.ensures.command) c.write_answer.ensures.answer.answer
 
-pub returns-in-None-clause-hands : goal.returns-in-None-clause-hands
-returns-in-None-clause-hands g c =
+pub returns-in-Ok-None-clause-hands : goal.returns-in-Ok-None-clause-hands
+returns-in-Ok-None-clause-hands g c =
     subst (λ (command : Option Command). Hands c.write_answer.result (due (g.S.Shelf.files c.args.shelf.now) command) (g.K.Sink.written c.args.sink.now) (g.K.Sink.written c.write_answer.new.sink) (g.K.Sink.pieces c.args.sink.now) (g.K.Sink.pieces c.write_answer.new.sink))
-    c.in-None.ensures.command c.write_answer.ensures.answer.hands
+    (ap (λ o. option_map command_seen o) (sym c.in-Ok-None.field-0-is) ∙ c.in-Ok-None.ensures.command) c.write_answer.ensures.answer.hands
 
-pub returns-in-None-clause-complete : goal.returns-in-None-clause-complete
-returns-in-None-clause-complete g c = λ _ calm.
+pub returns-in-Ok-None-clause-complete : goal.returns-in-Ok-None-clause-complete
+returns-in-Ok-None-clause-complete g c = λ _ calm.
     subst (λ (command : Option Command). IsComplete c.write_answer.result (due (g.S.Shelf.files c.args.shelf.now) command) (g.K.Sink.written c.args.sink.now) (g.K.Sink.written c.write_answer.new.sink))
-    c.in-None.ensures.command
+    (ap (λ o. option_map command_seen o) (sym c.in-Ok-None.field-0-is) ∙ c.in-Ok-None.ensures.command)
     (usage_complete c.write_answer.result (g.K.Sink.written c.args.sink.now) (g.K.Sink.written c.write_answer.new.sink) c.write_answer.ensures.answer.answer c.write_answer.ensures.ends
     (λ failed. calm (c.write_answer.ensures.answer.rose failed)))
