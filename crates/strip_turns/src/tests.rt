@@ -1,8 +1,10 @@
-ghost use Rattle.std.specs.Prelude.{◌≡◌, IfOk, length};
+ghost use Rattle.std.specs.Prelude.{◌≡◌, IfOk, Some, length, true};
 ghost use Rattle.ray_grid.specs.Strips.{strips_of};
 ghost use Rattle.turn_core.specs.World.{AreOfPlan};
+ghost use Rattle.strip_turns.specs.Passes.{card, IsPass};
+ghost use Rattle.strip_turns.specs.Views.{fresh};
 
-use crate::{Board, Turned};
+use crate::{Board, Pass, Turned};
 use axis_cells::Sweep;
 use cutter_slabs::Cutter;
 use edit_plan::{Ask, Edit, Edits, Query};
@@ -89,46 +91,51 @@ fn all_of(removed: u64) -> Answer {
     })
 }
 
-#[test]
-fn tickets_turns_and_answers(rt: HostRuntime) -> Result<(), Fail> {
-    let alloc = rt.alloc();
+/// A board of the three strips, and its first pass.
+fn board(alloc: Global) -> Result<(Board, Pass), NoMemory>
+    ensures pass { IfOk result (λ b. IsPass b.0 b.1) }
+    ensures view { IfOk result (λ b. b.1.seat.me.0 ≡ fresh true 0 (Some (card b.0))) }
+    ensures strips { IfOk result (λ b. length (strips_of b.0.plan.grid) ≡ 3) }
+    ensures edits { IfOk result (λ b. length b.0.plan.edits ≡ 3) }
+{
     let plan = plan(alloc)?;
     if plan.grid().strips() != 3 {
-        panic!(rt; "there are other strips");
+        return Err(NoMemory);
     }
     let strips = strips(alloc, &plan)?;
-    let (board, mut pass) = Board::new(alloc, plan, strips)?;
+    Board::new(alloc, plan, strips)
+}
 
+#[test]
+fn tickets_of_two_passes(rt: HostRuntime) -> Result<(), Fail> {
+    let alloc = rt.alloc();
+    let (board, mut pass) = board(alloc)?;
+    let mut other = board.split(&mut pass);
     let tickets = [
         board.claim(&mut pass),
-        board.claim(&mut pass),
+        board.claim(&mut other),
         board.claim(&mut pass),
     ];
     assert_eq!(rt; tickets, [0, 1, 2]);
+    board.merge(&mut pass, other);
+    for strip in &board.close(alloc, pass)? {
+        assert_eq!(rt; strip.done(), 0);
+    }
+    Ok(())
+}
+
+#[test]
+fn answers_at_each_version(rt: HostRuntime) -> Result<(), Fail> {
+    let (board, mut pass) = board(rt.alloc())?;
     let there = Turned::Moved { from: 0, to: 3 };
     assert_eq!(rt; board.turn(&mut pass, 0), there);
-    let rest = Turned::Moved { from: 3, to: 3 };
-    assert_eq!(rt; board.turn(&mut pass, 0), rest);
 
-    // One strip is ahead of all of these, and the other two come to the last of them.
+    // One strip is ahead of all queries; the other two come to the second, and are past the third.
     let ask = Ask::Count;
     let none = board.ask(&rt, &mut pass, &Query { version: 0, ask })?;
-    let cut = board.ask(&rt, &mut pass, &Query { version: 1, ask })?;
     let undone = board.ask(&rt, &mut pass, &Query { version: 2, ask })?;
-    let earlier = board.ask(&rt, &mut pass, &Query { version: 1, ask })?;
-    assert_eq!(rt;
-        [none, cut, undone, earlier],
-        [all_of(0), all_of(6), all_of(0), all_of(6)]
-    );
-
-    let mut other = board.split(&mut pass);
-    assert_eq!(rt; board.claim(&mut other), 3);
-    let short = Turned::Moved { from: 2, to: 3 };
-    assert_eq!(rt; board.turn(&mut other, 1), short);
-    board.merge(&mut pass, other);
+    let cut = board.ask(&rt, &mut pass, &Query { version: 1, ask })?;
+    assert_eq!(rt; [none, undone, cut], [all_of(0), all_of(0), all_of(6)]);
     board.finish(&rt, &mut pass)?;
-    for strip in &board.close(alloc, pass)? {
-        assert_eq!(rt; strip.done(), 3);
-    }
     Ok(())
 }
