@@ -1,5 +1,5 @@
 -- What a closed board holds once a crew has worked on it.
-use Rattle.std.proofs.Common.{◌≡◌, ℕ, ◌<◌, List, Some, length, arith}
+use Rattle.std.proofs.Common.{◌≡◌, ℕ, List, Some, length, arith}
 use Rattle.std.specs.List.{slice_get}
 use Rattle.std.proofs.lemmas.Option.{slice_get_within}
 use Rattle.ray_grid.specs.Strips.{strips_of}
