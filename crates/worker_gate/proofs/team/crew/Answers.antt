@@ -38,4 +38,5 @@ returns-clause-told g c =
     c.if-short.false c.merge_all-short.ensures.out c.in-Ok-finish.ensures.told
 
 pub returns-clause-alone : goal.returns-clause-alone
-returns-clause-alone g c = crews_alone (card c.args.board.now) c.args.queries.now c.args.workers (Ok c.in-Ok-answers.answers) _ _ (returns-clause-told g c) c.requires.ready.alone
+returns-clause-alone g c =
+    crews_alone (card c.args.board.now) c.args.queries.now c.args.workers (Ok c.in-Ok-answers.answers) _ _ (returns-clause-told g c) c.requires.ready.alone
