@@ -28,9 +28,10 @@ pass_field_send = struct_send (shape pass.the_type) (seat.the_send _ view.the_ro
 pub pass_send : IsSend pass.the_row
 pass_send = recorded_send (pass.the_field).row _ _ (pass.the_type).to_one pass_field_send
 
-slots_sync : IsSync (table_row.the_field (option.the_row strip.the_row) view.the_row key.the_row sound.the_row global.the_row rule.ghosts allocator.ghosts).row
-slots_sync = table.the_field_sync (option.the_row strip.the_row) view.the_row key.the_row sound.the_row global.the_row rule.ghosts allocator.ghosts
-    slot_send heap.send heap.sync heap.frees
+slots_sync : IsSync (table_row.the_field (option.the_row strip.the_row) view.the_row key.the_row sound.the_row global.the_row rule.ghosts
+    allocator.ghosts).row
+slots_sync = table.the_field_sync (option.the_row strip.the_row) view.the_row key.the_row sound.the_row global.the_row rule.ghosts
+    allocator.ghosts slot_send heap.send heap.sync heap.frees
 
 pub board_sync : IsSync board.the_row
 board_sync = recorded_sync (board.the_field).row _ _ (board.the_type).to_one

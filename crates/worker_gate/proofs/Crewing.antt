@@ -47,7 +47,7 @@ stopped_none n v w same = record {
   log = [];
   met = [];
   view = same ∙ (let e : v.splits ≡ v.splits + 0 = omega arith in
-    λ i. record v { splits = e i; met = sym (append-nil v.met) i; log = sym (append-nil v.log) i });
+      λ i. record v { splits = e i; met = sym (append-nil v.met) i; log = sym (append-nil v.log) i });
 }
 
 -- n workers were hired and merged, and beside them something was asked
@@ -95,7 +95,7 @@ crewed c qs xs n v a u w x any is split asked merge gone finish =
     let mid = after_merge n asked.log merge.log asked.met merge.met v a u w split asked.view merge.view gone is.out in
     let drawn = finish.drawn (record { first = ap (λ (z : View). z.first) mid ∙ is.first; out = ap (λ (z : View). z.out) mid ∙ is.out }) in
     let view = finish.view ∙ ap (with_log finish.log finish.met) mid
-        ∙ crew_logged v n (asked.log ++ merge.log) finish.log (asked.met ++ merge.met) finish.met in
+    ∙ crew_logged v n (asked.log ++ merge.log) finish.log (asked.met ++ merge.met) finish.met in
     let log : x.log ≡ v.log ++ (asked.log ++ merge.log ++ finish.log) = ap (λ (z : View). z.log) view in
     let past = merge.past refl any in
     let count : (t : ℕ) → tally (drew t) v.log + tally (drew t) merge.log ≡ once_below drawn.0 t =

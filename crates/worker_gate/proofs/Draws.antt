@@ -18,7 +18,7 @@ tally_zero f (e ∷ es) h = let a = h 0 e refl in let b = tally_zero f es (λ i 
 
 pub rise_no_draw : (c : Card) (version first count t : ℕ) (es : List Entry) → IsRise c version first count es → tally (drew t) es ≡ 0
 rise_no_draw c version first count t es h = tally_zero (drew t) es (λ i e at.
-  let r = h.each i (below_len es i count e at h.many) in ap (drew t) (some-injective e _ (sym at ∙ r.2)))
+    let r = h.each i (below_len es i count e at h.many) in ap (drew t) (some-injective e _ (sym at ∙ r.2)))
 
 pub asking_no_draw : (c : Card) (t : ℕ) (qs : List Query) (es : List Entry) → IsAsking c qs es → tally (drew t) es ≡ 0
 asking_no_draw c t qs es asking.nothing = refl

@@ -5,3 +5,4 @@ pub mod Merging
 pub mod Draws
 pub mod Crewing
 pub mod Sent
+pub mod Finished

@@ -28,10 +28,10 @@ pub asking_sent : (name : Sym) (a b d e f : NamedLft) (R S T W L : RattleType)
     (r : One R.mir) (s : One S.mir) (t : One T.mir) (w : One W.mir) (l : One L.mir)
     → IsSync R → IsSync S → IsSync T → IsSend W → IsSync L
     → IsSend (TupleAt name ((shr_ref_field a R r).row ∷ (shr_ref_field b S s).row ∷ (shr_ref_field d T t).row
-      ∷ (mut_ref_field e W w).row ∷ (shr_slice_field f L l).row ∷ []))
+    ∷ (mut_ref_field e W w).row ∷ (shr_slice_field f L l).row ∷ []))
 asking_sent name a b d e f R S T W L r s t w l first second third written list =
     let rows = (shr_ref_field a R r).row ∷ (shr_ref_field b S s).row ∷ (shr_ref_field d T t).row
-        ∷ (mut_ref_field e W w).row ∷ (shr_slice_field f L l).row ∷ [] in
+    ∷ (mut_ref_field e W w).row ∷ (shr_slice_field f L l).row ∷ [] in
     recorded_send (field_at name rows).row _ _ (type_at name rows).to_one
     (struct_send (shape (type_at name rows)) (
       shr_send _ _ R first,

@@ -88,8 +88,8 @@ drawn_above b n t k next w v h one above =
     let log : v.log ≡ (h.before ++ Draw t ∷ []) ++ one.entry ∷ [] = one.log ∙ ap (λ l. l ++ one.entry ∷ []) h.log in
     let here : 0 < tally (drew t) ((h.before ++ Draw t ∷ []) ++ one.entry ∷ []) =
     (let a = tally_more (drew t) (h.before ++ Draw t ∷ []) one.entry in
-      let d = tally_more (drew t) h.before (Draw t) in
-      let e = draw_here t in omega arith) in
+    let d = tally_more (drew t) h.before (Draw t) in
+    let e = draw_here t in omega arith) in
     above t (subst (λ (l : List Entry). 0 < tally (drew t) l) (sym log) here)
 
 -- a turn, and the next draw

@@ -2,7 +2,6 @@
 use Rattle.std.specs.Prelude.{◌≡◌, List, [], ◌∷◌, ◌++◌, map, Result, Ok, Err}
 use Rattle.std.specs.Global.{Vec}
 use Rattle.edit_plan.specs.declared.query.Query.{Query}
-use Rattle.edit_plan.specs.Queries.{IsQuery}
 use Rattle.job_facts.specs.declared.totals.Answer.{Answer}
 use Rattle.job_model.specs.Tasks.{Job}
 use Rattle.turn_core.specs.World.{AreStrips, answer_of}
@@ -11,7 +10,6 @@ use Rattle.strip_turns.specs.declared.view.View.{View}
 use Rattle.strip_turns.specs.declared.view.Card.{Card}
 use Rattle.strip_turns.specs.declared.view.Met.{Met}
 use Rattle.strip_turns.specs.declared.view.Entry.{Entry}
-use Rattle.strip_turns.specs.Cards.{last}
 use Rattle.strip_turns.specs.Views.{with_log}
 use Rattle.strip_turns.specs.Asks.{IsRise, count_asked, first_asked}
 

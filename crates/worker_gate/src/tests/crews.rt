@@ -57,7 +57,7 @@ struct Outcome {
 }
 
 /// Has a crew work on a board that is made for it, and closes the board.
-fn outcome<R: Threads + Wait + Sync, G: Gate + Sync>(
+fn crewed<R: Threads + Wait + Sync, G: Gate + Sync>(
     rt: &R,
     alloc: Global,
     workers: u32,
@@ -100,12 +100,12 @@ fn gate_holds(rt: HostRuntime) -> Result<(), Fail> {
         all_of(0),
     ];
     let gate = Meeting::new();
-    let two = outcome(&rt, rt.alloc(), 2, &gate)?;
+    let two = crewed(&rt, rt.alloc(), 2, &gate)?;
     assert!(rt; gate.took_place());
     assert_eq!(rt; two.answers.as_slice(), due.as_slice());
     assert_eq!(rt; two.versions.as_slice(), [20; 3].as_slice());
 
-    let sixteen = outcome(&rt, rt.alloc(), 16, &Open)?;
+    let sixteen = crewed(&rt, rt.alloc(), 16, &Open)?;
     assert_eq!(rt; sixteen.answers.as_slice(), due.as_slice());
     assert_eq!(rt; sixteen.versions.as_slice(), [20; 3].as_slice());
     Ok(())

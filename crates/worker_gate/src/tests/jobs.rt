@@ -23,7 +23,7 @@ fn edits(alloc: Global) -> Result<Edits, NoMemory>
     ensures named { IfOk result (λ edits. All (AppliesBelow 1) edits) }
 {
     let mut edits = Edits::new(alloc);
-    for _n in 0..10 {
+    for _n in 0..10_u32 {
         edits.push(Edit::Apply(0))?;
         edits.push(Edit::Undo)?;
     }

@@ -30,5 +30,5 @@ loop-query-preserved g c =
     let more = asked_more (card b) _ _ answers c.in-Ok-ask.answer _ _ _ inv.1 told in
     let e = c.push_reserved.ensures in
     let asked = one_more (card b) c.args.queries.now i _ answers c.push_reserved.new.self.items c.in-Ok-ask.answer
-        c.args.pass.now.seat.me.0 c.ask.new.pass.seat.me.0 c.loop-query-test.true e.items more in
+    c.args.pass.now.seat.me.0 c.ask.new.pass.seat.me.0 c.loop-query-test.true e.items more in
     (c.in-Ok-ask.ensures.pass, asked, grind (arith, common_steps, e.items, inv.2), omega (arith, inv.3, e.capacity))

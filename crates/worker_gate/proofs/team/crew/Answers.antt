@@ -22,9 +22,9 @@ returns-in_default-finish-clause-told g c =
     let b = c.args.board.now in
     let e = c.ask_beside-answers.ensures in
     let before = stopped_by (card b) c.args.queries.now c.ask_beside-answers.result.0 c.args.workers _ c.merge_all-short.result
-        c.args.pass.now.seat.me.0 c.hire.new.pass.seat.me.0 c.ask_beside-answers.new.pass.seat.me.0 c.merge_all-short.new.pass.seat.me.0
-        c.in-Ok.ensures.split e.told c.merge_all-short.ensures.merged (e.worked.many ∙ c.in-Ok.ensures.fresh.1)
-        c.merge_all-short.ensures.out c.requires.ready.alone.out in
+    c.args.pass.now.seat.me.0 c.hire.new.pass.seat.me.0 c.ask_beside-answers.new.pass.seat.me.0 c.merge_all-short.new.pass.seat.me.0
+    c.in-Ok.ensures.split e.told c.merge_all-short.ensures.merged (e.worked.many ∙ c.in-Ok.ensures.fresh.1)
+    c.merge_all-short.ensures.out c.requires.ready.alone.out in
     stopped_late (card b) c.args.workers (last (card b)) 0 (length (strips_of (card b).plan.grid)) _ _ _ before
     c.in_default-finish.ensures.told
 
@@ -38,4 +38,5 @@ returns-clause-told g c =
     c.if-short.false c.merge_all-short.ensures.out c.in-Ok-finish.ensures.told
 
 pub returns-clause-alone : goal.returns-clause-alone
-returns-clause-alone g c = crews_alone (card c.args.board.now) c.args.queries.now c.args.workers (Ok c.in-Ok-answers.answers) _ _ (returns-clause-told g c) c.requires.ready.alone
+returns-clause-alone g c =
+    crews_alone (card c.args.board.now) c.args.queries.now c.args.workers (Ok c.in-Ok-answers.answers) _ _ (returns-clause-told g c) c.requires.ready.alone

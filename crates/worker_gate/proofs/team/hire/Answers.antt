@@ -1,4 +1,4 @@
-use Rattle.std.proofs.Common.{arith, ap, refl, subst, sym, ◌≡◌, ◌∙◌, ◌+◌, length, List, Some, false}
+use Rattle.std.proofs.Common.{[], arith, ap, refl, subst, sym, ◌≡◌, ◌∙◌, ◌+◌, length, List, Some, false}
 use Rattle.std.proofs.lemmas.Grind.{common_steps}
 use Rattle.std.proofs.lemmas.List.Elements.{All-nil, All-push}
 use Rattle.strip_turns.specs.Views.{fresh}
@@ -14,7 +14,8 @@ loop-i-init c =
     let e = c.in-Ok.ensures in
     let s = c.args.pass.now.seat.me.0.splits in
     let numbered : AreNumbered s c.in-Ok.team.items = subst (λ (l : List Worker). AreNumbered s l) (sym e.items) (numbered_none s) in
-    let all : AreFresh c.args.board.now c.in-Ok.team.items = subst (λ (l : List Worker). AreFresh c.args.board.now l) (sym e.items) (record { each = All-nil (IsFresh c.args.board.now) }) in
+    let none : AreFresh c.args.board.now [] = record { each = All-nil (IsFresh c.args.board.now) } in
+    let all : AreFresh c.args.board.now c.in-Ok.team.items = subst (λ (l : List Worker). AreFresh c.args.board.now l) (sym e.items) none in
     (r.pass, split_none c.args.pass.now.seat.me.0 r.alone.out, all, ap length e.items, e.capacity, numbered)
 
 pub loop-i-preserved : goal.loop-i-preserved
@@ -27,7 +28,8 @@ loop-i-preserved c =
     let number : c.split.result.seat.me.0.number ≡ c.loop-i.pass.seat.me.0.splits + 1 = ap (λ z. z.number) fresh_view in
     let splits : c.loop-i.pass.seat.me.0.splits ≡ c.args.pass.now.seat.me.0.splits + n = ap (λ z. z.splits) inv.1 in
     let x : Worker = record { pass = c.split.result; short = false } in
-    let is_fresh : IsFresh b x = record { pass = c.split.ensures.new; view = fresh_view ∙ ap (λ z. fresh false z (Some (card b))) (sym number); short = refl } in
+    let view = fresh_view ∙ ap (λ z. fresh false z (Some (card b))) (sym number) in
+    let is_fresh : IsFresh b x = record { pass = c.split.ensures.new; view = view; short = refl } in
     let all = All-push (IsFresh b) c.loop-i.team.items x inv.2.each is_fresh in
     let numbered = numbered_more c.args.pass.now.seat.me.0.splits c.loop-i.team.items x inv.5 (omega (arith, number, splits, inv.3)) in (
       c.split.ensures.pass,

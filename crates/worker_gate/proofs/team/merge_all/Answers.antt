@@ -9,7 +9,9 @@ use Rattle.worker_gate.proofs.Teams.{pop_len, team_pop, team_none}
 use Rattle.worker_gate.proofs.team.merge_all.Goals as goal
 
 pub loop-worker-init : goal.loop-worker-init
-loop-worker-init c = (c.requires.pass, c.requires.first, c.requires.done, c.requires.team, (0, omega arith, merged_none (card c.args.board.now) c.args.pass.now.seat.me.0))
+loop-worker-init c =
+    let none = merged_none (card c.args.board.now) c.args.pass.now.seat.me.0 in
+    (c.requires.pass, c.requires.first, c.requires.done, c.requires.team, (0, omega arith, none))
 
 pub merge-requires-clause-other : goal.merge-requires-clause-other
 merge-requires-clause-other c =
@@ -23,12 +25,15 @@ loop-worker-preserved c =
     let inv = c.loop-worker.invariant in
     let popped = All-pop (IsDone b) _ _ _ c.pop.ensures.items inv.2.each in
     let done : IsDone b c.in-Some.worker = subst (λ x. IfSome x (IsDone b)) c.in-Some.is popped.1 in
-    let m = inv.4 in (
+    let m = inv.4 in
+    let one_less = pop_len _ _ _ c.in-Some.worker c.pop.ensures.items c.in-Some.is in
+    let merged = merged_more b m.0 c.loop-worker.short c.any_short-short.result _ _ _ c.in-Some.worker m.2 done
+    c.merge.ensures.joined c.any_short-short.ensures in (
       c.merge.ensures.pass,
       ap (λ z. z.first) c.merge.ensures.joined ∙ inv.1,
       record { each = popped.0 },
       team_pop _ _ _ _ _ c.in-Some.worker inv.3 c.pop.ensures.items c.in-Some.is c.merge.ensures.joined,
-      (m.0 + 1, omega (arith, m.1, pop_len _ _ _ c.in-Some.worker c.pop.ensures.items c.in-Some.is), merged_more b m.0 c.loop-worker.short c.any_short-short.result _ _ _ c.in-Some.worker m.2 done c.merge.ensures.joined c.any_short-short.ensures),
+      (m.0 + 1, omega (arith, m.1, one_less), merged),
     )
 
 pub returns-clause-out : goal.returns-clause-out

@@ -19,5 +19,6 @@ returns-clause-numbered g c = λ s h. record {
       let e = (c.for_each_mut.ensures k d lt').1 in
       let call = e.call in
       let same : e.after_call.now.pass.seat.me.0.number ≡ e.argument.now.pass.seat.me.0.number = search (rules, call) in
-      number_kept (get_or c.args.team.now k d) e.argument.now e.after_call.now (get_or c.for_each_mut.new.s k d) (s + k + 1) e.argument_is e.left same (h.each k d lt');
+      number_kept (get_or c.args.team.now k d) e.argument.now e.after_call.now (get_or c.for_each_mut.new.s k d) (s + k + 1)
+      e.argument_is e.left same (h.each k d lt');
 }

@@ -2,7 +2,6 @@ use Rattle.std.proofs.Common.{◌≡◌, ℕ, ◌≤◌, List, arith, ap, subst,
 use Rattle.std.proofs.lemmas.Nat.{mul-le}
 use Rattle.ray_grid.specs.Grids.{GridSize}
 use Rattle.ray_grid.specs.Lattice.{nodes_of}
-use Rattle.ray_grid.specs.Strips.{strips_of}
 use Rattle.ray_grid.proofs.Rows.{length-strips}
 use Rattle.worker_gate.proofs.worker.turns_due.Goals as goal
 

@@ -1,4 +1,4 @@
-use Rattle.std.proofs.Common.{arith, ap, sym, subst, length, ◌≡◌, ◌∙◌, ◌%◌}
+use Rattle.std.proofs.Common.{arith, ap, subst, length, ◌≡◌, ◌∙◌, ◌%◌}
 use Rattle.ray_grid.specs.Grids.{GridSize}
 use Rattle.ray_grid.specs.Strips.{strips_of}
 use Rattle.job_model.specs.Tasks.{PlanOf}
@@ -16,7 +16,7 @@ loop-ticket-smaller g c =
     let b = c.args.board.now in
     let one = turned b _ _ c.turn-turned.result _ _ c.turn-turned.ensures.told c.is_short.ensures c.if-is_short.false in
     let above = drawn_above b _ c.loop-ticket.ticket _ c.claim-ticket-in-loop-ticket.result c.loop-ticket.worker _ c.loop-ticket.invariant one
-        c.claim-ticket-in-loop-ticket.ensures.above in
+    c.claim-ticket-in-loop-ticket.ensures.above in
     omega (arith, above, c.loop-ticket-test.true)
 
 pub loop-ticket-preserved : goal.loop-ticket-preserved
