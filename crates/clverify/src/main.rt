@@ -31,14 +31,7 @@ fn main(rt: HostRuntime) -> ExitCode {
     let Ok(mut sink) = StdSink::new(alloc, io::writer(&rt)) else {
         return ExitCode::from(Status::NoMemory);
     };
-    let status = run(
-        &rt,
-        alloc,
-        words.as_slice(),
-        &mut shelf,
-        &mut sink,
-        &Open,
-    );
+    let status = run(&rt, alloc, words.as_slice(), &mut shelf, &mut sink, &Open);
     match sink.flush() {
         Ok(()) => ExitCode::from(status),
         Err(_) => ExitCode::from(Status::WriteFault),

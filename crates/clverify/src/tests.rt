@@ -20,13 +20,7 @@ fn answer(
     failing_reads: &[u64],
     failing_writes: &[u64],
 ) -> Result<(Status, Vec<u8>), Fail> {
-    answer_over(
-        rt,
-        words,
-        &[("a.cls", file)],
-        failing_reads,
-        failing_writes,
-    )
+    answer_over(rt, words, &[("a.cls", file)], failing_reads, failing_writes)
 }
 
 /// The same over files with these names.

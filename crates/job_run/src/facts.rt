@@ -52,7 +52,11 @@ fn rows(alloc: Global, left: &[LeftMove], counts: &[Counts]) -> Result<Vec<Found
 }
 
 /// What is reported of each of the moves that are left, in order.
-pub fn found_moves(alloc: Global, left: &[LeftMove], strips: &[Strip]) -> Result<Vec<Found>, NoMemory>
+pub fn found_moves(
+    alloc: Global,
+    left: &[LeftMove],
+    strips: &[Strip],
+) -> Result<Vec<Found>, NoMemory>
     requires { OfSomeJob (λ job. AreBroughtUp job left.now strips.now) }
     ensures { IfOk result (λ found. (job : Job) → AreBroughtUp job left.now strips.now
         → found.items ≡ found_from job [] (left_of job.plan.edits)) }

@@ -54,8 +54,15 @@ made_sound = record {
   };
   tool_in = record {
     valid = record {
-      wide = omega arith; width = omega arith; corner = omega arith; high = omega arith; height = omega arith; rounded = omega arith;
-      angle = refl; sharp = inl refl; top = omega arith;
+      wide = omega arith;
+      width = omega arith;
+      corner = omega arith;
+      high = omega arith;
+      height = omega arith;
+      rounded = omega arith;
+      angle = refl;
+      sharp = inl refl;
+      top = omega arith;
     };
     upright = refl;
   };
