@@ -4,7 +4,9 @@ use crate::status::Status;
 use crate::top::run;
 use std::alloc::Global;
 use std::env::{Env, FillError};
+use std::sync::Wait;
 use std::test::Fail;
+use std::thread::Threads;
 use vf_io::{MemShelf, MemSink};
 use worker_gate::Open;
 
@@ -13,25 +15,33 @@ const USAGE: &str =
     "usage: clverify list CL | point CL X Y Z --depth M [--slabs N] | verify CL SETUP [--script F] [--workers N] | selftest N\n";
 
 /// The status and the text of a call over one file, named `a.cls`. The calls with these numbers fail.
-fn answer(
-    rt: &HostRuntime,
+fn answer<R: Threads + Wait + Sync>(
+    rt: &R,
+    alloc: Global,
     words: &[&str],
     file: &[u8],
     failing_reads: &[u64],
     failing_writes: &[u64],
 ) -> Result<(Status, Vec<u8>), Fail> {
-    answer_over(rt, words, &[("a.cls", file)], failing_reads, failing_writes)
+    answer_over(
+        rt,
+        alloc,
+        words,
+        &[("a.cls", file)],
+        failing_reads,
+        failing_writes,
+    )
 }
 
 /// The same over files with these names.
-fn answer_over(
-    rt: &HostRuntime,
+fn answer_over<R: Threads + Wait + Sync>(
+    rt: &R,
+    alloc: Global,
     words: &[&str],
     named: &[(&str, &[u8])],
     failing_reads: &[u64],
     failing_writes: &[u64],
 ) -> Result<(Status, Vec<u8>), Fail> {
-    let alloc = rt.alloc();
     let mut files = Vec::new(alloc);
     for (name, bytes) in named {
         files.push((
@@ -133,7 +143,7 @@ fn marks_one_move(rt: HostRuntime) -> Result<(), Fail> {
     for (file, question, mark) in rows {
         let mut words = vec![in rt.alloc(); "point", "a.cls"]?;
         words.extend_from_slice(question)?;
-        let (status, written) = answer(&rt, &words, file, &[], &[])?;
+        let (status, written) = answer(&rt, rt.alloc(), &words, file, &[], &[])?;
         let want = format!(in rt.alloc(); "clverify point 1\nmove 1 line 3 {mark}\nmoves 1\n")?;
         assert_eq!(rt; status.code(), 0, "the code at {question:?}");
         assert_eq!(rt;
@@ -202,7 +212,7 @@ fn marks_each_move_or_refuses(rt: HostRuntime) -> Result<(), Fail> {
         ),
     ];
     for (file, words, code, text) in rows {
-        let (status, written) = answer(&rt, words, file, &[], &[])?;
+        let (status, written) = answer(&rt, rt.alloc(), words, file, &[], &[])?;
         assert_eq!(rt; status.code(), code, "the code of {text}");
         assert_eq!(rt; written.as_slice(), text.as_bytes(), "the text of {text}");
     }
@@ -276,7 +286,7 @@ fn words_of_commands(rt: HostRuntime) -> Result<(), Fail> {
         let found = is_command(rt.alloc(), words)?;
         assert_eq!(rt; found, is_taken, "the words {words:?}");
     }
-    let (status, written) = answer(&rt, &["list"], b"", &[0], &[])?;
+    let (status, written) = answer(&rt, rt.alloc(), &["list"], b"", &[0], &[])?;
     assert_eq!(rt; status, Status::Usage, "words that are no command");
     assert_eq!(rt; written.as_slice(), USAGE.as_bytes(), "the usage line");
     Ok(())
@@ -296,7 +306,7 @@ fn faults_outside_are_told_apart(rt: HostRuntime) -> Result<(), Fail> {
         (&["list"], &[], &[0], Status::WriteFault, ""),
     ];
     for (words, reads, writes, end, text) in rows {
-        let (status, written) = answer(&rt, words, file, reads, writes)?;
+        let (status, written) = answer(&rt, rt.alloc(), words, file, reads, writes)?;
         assert_eq!(rt; status, end, "the reads {reads:?} and writes {writes:?}");
         assert_eq!(rt;
             written.as_slice(),
@@ -445,7 +455,7 @@ fn verifies_or_refuses(rt: HostRuntime) -> Result<(), Fail> {
         ),
     ];
     for (words, writes, code, text) in rows {
-        let (status, written) = answer_over(&rt, words, &files, &[], writes)?;
+        let (status, written) = answer_over(&rt, rt.alloc(), words, &files, &[], writes)?;
         assert_eq!(rt; status.code(), code, "the code of {words:?}");
         assert_eq!(rt;
             written.as_slice(),
