@@ -7,7 +7,8 @@ use std::sync::atomic::Ordering::SeqCst;
 /// How often one looks for the other.
 const LOOKS: u32 = 100_000_000;
 
-/// A gate that lets the strips 0 and 1 in once a worker has come to each.
+/// A gate that lets the first tickets of the strips 0 and 1 in once a worker has come with each. Later tickets pass: a worker that
+/// is alone would come to both strips in the end.
 #[derive(Drop)]
 pub struct Meeting {
     came: [AtomicBool; 2],
@@ -42,9 +43,9 @@ impl Meeting {
 }
 
 impl Gate for Meeting {
-    fn enter(&self, strip: u32, _ticket: u64) {
-        if strip < 2 {
-            self.wait(strip as usize);
+    fn enter(&self, _strip: u32, ticket: u64) {
+        if ticket < 2 {
+            self.wait(ticket as usize);
         }
     }
 }
