@@ -1,5 +1,5 @@
 -- The first file with a name, in a list of named files.
-use Rattle.std.proofs.Common.{◌≡◌, ℕ, zero, suc, ◌+◌, ◌-◌, ◌^◌, ◌≤◌, length-drop, ◌<◌, List, [], ◌∷◌, Bool, true, false, cond, Option, Some, None, unwrap_or, take, drop, min, length, arith, refl, sym, ap, ◌∙◌, add-one}
+use Rattle.std.proofs.Common.{◌≡◌, ℕ, zero, suc, ◌+◌, ◌++◌, ◌-◌, ◌^◌, ◌≤◌, length-drop, ◌<◌, List, [], ◌∷◌, Bool, true, false, cond, Option, Some, None, IfSome, Result, Ok, Err, IfOk, is_none, unwrap_or, take, drop, min, length, arith, refl, sym, ap, ◌∙◌, add-one}
 use Rattle.std.specs.Ordering.{nat_cmp, eq_by_cmp}
 use Rattle.std.specs.Cmp.Lexicographic.{slice_cmp}
 use Rattle.std.specs.List.{slice_get}
@@ -9,7 +9,7 @@ use Rattle.std.specs.Cmp.Lexicographic.{same_text}
 use Rattle.std.proofs.lemmas.Bool.{false_from_ne_true}
 use Rattle.std.proofs.lemmas.Map.Text.{is_eq-slice_cmp}
 use Rattle.std.proofs.lemmas.Slice.Eq.{bytes_eq-Decides}
-use Rattle.std.proofs.lemmas.List.{drop-drop, nil_from_length}
+use Rattle.std.proofs.lemmas.List.{drop-drop, nil_from_length, take-append-le}
 use Rattle.std.proofs.lemmas.Option.{slice_get-get_or}
 use Rattle.std.specs.FinMap as finite
 use Rattle.std.proofs.lemmas.Cmp.{nat_list_cmp_total}
@@ -75,3 +75,27 @@ TakesBytes-next contents buffer taken later count room some small short is sum f
 -- a name that has a place isn't absent
 pub is_absent-place : (files : FileList) (name : List ℕ) (place : ℕ) → IsPlaceOf files name place → is_absent files name ≡ false
 is_absent-place files name place is = rw (is.first, slice_get-get_or files place ([], []) is.within) refl
+
+-- a read into the front of a longer buffer
+pub TakesBytes-longer : (told : List ℕ) (new : Option (List ℕ)) (front more : List ℕ) (n : ℕ) → n ≤ length front → TakesBytes told new front n → TakesBytes told new (front ++ more) n
+TakesBytes-longer told new front more n within read = record {
+  front = take-append-le n front more within ∙ read.front;
+  within = read.within;
+  rest = read.rest;
+  at_end = read.at_end;
+}
+
+-- the same where the answer may be a failure, and what is unread may not be told
+pub IfOk-longer : {E : Type 0} (result : Result ℕ E) (old new : Option (List ℕ)) (front more : List ℕ) → IfOk result (λ n. n ≤ length front) → IfOk result (λ n. IfSome old (λ told. TakesBytes told new front n)) → IfOk result (λ n. IfSome old (λ told. TakesBytes told new (front ++ more) n))
+IfOk-longer (Err end) old new front more within read = tt
+IfOk-longer (Ok n) None new front more within read = tt
+IfOk-longer (Ok n) (Some told) new front more within read = TakesBytes-longer told new front more n within read
+
+-- what isn't there gives no bytes
+unwrap_or-absent : (o : Option (List ℕ)) → is_none o ≡ true → unwrap_or o [] ≡ []
+unwrap_or-absent None absent = refl
+unwrap_or-absent (Some bytes) absent = absurd (cc)
+
+-- an absent name has no bytes
+pub bytes_of-absent : (files : FileList) (name : List ℕ) → is_absent files name ≡ true → bytes_of (finite.from_entries files) name ≡ []
+bytes_of-absent files name absent = ap (λ o. unwrap_or o []) (finite.get-from_entries nat_list_cmp_total files name) ∙ unwrap_or-absent (find (slice_cmp nat_cmp) name files) absent

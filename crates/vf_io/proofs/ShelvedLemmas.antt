@@ -1,13 +1,14 @@
 -- What a shelf in memory shows after a read.
-use Rattle.std.proofs.Common.{◌≡◌, ℕ, ◌+◌, ◌-◌, ◌^◌, ◌<◌, List, Some, IfSome, true, String, Vec, min, take, drop, length, refl, ap, ◌∙◌, subst}
+use Rattle.std.proofs.Common.{◌≡◌, ℕ, ◌+◌, ◌-◌, ◌^◌, ◌<◌, ◌||◌, List, [], Some, IfSome, Result, Ok, Err, OnOk, is_err, true, false, String, Vec, min, take, drop, length, refl, sym, ap, ◌∙◌, subst}
 use Rattle.std.specs.Global.{Global}
 use Rattle.std.specs.FinMap as finite
 use Rattle.vf_io.specs.Files.{bytes_of}
-use Rattle.vf_io.specs.Memory.{contents_at, raised, IsPlaceOf}
+use Rattle.vf_io.specs.Memory.{contents_at, fails_now, is_absent, raised, IsPlaceOf}
 use Rattle.vf_io.specs.Reading.{TakesBytes}
-use Rattle.vf_io.specs.Shelved.{unread_bytes, file_list, listed_files}
+use Rattle.vf_io.specs.Shelved.{unread_bytes, failing_calls, fails_next, file_list, listed_files}
+use Rattle.vf_io.specs.Sure.{unread_or_none}
 use Rattle.vf_io.specs.declared.memory_shelf.MemShelf.{MemShelf}
-use Rattle.vf_io.proofs.FindLemmas.{TakesBytes-next, contents_at-place}
+use Rattle.vf_io.proofs.FindLemmas.{TakesBytes-next, bytes_of-absent, contents_at-place}
 
 -- the read of an open file, whose bytes and whose unread part are these
 pub unread_bytes-next : (old new : MemShelf) (contents unread buffer : List ℕ) (count room : ℕ)
@@ -35,3 +36,14 @@ pub unread_bytes-opened : (old mid new : MemShelf) (name : List ℕ) (file : ℕ
     → mid ≡ record old { calls = raised old.calls } → new ≡ record mid { is_open = true; file = file; taken = 0 } → IsPlaceOf (file_list old) name file
     → unread_bytes new ≡ Some (bytes_of (finite.from_entries (file_list old)) name)
 unread_bytes-opened old mid new name file counted opened place = rw (opened, counted) (ap Some (contents_at-place (file_list old) name file place))
+
+-- a shelf that no call fails by its number opens a name, or has no file of it
+pub unread_or_none-opened : {T E : Type 0} (old new : MemShelf) (name : List ℕ) (result : Result T E)
+    → failing_calls old ≡ [] → is_err result ≡ (fails_next old || is_absent (file_list old) name)
+    → OnOk result (unread_bytes new ≡ Some (bytes_of (finite.from_entries (file_list old)) name))
+    → unread_or_none (is_err result) new ≡ Some (bytes_of (finite.from_entries (file_list old)) name)
+unread_or_none-opened old new name (Ok value) sure failed opened = opened
+unread_or_none-opened old new name (Err end) sure failed opened =
+    let calm : fails_next old ≡ false = ap (λ numbers. fails_now numbers old.calls) sure in
+    let absent : is_absent (file_list old) name ≡ true = sym (failed ∙ ap (λ b. b || is_absent (file_list old) name) calm) in
+    ap Some (sym (bytes_of-absent (file_list old) name absent))

@@ -6,4 +6,5 @@ pub mod Memory
 pub mod Pieces
 pub mod Reading
 pub mod Shelved
+pub mod Sure
 pub mod Whole
