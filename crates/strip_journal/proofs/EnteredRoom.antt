@@ -4,7 +4,6 @@ use Rattle.std.proofs.lemmas.List.Sums.{count_by-le-length}
 use Rattle.edit_lines.specs.Lines.{Line}
 use Rattle.edit_lines.proofs.LinesOrder.{at_within, line_short}
 use Rattle.edit_plan.specs.declared.edit.Edit.TheVariants.{Apply}
-use Rattle.edit_plan.specs.Limits.{most_edits}
 use Rattle.job_facts.specs.declared.counts.Counts.{Counts}
 use Rattle.job_facts.specs.Counts.{AreWithin}
 use Rattle.job_model.specs.Points.{is_stock, left_moves, some_possible, some_sure, strip_points}

@@ -1,5 +1,5 @@
 -- The edits that are left, in the line, and the moves that they applied.
-use Rattle.std.proofs.Common.{◌≡◌, ℕ, ◌-◌, ◌^◌, ◌<◌, ◌≤◌, List, length, get_or, slice_get, slice_index, None, Some, arith, sym, ◌∙◌, subst, ⊎_elim}
+use Rattle.std.proofs.Common.{◌≡◌, ℕ, ◌-◌, ◌^◌, ◌<◌, ◌≤◌, length, get_or, slice_get, slice_index, None, Some, arith, sym, ◌∙◌, subst, ⊎_elim}
 use Rattle.vf_spans.specs.Edges.{Ascends}
 use Rattle.std.proofs.lemmas.Option.{get_or_from_slice_get, slice_get_cases, slice_get_within}
 use native.Mathlib.Decide.{dec_le}

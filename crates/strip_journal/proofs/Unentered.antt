@@ -9,11 +9,11 @@ use Rattle.job_model.specs.Tasks.{IsPlan, JobMove, PlanOf}
 use Rattle.ray_words.specs.Rays.{KeptSets}
 use Rattle.strip_plan.specs.Plans.{HasNumber}
 use Rattle.strip_plan.specs.Windows.{HoldsEntered}
-use Rattle.strip_marks.specs.Marks.{AreRays, HaveSameSets}
+use Rattle.strip_marks.specs.Marks.{AreRays}
 use Rattle.strip_marks.proofs.WholeStrips.{unentered_strip}
 use Rattle.strip_journal.specs.declared.journal.Journal.{Journal}
 use Rattle.strip_journal.specs.Journals.{IsAt, IsJournal, job_of}
-use Rattle.strip_journal.specs.Steps.{AreRaysTurned, CanStand, HasSameEdits, IsApplied, IsStood}
+use Rattle.strip_journal.specs.Steps.{AreRaysTurned, CanStand, IsApplied, IsStood}
 use Rattle.strip_journal.proofs.EnteredRoom.{stands_so}
 use Rattle.strip_journal.proofs.MarkedBy.{IsMarking, marking_at}
 

@@ -1,4 +1,4 @@
-use Rattle.std.proofs.Common.{◌≡◌, ◌∙◌, ◌+◌, ◌-◌, length, arith, sym}
+use Rattle.std.proofs.Common.{◌∙◌, ◌-◌, arith, sym}
 use Rattle.std.proofs.lemmas.List.{get_or_default}
 use Rattle.strip_journal.proofs.EditLines.{seen_length, seen_rest, seen_straight}
 use Rattle.strip_journal.proofs.edit_line.EditLine.get.Goals as goal

@@ -1,4 +1,4 @@
-use Rattle.std.proofs.Common.{◌≡◌, ◌∙◌, ℕ, ◌-◌, ◌<◌, List, length, take, slice_index, arith, sym, ap, subst}
+use Rattle.std.proofs.Common.{◌≡◌, ◌∙◌, ℕ, ◌<◌, List, length, take, slice_index, arith, sym, ap, subst}
 use Rattle.std.proofs.lemmas.List.{length-take-le}
 use Rattle.vf_spans.specs.Edges.{Ascends}
 use Rattle.strip_journal.proofs.EditLines.{ahead_within, rest_ascends, seen_straight, stands_behind, stands_nowhere}

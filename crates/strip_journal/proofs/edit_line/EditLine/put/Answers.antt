@@ -1,4 +1,4 @@
-use Rattle.std.proofs.Common.{◌≡◌, ◌∙◌, ℕ, ◌+◌, ◌-◌, List, [], ◌∷◌, ◌++◌, take, arith, sym, ap}
+use Rattle.std.proofs.Common.{◌∙◌, ℕ, ◌+◌, List, [], ◌∷◌, ◌++◌, take, arith, sym, ap}
 use Rattle.strip_journal.proofs.EditLines.{goes_on, goes_straight, joined, pushed}
 use Rattle.strip_journal.proofs.edit_line.EditLine.put.Goals as goal
 
