@@ -31,7 +31,7 @@ room_for before found room few = record {
 
 -- the count at the place of the entry's edit, with what it found, is added; the others stay
 pub entry_added : (j : Journal) (place k : ℕ) (before : List Counts) (found : Counts) → IsJournal (job_of j) j → length before ≡ j.at
-    → k < j.at → slice_index j.line.items k ≡ edit_at j.entries.items place → IsFoundBy j k found
+    → k < j.at → slice_index j.line k ≡ edit_at j.entries.items place → IsFoundBy j k found
     → AddsEntry j place before (slice_set before k (plus (count_at before k) found))
 entry_added j place k before found h many low there is = record {
   many = length-set before k (plus (count_at before k) found);
@@ -45,18 +45,18 @@ entry_added j place k before found h many low there is = record {
       ∙ ap (plus (count_at before k)) equal);
   others = λ m few other.
       get_or-set_other before k m (plus (count_at before k) found) no_counts
-      (λ same. other (ap (slice_index j.line.items) same ∙ there));
+      (λ same. other (ap (slice_index j.line) same ∙ there));
 }
 
 -- the entry at a place is of the k-th of the edits that are left
 pub record IsOfLeft (j : Journal) (place k : ℕ) : Type 0 where
   pub within : place < length j.entries.items
   pub left : k < j.at
-  pub same : slice_index j.line.items k ≡ edit_at j.entries.items place
+  pub same : slice_index j.line k ≡ edit_at j.entries.items place
 
 -- as where the entry that was read is
 pub of_left : (j : Journal) (place k : ℕ) (entry : Entry) → place < length j.entries.items
-    → entry ≡ slice_index_or j.entries.items place entry → k < j.at → slice_index j.line.items k ≡ entry.edit → IsOfLeft j place k
+    → entry ≡ slice_index_or j.entries.items place entry → k < j.at → slice_index j.line k ≡ entry.edit → IsOfLeft j place k
 of_left j place k entry within is left same = record {
   within = within;
   left = left;
@@ -120,7 +120,7 @@ room_still j place before after h low room added = record {
   each = λ k few same.
       let old : k < length before = omega (arith, few, added.many) in
       subst (λ (counts : Counts). AreWithin most_before counts)
-      (sym (added.others k old (λ i ahead is. none_ahead j place i (slice_index j.line.items k) h low ahead is same)))
+      (sym (added.others k old (λ i ahead is. none_ahead j place i (slice_index j.line k) h low ahead is same)))
       (room k no_counts old);
 }
 
@@ -133,13 +133,13 @@ more_added j place before after next h low added more = record {
       let new : k < length after = omega (arith, few, added.many) in
       dite (dec_le place i)
       (λ last.
-      let same : slice_index j.line.items k ≡ edit_at j.entries.items place =
+      let same : slice_index j.line k ≡ edit_at j.entries.items place =
       sym is ∙ (let here : i ≡ place = omega (arith, ahead, last) in ap (edit_at j.entries.items) here) in
       more.its k found new same that
       ∙ ap (λ (counts : Counts). plus counts found)
-      (added.others k few (λ m sooner also. none_ahead j place m (slice_index j.line.items k) h low sooner also same)))
+      (added.others k few (λ m sooner also. none_ahead j place m (slice_index j.line k) h low sooner also same)))
       (λ sooner.
-      more.others k new (λ same. none_ahead j place i (slice_index j.line.items k) h low (omega (arith, sooner)) is same)
+      more.others k new (λ same. none_ahead j place i (slice_index j.line k) h low (omega (arith, sooner)) is same)
       ∙ added.its k i found few (omega (arith, sooner)) is that);
   others = λ k few none.
       more.others k (omega (arith, few, added.many)) (λ same. none place (omega arith) (sym same))
@@ -181,8 +181,8 @@ pub all_added : (j : Journal) (before after : List Counts) → IsJournal (job_of
 all_added j before after h many added = record {
   many = added.many;
   each = λ k found few is.
-      let edit = slice_index j.line.items k in
-      let low : k < length j.line.items = let most = left_few j h in omega (arith, few, many, most) in
+      let edit = slice_index j.line k in
+      let low : k < length j.line = let most = left_few j h in omega (arith, few, many, most) in
       ⊎_elim
       (λ (there : HasEntry j.entries.items edit (length j.entries.items)). added.its k there.place found few there.low there.is is)
       (λ (none : HasNo j.entries.items edit).

@@ -9,7 +9,7 @@ use Rattle.strip_marks.specs.Marks.{HaveSameSets, IsMarkedStrip, possible_there,
 use Rattle.strip_journal.specs.declared.journal.Journal.{Journal}
 use Rattle.strip_journal.specs.Entries.{hits_of, possible_ahead, removed_ahead}
 use Rattle.strip_journal.specs.Journals.{IsJournal, found_at, job_of}
-use Rattle.strip_journal.specs.Steps.{HasSameEdits, IsEntered, IsStood, applied_entry, does_nothing, noted}
+use Rattle.strip_journal.specs.Steps.{HasSameEdits, IsApplied, applied_entry, does_nothing, noted}
 use Rattle.strip_journal.proofs.EnteredParts.{IsNextMove, entered_held, entered_parts, new_entry}
 use Rattle.strip_journal.proofs.KeptParts.{Parts, held_of, journal_by, parts_of}
 use Rattle.strip_journal.proofs.KeptSame.{same_held}
@@ -56,7 +56,7 @@ next_is job j m number move changes counts h applies named same marked few = rec
 
 -- the entry of a journal with the same edits
 same_entry : (j m : Journal) (changes : List WordChange) (counts : Counts) → HasSameEdits j m
-    → applied_entry m changes counts ≡ new_entry (with_rays j m) changes counts
+    → applied_entry m.done m changes counts ≡ new_entry (with_rays j m) changes counts
 same_entry j m changes counts edits = λ i. record {
   edit = edits.done i;
   from = length (edits.changes i);
@@ -67,26 +67,22 @@ same_entry j m changes counts edits = λ i. record {
   possible = possible_ahead (edits.entries i) (length (edits.entries i)) + counts.possible;
 }
 
--- what is held after the move was entered and stands
-entered_is : (j m k l : Journal) (changes : List WordChange) (counts : Counts) → HasSameEdits j m → IsEntered m k changes counts
-    → IsStood k l → parts_of l ≡ entered_parts (with_rays j m) k.rays.items changes counts
-entered_is j m k l changes counts edits entered stood =
-    let line = entered.line in
-    let number = stood.strip.number ∙ entered.strip.number ∙ edits.strip.number in
-    let of = stood.strip.of ∙ entered.strip.of ∙ edits.strip.of in
-    let all = stood.changes ∙ entered.changes_are ∙ ap (λ (c : List WordChange). c ++ changes) edits.changes in
-    let entries =
-    stood.entries ∙ entered.entries ∙ ap₂ (noted (does_nothing changes counts)) edits.entries (same_entry j m changes counts edits) in
-    let numbers : k.line.items ≡ j.line.items = line.line ∙ edits.line in
-    let at : k.at ≡ j.at = line.at ∙ edits.at in
-    let done : k.done ≡ j.done = line.done ∙ edits.done in
-    let stands : l.line.items ≡ take j.at j.line.items ++ j.done ∷ [] = stood.line ∙ (λ i. take (at i) (numbers i) ++ done i ∷ []) in
-    let next : l.at ≡ j.at + 1 = stood.at ∙ ap (λ n. n + 1) at in
-    let more : l.done ≡ j.done + 1 = stood.done ∙ ap (λ n. n + 1) done in
+-- what is held after the move was applied
+applied_is : (j m l : Journal) (changes : List WordChange) (counts : Counts) → HasSameEdits j m → IsApplied m l changes counts
+    → parts_of l ≡ entered_parts (with_rays j m) l.rays.items changes counts
+applied_is j m l changes counts edits applied =
+    let number = applied.strip.number ∙ edits.strip.number in
+    let of = applied.strip.of ∙ edits.strip.of in
+    let all = applied.changes_are ∙ ap (λ (c : List WordChange). c ++ changes) edits.changes in
+    let entries = applied.entries ∙ ap₂ (noted (does_nothing changes counts)) edits.entries (same_entry j m changes counts edits) in
+    let stands : l.line ≡ take j.at j.line ++ j.done ∷ [] =
+    applied.line ∙ (λ i. take (edits.at i) (edits.line i) ++ edits.done i ∷ []) in
+    let next : l.at ≡ j.at + 1 = applied.at ∙ ap (λ n. n + 1) edits.at in
+    let more : l.done ≡ j.done + 1 = applied.done ∙ ap (λ n. n + 1) edits.done in
     λ i. record {
       number = number i;
       of = of i;
-      rays = stood.rays i;
+      rays = l.rays.items;
       changes = all i;
       entries = entries i;
       line = stands i;
@@ -101,25 +97,25 @@ named_move (move ∷ moves) zero low = (move, refl)
 named_move (move ∷ moves) (suc number) low = named_move moves number (omega (arith, low))
 
 -- by the move itself
-entered_by : (job : Job) (j m k l : Journal) (number : ℕ) (move : JobMove) (changes : List WordChange) (counts : Counts)
+applied_by : (job : Job) (j m l : Journal) (number : ℕ) (move : JobMove) (changes : List WordChange) (counts : Counts)
     → job_of j ≡ job → IsJournal job j → slice_get job.plan.edits j.done ≡ Some (Apply number) → HasNumber job.plan number move
     → HaveSameSets j.rays.items m.rays.items → HasSameEdits j m
-    → IsMarkedStrip job.plan move j.number j.rays.items m.rays.items changes counts → IsEntered m k changes counts
-    → length j.changes.items + length changes < 2 ^ 32 → IsStood k l → IsJournal (job_of l) l
-entered_by job j m k l number move changes counts of h applies named same edits marked entered few stood =
-    journal_by job l (entered_parts (with_rays j m) k.rays.items changes counts)
-    (stood.strip.job ∙ entered.strip.job ∙ edits.strip.job ∙ of) (entered_is j m k l changes counts edits entered stood)
-    (entered_held job (with_rays j m) k.rays.items number move changes counts
+    → IsMarkedStrip job.plan move j.number j.rays.items m.rays.items changes counts
+    → length j.changes.items + length changes < 2 ^ 32 → IsApplied m l changes counts → IsJournal (job_of l) l
+applied_by job j m l number move changes counts of h applies named same edits marked few applied =
+    journal_by job l (entered_parts (with_rays j m) l.rays.items changes counts)
+    (applied.strip.job ∙ edits.strip.job ∙ of) (applied_is j m l changes counts edits applied)
+    (entered_held job (with_rays j m) l.rays.items number move changes counts
     (same_held job (parts_of j) m.rays.items same (held_of job j h))
-    (next_is job j m number move changes counts h applies named same marked few) entered.rays)
+    (next_is job j m number move changes counts h applies named same marked few) applied.rays)
 
--- A journal whose next edit applies a move, after the move was marked and entered and stands in the line, is that of its strip.
-pub entered_journal : (j m k l : Journal) (number : ℕ) (changes : List WordChange) (counts : Counts) → IsJournal (job_of j) j
+-- A journal whose next edit applies a move, after the move was marked and applied, is that of its strip.
+pub applied_journal : (j m l : Journal) (number : ℕ) (changes : List WordChange) (counts : Counts) → IsJournal (job_of j) j
     → slice_get (job_of j).plan.edits j.done ≡ Some (Apply number) → number < length (job_of j).plan.moves
     → HaveSameSets j.rays.items m.rays.items → HasSameEdits j m
     → ((move : JobMove) → HasNumber (job_of j).plan number move
     → IsMarkedStrip (job_of j).plan move j.number j.rays.items m.rays.items changes counts)
-    → IsEntered m k changes counts → length j.changes.items + length changes < 2 ^ 32 → IsStood k l → IsJournal (job_of l) l
-entered_journal j m k l number changes counts h applies low same edits marked entered few stood =
+    → length j.changes.items + length changes < 2 ^ 32 → IsApplied m l changes counts → IsJournal (job_of l) l
+applied_journal j m l number changes counts h applies low same edits marked few applied =
     let found = named_move (job_of j).plan.moves number low in
-    entered_by (job_of j) j m k l number found.0 changes counts refl h applies found.1 same edits (marked found.0 found.1) entered few stood
+    applied_by (job_of j) j m l number found.0 changes counts refl h applies found.1 same edits (marked found.0 found.1) few applied

@@ -4,7 +4,6 @@ use Rattle.std.proofs.lemmas.List.Sums.{count_by-le-length}
 use Rattle.edit_lines.specs.Lines.{Line}
 use Rattle.edit_lines.proofs.LinesOrder.{at_within, line_short}
 use Rattle.edit_plan.specs.declared.edit.Edit.TheVariants.{Apply}
-use Rattle.edit_plan.specs.Limits.{most_edits}
 use Rattle.job_facts.specs.declared.counts.Counts.{Counts}
 use Rattle.job_facts.specs.Counts.{AreWithin}
 use Rattle.job_model.specs.Points.{is_stock, left_moves, some_possible, some_sure, strip_points}
@@ -16,9 +15,9 @@ use Rattle.strip_journal.specs.declared.entry.Entry.{Entry}
 use Rattle.strip_journal.specs.declared.journal.Journal.{Journal}
 use Rattle.strip_journal.specs.Entries.{possible_ahead, removed_ahead}
 use Rattle.strip_journal.specs.Journals.{IsAt, IsJournal, found_at, job_of}
-use Rattle.strip_journal.specs.Steps.{FitsEntry, HasSameEdits, IsEntered, IsStood}
+use Rattle.strip_journal.specs.Steps.{CanStand, FitsEntry, HasSameEdits, IsApplied}
 use Rattle.strip_journal.proofs.Ahead.{possible_by, possible_totals_ahead_are, removed_by, totals_ahead_are}
-use Rattle.strip_journal.proofs.Entered.{counts_are, entered_journal, named_move}
+use Rattle.strip_journal.proofs.Entered.{applied_journal, counts_are, named_move}
 use Rattle.strip_journal.proofs.EnteredParts.{at_end, possible_step, removed_step}
 use Rattle.strip_journal.proofs.KeptSame.{same_journal}
 use Rattle.strip_journal.proofs.StripSizes.{found_few, points_few}
@@ -79,15 +78,10 @@ marked_fits j m number changes counts h applies low edits marked =
     (move_fits j number found.0 counts h applies found.1 (counts_are (job_of j) j m found.0 changes counts h (marked found.0 found.1)))
 
 -- there is a place for the edit
-pub record CanStand (k : Journal) : Type 0 where
-  pub left : k.at ≤ length k.line.items
-  pub few : length k.line.items ≤ most_edits
-  pub next : k.done < most_edits
-
 pub stands_so : (j : Journal) → IsJournal (job_of j) j → j.done < length (job_of j).plan.edits → CanStand j
 stands_so j h low =
     let edits = (job_of j).plan.edits in
-    let short : length j.line.items ≤ j.done = subst (λ (l : Line). length l.numbers ≤ j.done) (sym h.line) (line_short edits j.done) in
+    let short : length j.line ≤ j.done = subst (λ (l : Line). length l.numbers ≤ j.done) (sym h.line) (line_short edits j.done) in
     let few = h.few in
     record {
       left = subst (λ (l : Line). l.at ≤ length l.numbers) (sym h.line) (at_within edits j.done);
@@ -95,32 +89,28 @@ stands_so j h low =
       next = omega (arith, few, low);
     }
 
-pub can_stand : (j m k : Journal) (changes : List WordChange) (counts : Counts) → IsJournal (job_of j) j
-    → j.done < length (job_of j).plan.edits → HasSameEdits j m → IsEntered m k changes counts → CanStand k
-can_stand j m k changes counts h low edits entered =
-    let line : k.line.items ≡ j.line.items = entered.line.line ∙ edits.line in
-    let at : k.at ≡ j.at = entered.line.at ∙ edits.at in
-    let done : k.done ≡ j.done = entered.line.done ∙ edits.done in
-    let size : length k.line.items ≡ length j.line.items = ap (λ (l : List ℕ). length l) line in
-    let old = stands_so j h low in
+-- so is there for a journal with the same edits
+pub stands_same : (j m : Journal) → HasSameEdits j m → CanStand j → CanStand m
+stands_same j m edits old =
+    let size : length m.line ≡ length j.line = ap (λ (l : List ℕ). length l) edits.line in
     record {
-      left = let left = old.left in omega (arith, left, at, size);
+      left = let left = old.left in let at = edits.at in omega (arith, left, at, size);
       few = let few = old.few in omega (arith, few, size);
-      next = let next = old.next in omega (arith, next, done);
+      next = let next = old.next in let done = edits.done in omega (arith, next, done);
     }
 
 -- the journal as it is after the edit, and, with the same sets and the same edits, as it was before
-pub entered_at : (j m k l : Journal) (number : ℕ) (changes : List WordChange) (counts : Counts) → IsJournal (job_of j) j
+pub applied_at : (j m l : Journal) (number : ℕ) (changes : List WordChange) (counts : Counts) → IsJournal (job_of j) j
     → slice_get (job_of j).plan.edits j.done ≡ Some (Apply number) → number < length (job_of j).plan.moves
     → HaveSameSets j.rays.items m.rays.items → HasSameEdits j m
     → ((move : JobMove) → HasNumber (job_of j).plan number move
     → IsMarkedStrip (job_of j).plan move j.number j.rays.items m.rays.items changes counts)
-    → IsEntered m k changes counts → length j.changes.items + length changes < 2 ^ 32 → IsStood k l → IsAt j l (j.done + 1)
-entered_at j m k l number changes counts h applies low same edits marked entered few stood = record {
-  journal = entered_journal j m k l number changes counts h applies low same edits marked entered few stood;
-  job = stood.strip.job ∙ entered.strip.job ∙ edits.strip.job;
-  number = stood.strip.number ∙ entered.strip.number ∙ edits.strip.number;
-  done_is = stood.done ∙ ap (λ n. n + 1) (entered.line.done ∙ edits.done);
+    → length j.changes.items + length changes < 2 ^ 32 → IsApplied m l changes counts → IsAt j l (j.done + 1)
+applied_at j m l number changes counts h applies low same edits marked few applied = record {
+  journal = applied_journal j m l number changes counts h applies low same edits marked few applied;
+  job = applied.strip.job ∙ edits.strip.job;
+  number = applied.strip.number ∙ edits.strip.number;
+  done_is = applied.done ∙ ap (λ n. n + 1) edits.done;
 }
 
 pub same_at : (j k : Journal) → IsJournal (job_of j) j → HaveSameSets j.rays.items k.rays.items → HasSameEdits j k → IsAt j k j.done

@@ -80,8 +80,8 @@ counts_again : (counts : Counts) → counts_of_hits (hits_of counts) counts.remo
 counts_again counts = refl
 
 -- what an edit of the line with an entry found
-pub found_is : (j : Journal) (k place : ℕ) → IsJournal (job_of j) j → k < length j.line.items → place < length j.entries.items
-    → edit_at j.entries.items place ≡ slice_index j.line.items k
+pub found_is : (j : Journal) (k place : ℕ) → IsJournal (job_of j) j → k < length j.line → place < length j.entries.items
+    → edit_at j.entries.items place ≡ slice_index j.line k
     → IsFoundBy j k (counts_of_hits (entry_at j.entries.items place).hits
     ((entry_at j.entries.items place).removed - removed_ahead j.entries.items place)
     ((entry_at j.entries.items place).possible - possible_ahead j.entries.items place))
@@ -90,7 +90,7 @@ found_is j k place h low there is = record {
       let job = job_of j in
       let p = parts_of j in
       let held = held_of job j h in
-      let u = slice_index j.line.items k in
+      let u = slice_index j.line k in
       let e = entry_at j.entries.items place in
       let found = found_at job j.number u move in
       let totals = entry_totals job p u place held there is in
@@ -103,8 +103,8 @@ found_is j k place h low there is = record {
 }
 
 -- and what one without an entry found
-pub found_none : (j : Journal) (k : ℕ) → IsJournal (job_of j) j → k < length j.line.items
-    → HasNo j.entries.items (slice_index j.line.items k) → IsFoundBy j k no_counts
+pub found_none : (j : Journal) (k : ℕ) → IsJournal (job_of j) j → k < length j.line
+    → HasNo j.entries.items (slice_index j.line k) → IsFoundBy j k no_counts
 found_none j k h low none = record { is = λ move number. sym (h.found.none k move low none number) }
 
 -- an edit that names no move of the plan leaves the moves that are left
@@ -143,12 +143,12 @@ pub record AheadWithin (entries : List Entry) (place : ℕ) : Type 0 where
   pub removed : removed_ahead entries place ≤ (entry_at entries place).removed
   pub possible : possible_ahead entries place ≤ (entry_at entries place).possible
 
-pub ahead_within : (j : Journal) (k place : ℕ) → IsJournal (job_of j) j → k < length j.line.items → place < length j.entries.items
-    → edit_at j.entries.items place ≡ slice_index j.line.items k
+pub ahead_within : (j : Journal) (k place : ℕ) → IsJournal (job_of j) j → k < length j.line → place < length j.entries.items
+    → edit_at j.entries.items place ≡ slice_index j.line k
     → AheadWithin j.entries.items place
 ahead_within j k place h low there is =
     let held = held_of (job_of j) j h in
-    let totals = entry_totals (job_of j) (parts_of j) (slice_index j.line.items k) place held there is in
+    let totals = entry_totals (job_of j) (parts_of j) (slice_index j.line k) place held there is in
     let rises = totals_rise (job_of j) (parts_of j) k held low in
     record {
       removed = omega (arith, totals.removed_before, totals.removed_after, rises.removed);

@@ -150,7 +150,7 @@ pub record IsUnedited (j : Journal) : Type 0 where
   pub of : j.of ≡ stock_points j.rays.items
   pub changes : j.changes.items ≡ []
   pub entries : j.entries.items ≡ []
-  pub line : j.line.items ≡ []
+  pub line : j.line ≡ []
   pub at : j.at ≡ 0
   pub done : j.done ≡ 0
 

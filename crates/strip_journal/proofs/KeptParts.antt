@@ -35,7 +35,7 @@ parts_of j = record {
   rays = j.rays.items;
   changes = j.changes.items;
   entries = j.entries.items;
-  line = j.line.items;
+  line = j.line;
   at = j.at;
   done = j.done;
 }

@@ -1,3 +1,4 @@
+pub mod EditLines
 pub mod KeptParts
 pub mod KeptSame
 pub mod Noting
@@ -36,3 +37,4 @@ pub mod FreshRays
 pub mod FreshJournal
 pub mod ToldNext
 pub mod Sent
+pub mod Unentered

@@ -10,9 +10,9 @@ use Rattle.strip_marks.specs.declared.change.WordChange.{WordChange}
 use Rattle.strip_marks.specs.Marks.{HaveSameSets, IsChangeOn, IsMarkedStrip}
 use Rattle.strip_journal.specs.declared.journal.Journal.{Journal}
 use Rattle.strip_journal.specs.Journals.{IsAt, IsJournal, job_of}
-use Rattle.strip_journal.specs.Steps.{FitsEntry, HasSameEdits, IsEntered, IsStood}
+use Rattle.strip_journal.specs.Steps.{CanStand, FitsEntry, HasSameEdits, IsApplied}
 use Rattle.strip_journal.proofs.Entered.{named_move}
-use Rattle.strip_journal.proofs.EnteredRoom.{CanStand, can_stand, entered_at, marked_fits}
+use Rattle.strip_journal.proofs.EnteredRoom.{applied_at, marked_fits, stands_same, stands_so}
 
 -- what is known when a move was marked: by a journal j, as it is afterwards, m
 pub record IsMarking (plan : PlanOf) (j m : Journal) (number : ℕ) (changes : List WordChange) (counts : Counts) : Type 0 where
@@ -60,19 +60,17 @@ pub marking_on : (plan : PlanOf) (j m : Journal) (number : ℕ) (changes : List 
 marking_on plan j m number changes counts is =
     let named = named_move plan.moves number is.low in (is.marked named.0 named.1).on
 
--- what `stand` asks
-pub marking_stands : (plan : PlanOf) (j m k : Journal) (number : ℕ) (changes : List WordChange) (counts : Counts)
-    → IsMarking plan j m number changes counts → IsEntered m k changes counts → CanStand k
-marking_stands plan j m k number changes counts is entered =
+pub marking_stands : (plan : PlanOf) (j m : Journal) (number : ℕ) (changes : List WordChange) (counts : Counts)
+    → IsMarking plan j m number changes counts → CanStand m
+marking_stands plan j m number changes counts is =
     let own = own_marking plan j m number changes counts is in
-    can_stand j m k changes counts is.journal (slice_get_within (job_of j).plan.edits j.done (Apply number) own.applies) is.edits entered
+    stands_same j m is.edits (stands_so j is.journal (slice_get_within (job_of j).plan.edits j.done (Apply number) own.applies))
 
--- and the journal behind both
-pub marking_at : (plan : PlanOf) (j m k l : Journal) (number : ℕ) (changes : List WordChange) (counts : Counts)
-    → IsMarking plan j m number changes counts → length m.changes.items + length changes < 2 ^ 32 → IsEntered m k changes counts
-    → IsStood k l → IsAt j l (j.done + 1)
-marking_at plan j m k l number changes counts is few entered stood =
+-- and the journal behind it
+pub marking_at : (plan : PlanOf) (j m l : Journal) (number : ℕ) (changes : List WordChange) (counts : Counts)
+    → IsMarking plan j m number changes counts → length m.changes.items + length changes < 2 ^ 32 → IsApplied m l changes counts
+    → IsAt j l (j.done + 1)
+marking_at plan j m l number changes counts is few applied =
     let own = own_marking plan j m number changes counts is in
     let size : length m.changes.items ≡ length j.changes.items = ap (λ (z : List WordChange). length z) is.edits.changes in
-    entered_at j m k l number changes counts is.journal own.applies own.low is.same is.edits own.marked entered (omega (arith, size, few))
-    stood
+    applied_at j m l number changes counts is.journal own.applies own.low is.same is.edits own.marked (omega (arith, size, few)) applied

@@ -1,6 +1,6 @@
 -- Journals at which only the place in the line, or nothing that a caller sees, is another.
 use Rattle.std.proofs.Common.{◌≡◌, ℕ, ◌+◌, ◌<◌, Bool, List, Some, length, slice_get, arith, refl, sym, subst}
-use Rattle.std.specs.Prelude.{Result, Ok, Err, OnOk}
+use Rattle.std.specs.Prelude.{Result, Ok, Err, OnErr, OnOk}
 use Rattle.vf_io.specs.declared.answers.NoMemory.{NoMemory}
 use mathlib.Core.Logic.{dite}
 use native.Mathlib.Decide.{dec_le}
@@ -12,13 +12,22 @@ use Rattle.strip_journal.specs.declared.journal.Journal.{Journal}
 use Rattle.strip_journal.specs.declared.entry.Entry.{Entry}
 use Rattle.strip_journal.specs.Entries.{AreAscending, edit_at}
 use Rattle.strip_journal.specs.Journals.{IsAt, IsJournal, job_of}
-use Rattle.strip_journal.specs.Steps.{HasSameEdits, IsMovedTo, IsTurnedBy, IsTurnedFrom}
-use Rattle.strip_journal.proofs.EnteredRoom.{CanStand, same_at, stands_so}
+use Rattle.strip_journal.specs.Steps.{CanStand, HasSameEdits, IsMovedTo, IsTurnedBy, IsTurnedFrom}
+use Rattle.strip_journal.proofs.EnteredRoom.{same_at, stands_so}
 
 -- what follows from a fact of an Ok
 pub on_ok : (r : Result (Unit {0}) NoMemory) (P Q : Type 0) → (P → Q) → OnOk r P → OnOk r Q
 on_ok (Ok u) P Q f p = f p
 on_ok (Err e) P Q f p = tt
+
+-- what follows from two facts of an Ok, and of an Err
+pub on_ok_both : (r : Result (Unit {0}) NoMemory) (P Q R : Type 0) → (P → Q → R) → OnOk r P → OnOk r Q → OnOk r R
+on_ok_both (Ok u) P Q R f p q = f p q
+on_ok_both (Err e) P Q R f p q = tt
+
+pub on_err_both : (r : Result (Unit {0}) NoMemory) (P Q R : Type 0) → (P → Q → R) → OnErr r P → OnErr r Q → OnErr r R
+on_err_both (Ok u) P Q R f p q = tt
+on_err_both (Err e) P Q R f p q = f p q
 
 -- the same rays have the same sets
 same_sets_of : (rays : List KeptSets) → HaveSameSets rays rays

@@ -62,7 +62,7 @@ left_as edits v k low =
     }
 
 -- so it is of the line that a journal keeps
-pub left_as_kept : (j : Journal) (k : ℕ) → IsJournal (job_of j) j → k < j.at → IsLeftAs (job_of j).plan.edits j.done j.line.items k
+pub left_as_kept : (j : Journal) (k : ℕ) → IsJournal (job_of j) j → k < j.at → IsLeftAs (job_of j).plan.edits j.done j.line k
 left_as_kept j k h low =
     let edits = (job_of j).plan.edits in
     subst (λ (line : Line). k < line.at → IsLeftAs edits j.done line.numbers k) (sym h.line) (left_as edits j.done k) low
@@ -71,8 +71,8 @@ left_as_kept j k h low =
 abbrev found_with : Journal → List JobMove → JobMove → Counts
 found_with j moves move = found_over (job_of j) (strip_points (job_of j).plan.grid j.number) moves move
 
-same_ahead : (j : Journal) (k : ℕ) (move : JobMove) → IsLeftAs (job_of j).plan.edits j.done j.line.items k
-    → found_with j (left_moves (job_of j).plan (slice_index j.line.items k)) move
+same_ahead : (j : Journal) (k : ℕ) (move : JobMove) → IsLeftAs (job_of j).plan.edits j.done j.line k
+    → found_with j (left_moves (job_of j).plan (slice_index j.line k)) move
     ≡ found_with j (moves_of (job_of j).plan (take k (left_at (job_of j).plan.edits j.done))) move
 same_ahead j k move left = ap (λ (numbers : List ℕ). found_with j (moves_of (job_of j).plan numbers) move) left.ahead
 
@@ -85,7 +85,7 @@ found_at_place : (j : Journal) (k : ℕ) (counts : Counts) → IsJournal (job_of
 found_at_place j k counts h low found = record {
   is = λ number move there named.
       let left = left_as_kept j k h low in
-      let same : number ≡ move_of (job_of j).plan.edits (slice_index j.line.items k) = some_same _ _ (sym there ∙ left.there) in
+      let same : number ≡ move_of (job_of j).plan.edits (slice_index j.line k) = some_same _ _ (sym there ∙ left.there) in
       found.is move (subst (λ (n : ℕ). HasNumber (job_of j).plan n move) same named) ∙ same_ahead j k move left;
 }
 
@@ -94,15 +94,15 @@ found_by_place : (j : Journal) (k : ℕ) (counts : Counts) → IsJournal (job_of
 found_by_place j k counts h low found = record {
   is = λ move named.
       let left = left_as_kept j k h low in
-      found.is (move_of (job_of j).plan.edits (slice_index j.line.items k)) move left.there named ∙ sym (same_ahead j k move left);
+      found.is (move_of (job_of j).plan.edits (slice_index j.line k)) move left.there named ∙ sym (same_ahead j k move left);
 }
 
 -- a place among the moves that are left is one of the line
 pub stands_told : (j : Journal) (s : StripOf) (k : ℕ) → IsJournal (job_of j) j → strip_of j ≡ s
-    → k < length (left_at s.job.plan.edits s.done) → k < length j.line.items
+    → k < length (left_at s.job.plan.edits s.done) → k < length j.line
 stands_told j s k h is low =
     let many = left_told j s h is in
-    let within : j.at ≤ length j.line.items =
+    let within : j.at ≤ length j.line =
     subst (λ (line : Line). line.at ≤ length line.numbers) (sym h.line) (at_within (job_of j).plan.edits j.done) in
     omega (arith, many, within, low)
 

@@ -298,17 +298,17 @@ turned_journal j k l is_undo u at h turning turned moved =
 
 -- after an Undo where some move is left
 pub undone_journal : (j k l : Journal) → IsJournal (job_of j) j → slice_get (job_of j).plan.edits j.done ≡ Some Undo → 0 < j.at
-    → IsTurnedFrom j k (slice_index j.line.items (j.at - 1)) true → IsMovedTo k l (j.at - 1) (j.done + 1) → IsJournal (job_of l) l
+    → IsTurnedFrom j k (slice_index j.line (j.at - 1)) true → IsMovedTo k l (j.at - 1) (j.done + 1) → IsJournal (job_of l) l
 undone_journal j k l h e some turned moved =
     let job = job_of j in
     let held = held_of job j h in
-    turned_journal j k l true (slice_index j.line.items (j.at - 1)) (j.at - 1) h
+    turned_journal j k l true (slice_index j.line (j.at - 1)) (j.at - 1) h
     (undoing job (parts_of j) held e some (left_within job (parts_of j) held)) turned moved
 
 -- after a Redo where some move is dropped
 pub redone_journal : (j k l : Journal) → IsJournal (job_of j) j → slice_get (job_of j).plan.edits j.done ≡ Some Redo
-    → j.at < length j.line.items → IsTurnedFrom j k (slice_index j.line.items j.at) false → IsMovedTo k l (j.at + 1) (j.done + 1)
+    → j.at < length j.line → IsTurnedFrom j k (slice_index j.line j.at) false → IsMovedTo k l (j.at + 1) (j.done + 1)
     → IsJournal (job_of l) l
 redone_journal j k l h e some turned moved =
-    turned_journal j k l false (slice_index j.line.items j.at) (j.at + 1) h
+    turned_journal j k l false (slice_index j.line j.at) (j.at + 1) h
     (redoing (job_of j) (parts_of j) (held_of (job_of j) j h) e some) turned moved

@@ -27,7 +27,7 @@ moved_at j k l at done strip moved journal = record {
 
 -- an Undo
 pub undone_at : (j k l : Journal) → IsJournal (job_of j) j → slice_get (job_of j).plan.edits j.done ≡ Some Undo → 0 < j.at
-    → IsTurnedFrom j k (slice_index j.line.items (j.at - 1)) true → IsMovedTo k l (j.at - 1) (j.done + 1) → IsAt j l (j.done + 1)
+    → IsTurnedFrom j k (slice_index j.line (j.at - 1)) true → IsMovedTo k l (j.at - 1) (j.done + 1) → IsAt j l (j.done + 1)
 undone_at j k l h e some turned moved =
     moved_at j k l _ _ (turned_strip j k _ true turned) moved (undone_journal j k l h e some turned moved)
 
@@ -42,13 +42,13 @@ undo_none_at j l h e none moved = record {
 
 -- a Redo
 pub redone_at : (j k l : Journal) → IsJournal (job_of j) j → slice_get (job_of j).plan.edits j.done ≡ Some Redo
-    → j.at < length j.line.items → IsTurnedFrom j k (slice_index j.line.items j.at) false → IsMovedTo k l (j.at + 1) (j.done + 1)
+    → j.at < length j.line → IsTurnedFrom j k (slice_index j.line j.at) false → IsMovedTo k l (j.at + 1) (j.done + 1)
     → IsAt j l (j.done + 1)
 redone_at j k l h e some turned moved =
     moved_at j k l _ _ (turned_strip j k _ false turned) moved (redone_journal j k l h e some turned moved)
 
 pub redo_none_at : (j l : Journal) → IsJournal (job_of j) j → slice_get (job_of j).plan.edits j.done ≡ Some Redo
-    → length j.line.items ≤ j.at → IsMovedTo j l j.at (j.done + 1) → IsAt j l (j.done + 1)
+    → length j.line ≤ j.at → IsMovedTo j l j.at (j.done + 1) → IsAt j l (j.done + 1)
 redo_none_at j l h e none moved = record {
   journal = redo_none_journal j l h e none moved;
   job = moved.strip.job;

@@ -54,7 +54,7 @@ undo_none_journal j l h e none moved =
 
 -- and after a Redo where none is dropped
 pub redo_none_journal : (j l : Journal) → IsJournal (job_of j) j → slice_get (job_of j).plan.edits j.done ≡ Some Redo
-    → length j.line.items ≤ j.at → IsMovedTo j l j.at (j.done + 1) → IsJournal (job_of l) l
+    → length j.line ≤ j.at → IsMovedTo j l j.at (j.done + 1) → IsJournal (job_of l) l
 redo_none_journal j l h e none moved =
     let edits = (job_of j).plan.edits in
     let at : length (line_at edits j.done).numbers ≤ (line_at edits j.done).at =

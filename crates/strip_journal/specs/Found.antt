@@ -16,20 +16,20 @@ count_at counts j = slice_index_or counts j no_counts
 
 -- the counts are what the k-th edit of the line found
 pub record IsFoundBy (j : Journal) (k : ℕ) (counts : Counts) : Type 0 where
-  pub is : (move : JobMove) → HasNumber j.plan.value (move_of j.plan.value.edits (slice_index j.line.items k)) move
-      → counts ≡ found_at (job_of j) j.number (slice_index j.line.items k) move
+  pub is : (move : JobMove) → HasNumber j.plan.value (move_of j.plan.value.edits (slice_index j.line k)) move
+      → counts ≡ found_at (job_of j) j.number (slice_index j.line k) move
 
 -- the count of the move whose edit is that of the entry at a place has room for what a strip has
 pub record HasRoomAt (j : Journal) (place : ℕ) (counts : List Counts) : Type 0 where
-  pub each : (k : ℕ) → k < length counts → slice_index j.line.items k ≡ edit_at j.entries.items place
+  pub each : (k : ℕ) → k < length counts → slice_index j.line k ≡ edit_at j.entries.items place
       → AreWithin most_before (count_at counts k)
 
 -- the count of the move whose edit is that of the entry at a place is what it was and what was found; the others are as they were
 pub record AddsEntry (j : Journal) (place : ℕ) (before after : List Counts) : Type 0 where
   pub many : length after ≡ length before
-  pub its : (k : ℕ) (found : Counts) → k < length before → slice_index j.line.items k ≡ edit_at j.entries.items place → IsFoundBy j k found
+  pub its : (k : ℕ) (found : Counts) → k < length before → slice_index j.line k ≡ edit_at j.entries.items place → IsFoundBy j k found
       → count_at after k ≡ plus (count_at before k) found
-  pub others : (k : ℕ) → k < length before → (slice_index j.line.items k ≡ edit_at j.entries.items place → ⊥)
+  pub others : (k : ℕ) → k < length before → (slice_index j.line k ≡ edit_at j.entries.items place → ⊥)
       → count_at after k ≡ count_at before k
 
 -- each count is what it was and what its move found
@@ -41,7 +41,7 @@ pub record AddsLeft (j : Journal) (before after : List Counts) : Type 0 where
 -- were
 pub record AddsAhead (j : Journal) (place : ℕ) (before after : List Counts) : Type 0 where
   pub many : length after ≡ length before
-  pub its : (k i : ℕ) (found : Counts) → k < length before → i < place → edit_at j.entries.items i ≡ slice_index j.line.items k
+  pub its : (k i : ℕ) (found : Counts) → k < length before → i < place → edit_at j.entries.items i ≡ slice_index j.line k
       → IsFoundBy j k found → count_at after k ≡ plus (count_at before k) found
-  pub others : (k : ℕ) → k < length before → ((i : ℕ) → i < place → edit_at j.entries.items i ≡ slice_index j.line.items k → ⊥)
+  pub others : (k : ℕ) → k < length before → ((i : ℕ) → i < place → edit_at j.entries.items i ≡ slice_index j.line k → ⊥)
       → count_at after k ≡ count_at before k

@@ -79,7 +79,7 @@ job_of j = record { plan = j.plan.value; stock = j.stock.value; part = j.part.va
 
 -- the line of edits that is kept
 abbrev pub line_of : Journal → Line
-line_of j = record { numbers = j.line.items; at = j.at }
+line_of j = record { numbers = j.line; at = j.at }
 
 -- the journal is that of a strip of the job after some of its edits
 pub record IsJournal (job : Job) (j : Journal) : Type 0 where
@@ -101,7 +101,7 @@ pub record IsJournal (job : Job) (j : Journal) : Type 0 where
   pub tracked_possible : IsTracked (possible_at job j.number) possible_of (length j.rays.items) (points_at job.plan.grid j.number)
       j.changes.items j.entries.items j.done
   pub totals : HaveTotals job j.number j.entries.items
-  pub found : AreFound job j.number j.line.items j.entries.items
+  pub found : AreFound job j.number j.line j.entries.items
 
 -- a journal of the same strip after so many edits
 pub record IsAt (j k : Journal) (done : ℕ) : Type 0 where

@@ -1,6 +1,7 @@
 -- What one edit makes of what a strip keeps.
 use Rattle.std.specs.Prelude.{◌≡◌, ℕ, ◌+◌, ◌-◌, ◌^◌, ◌<◌, ◌≤◌, ◌&&◌, ◌==◌, not, Bool, false, if◌then◌else◌, List, [], ◌∷◌, ◌++◌, length, take, vec_capacity, vec_len}
 use Rattle.vf_spans.specs.Members.{has}
+use Rattle.edit_plan.specs.Limits.{most_edits}
 use Rattle.job_facts.specs.declared.counts.Counts.{Counts}
 use Rattle.job_facts.specs.Counts.{AreWithin}
 use Rattle.ray_words.specs.Rays.{KeptSets}
@@ -38,9 +39,9 @@ abbrev pub noted : Bool → List Entry → Entry → List Entry
 noted nothing entries entry = if nothing then entries else entries ++ entry ∷ []
 
 -- the entry of an edit that applies a move with these changes and counts
-abbrev pub applied_entry : Journal → List WordChange → Counts → Entry
-applied_entry j changes counts = record {
-  edit = j.done;
+abbrev pub applied_entry : ℕ → Journal → List WordChange → Counts → Entry
+applied_entry edit j changes counts = record {
+  edit = edit;
   from = length j.changes.items;
   to = length j.changes.items + length changes;
   is_undo = false;
@@ -66,30 +67,27 @@ pub record HasSameEdits (j k : Journal) : Type 0 where
   pub strip : IsSameStrip j k
   pub changes : k.changes.items ≡ j.changes.items
   pub entries : k.entries.items ≡ j.entries.items
-  pub line : k.line.items ≡ j.line.items
+  pub line : k.line ≡ j.line
   pub at : k.at ≡ j.at
   pub done : k.done ≡ j.done
 
--- there is room for so many changes, for an entry and for an edit in the line; a place among the changes has 32 bits
+-- there is room for so many changes and for an entry; a place among the changes has 32 bits
 pub record HasRoom (j : Journal) (changes : ℕ) : Type 0 where
   pub changes_fit : vec_len j.changes + changes ≤ vec_capacity j.changes
   pub few : length j.changes.items + changes < 2 ^ 32
   pub entry : vec_len j.entries < vec_capacity j.entries
-  pub line : vec_len j.line < vec_capacity j.line
 
 -- the line and the number of edits done stay
 pub record HasSameLine (j k : Journal) : Type 0 where
-  pub line : k.line.items ≡ j.line.items
+  pub line : k.line ≡ j.line
   pub at : k.at ≡ j.at
   pub done : k.done ≡ j.done
 
--- a journal after a move with these changes and counts was entered, but for the line and the number of edits done
-pub record IsEntered (j k : Journal) (changes : List WordChange) (counts : Counts) : Type 0 where
-  pub strip : IsSameStrip j k
-  pub rays : AreRaysTurned j.rays.items k.rays.items changes false
-  pub changes_are : k.changes.items ≡ j.changes.items ++ changes
-  pub entries : k.entries.items ≡ noted (does_nothing changes counts) j.entries.items (applied_entry j changes counts)
-  pub line : HasSameLine j k
+-- the edit that comes next can be added to those that are left
+pub record CanStand (j : Journal) : Type 0 where
+  pub left : j.at ≤ length j.line
+  pub few : length j.line ≤ most_edits
+  pub next : j.done < most_edits
 
 -- a journal after this edit was added to those that are left
 pub record IsStood (j k : Journal) : Type 0 where
@@ -97,7 +95,25 @@ pub record IsStood (j k : Journal) : Type 0 where
   pub rays : k.rays.items ≡ j.rays.items
   pub changes : k.changes.items ≡ j.changes.items
   pub entries : k.entries.items ≡ j.entries.items
-  pub line : k.line.items ≡ take j.at j.line.items ++ j.done ∷ []
+  pub line : k.line ≡ take j.at j.line ++ j.done ∷ []
+  pub at : k.at ≡ j.at + 1
+  pub done : k.done ≡ j.done + 1
+
+-- a journal after the changes and counts of an edit's move were entered
+pub record IsEntered (j k : Journal) (edit : ℕ) (changes : List WordChange) (counts : Counts) : Type 0 where
+  pub strip : IsSameStrip j k
+  pub rays : AreRaysTurned j.rays.items k.rays.items changes false
+  pub changes_are : k.changes.items ≡ j.changes.items ++ changes
+  pub entries : k.entries.items ≡ j.entries.items ++ applied_entry edit j changes counts ∷ []
+  pub line : HasSameLine j k
+
+-- a journal after this edit applied a move with these changes and counts
+pub record IsApplied (j k : Journal) (changes : List WordChange) (counts : Counts) : Type 0 where
+  pub strip : IsSameStrip j k
+  pub rays : AreRaysTurned j.rays.items k.rays.items changes false
+  pub changes_are : k.changes.items ≡ j.changes.items ++ changes
+  pub entries : k.entries.items ≡ noted (does_nothing changes counts) j.entries.items (applied_entry j.done j changes counts)
+  pub line : k.line ≡ take j.at j.line ++ j.done ∷ []
   pub at : k.at ≡ j.at + 1
   pub done : k.done ≡ j.done + 1
 
@@ -133,6 +149,6 @@ pub record IsMovedTo (j k : Journal) (at done : ℕ) : Type 0 where
   pub rays : k.rays.items ≡ j.rays.items
   pub changes : k.changes.items ≡ j.changes.items
   pub entries : k.entries.items ≡ j.entries.items
-  pub line : k.line.items ≡ j.line.items
+  pub line : k.line ≡ j.line
   pub at_is : k.at ≡ at
   pub done_is : k.done ≡ done

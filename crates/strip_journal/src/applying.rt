@@ -1,12 +1,11 @@
-ghost use Rattle.std.specs.Prelude.{◌≡◌, ◌+◌, ◌-◌, ◌^◌, ◌<◌, ◌≤◌, ◌++◌, ◌∷◌, [], false, true, Some, All, IfOk, OnOk, OnErr, length, slice_get, take, vec_capacity, vec_len};
+ghost use Rattle.std.specs.Prelude.{◌≡◌, ℕ, ◌+◌, ◌-◌, ◌^◌, ◌<◌, ◌≤◌, false, true, Some, All, IfOk, OnOk, OnErr, length, slice_get};
 ghost use Rattle.edit_plan.specs.declared.edit.Edit.TheVariants.{Apply};
-ghost use Rattle.edit_plan.specs.Limits.{most_edits};
 ghost use Rattle.job_facts.specs.Counts.{AreWithin};
 ghost use Rattle.job_model.specs.Tasks.{JobMove};
 ghost use Rattle.strip_plan.specs.Plans.{HasNumber};
 ghost use Rattle.strip_marks.specs.Marks.{HaveSameSets, IsChangeOn, IsMarkedStrip};
 ghost use Rattle.strip_journal.specs.Journals.{IsAt, IsJournal, job_of};
-ghost use Rattle.strip_journal.specs.Steps.{FitsEntry, HasRoom, HasSameEdits, IsEntered, IsStood, does_nothing};
+ghost use Rattle.strip_journal.specs.Steps.{CanStand, FitsEntry, HasRoom, HasSameEdits, IsApplied, IsEntered, IsStood, does_nothing};
 
 use crate::entry::{Entry, Hits};
 use crate::journal::Journal;
@@ -27,7 +26,7 @@ fn does_nothing(marked: &Marked) -> bool
 }
 
 impl Journal {
-    /// Room for so many changes, for an entry and for an edit in the line.
+    /// Room for so many changes and for an entry.
     fn make_room(&mut self, changes: usize) -> Result<(), NoMemory>
         ensures edits { HasSameEdits self.old self.new }
         ensures rays { self.new.rays.items ≡ self.old.rays.items }
@@ -39,18 +38,30 @@ impl Journal {
         }
         self.changes.reserve(changes)?;
         self.entries.reserve(1)?;
-        self.line.reserve(1)?;
         Ok(())
     }
 
-    /// Takes over what a move changes or finds, with its entry. It takes no memory.
-    fn enter(&mut self, marked: Marked)
+    /// Adds this edit to those that are left, in place of those that are dropped.
+    fn stand(&mut self) -> Result<(), NoMemory>
+        requires { CanStand self.old }
+        ensures ok { OnOk result (IsStood self.old self.new) }
+        ensures room { (changes : ℕ) → HasRoom self.old changes → HasRoom self.new changes }
+        ensures edits { OnErr result (HasSameEdits self.old self.new) }
+        ensures rays { OnErr result (self.new.rays.items ≡ self.old.rays.items) }
+    {
+        self.line.put(self.at, self.done)?;
+        self.at += 1;
+        self.done += 1;
+        Ok(())
+    }
+
+    /// Takes over what a move changes or finds, with the entry of its edit. It takes no memory.
+    fn enter(&mut self, edit: u32, marked: Marked)
         requires room { HasRoom self.old (length marked.changes.items) }
         requires on { All (IsChangeOn self.old.rays.items) marked.changes.items }
         requires fits { FitsEntry self.old marked.counts }
         requires some { does_nothing marked.changes.items marked.counts ≡ false }
-        ensures entered { IsEntered self.old self.new marked.changes.items marked.counts }
-        ensures room { vec_len self.new.line < vec_capacity self.new.line }
+        ensures { IsEntered self.old self.new edit marked.changes.items marked.counts }
     {
         let Marked {
             mut changes,
@@ -61,7 +72,7 @@ impl Journal {
         turn_all(self.rays.as_mut_slice(), changes.as_slice(), false);
         let _moved = self.changes.append(&mut changes);
         let entry = Entry {
-            edit: self.done,
+            edit,
             from,
             to: self.changes.len() as u32,
             is_undo: false,
@@ -72,38 +83,25 @@ impl Journal {
         let _noted = self.entries.push(entry);
     }
 
-    /// Takes over what a move changes or finds, if it does, and makes room for an edit in the line. Most moves leave a strip alone.
+    /// Takes over what a move changes or finds, if it does, and adds its edit to those that are left. What may fail comes first.
     fn take_over(&mut self, marked: Marked) -> Result<(), NoMemory>
         requires few { length self.old.changes.items < 2 ^ 32 }
         requires on { All (IsChangeOn self.old.rays.items) marked.changes.items }
         requires fits { FitsEntry self.old marked.counts }
-        ensures entered { OnOk result (IsEntered self.old self.new marked.changes.items marked.counts) }
+        requires stands { CanStand self.old }
+        ensures applied { OnOk result (IsApplied self.old self.new marked.changes.items marked.counts) }
         ensures few { OnOk result (length self.old.changes.items + length marked.changes.items < 2 ^ 32) }
-        ensures room { OnOk result (vec_len self.new.line < vec_capacity self.new.line) }
         ensures edits { OnErr result (HasSameEdits self.old self.new) }
         ensures rays { OnErr result (self.new.rays.items ≡ self.old.rays.items) }
     {
         if does_nothing(&marked) {
-            self.line.reserve(1)?;
-            return Ok(());
+            return self.stand();
         }
         self.make_room(marked.changes.len())?;
-        self.enter(marked);
+        let edit = self.done;
+        self.stand()?;
+        self.enter(edit, marked);
         Ok(())
-    }
-
-    /// Cuts off the edits that are dropped, and adds this one to those that are left. It takes no memory.
-    fn stand(&mut self)
-        requires room { vec_len self.old.line < vec_capacity self.old.line }
-        requires left { self.old.at ≤ length self.old.line.items }
-        requires few { length self.old.line.items ≤ most_edits }
-        requires next { self.old.done < most_edits }
-        ensures { IsStood self.old self.new }
-    {
-        self.line.truncate(self.at as usize);
-        let _stands = self.line.push(self.done);
-        self.at += 1;
-        self.done += 1;
     }
 
     /// What a move of the plan changes, and what it finds. The sets and the edits stay.
@@ -125,7 +123,7 @@ impl Journal {
         )
     }
 
-    /// Applies a move of the plan: what may fail comes first.
+    /// Applies a move of the plan. Most moves leave a strip alone: then nothing is marked.
     pub fn apply(&mut self, plan: &Plan, number: u32) -> Result<(), NoMemory>
         requires journal { IsJournal (job_of self.old) self.old }
         requires plan { self.old.plan.value ≡ plan.now }
@@ -134,9 +132,11 @@ impl Journal {
         ensures ok { OnOk result (IsAt self.old self.new (self.old.done + 1)) }
         ensures unchanged { OnErr result (IsAt self.old self.new self.old.done) }
     {
+        let window = plan.strip_window(number, self.number);
+        if window.0 == window.1 {
+            return self.stand();
+        }
         let marked = self.mark(plan, number)?;
-        self.take_over(marked)?;
-        self.stand();
-        Ok(())
+        self.take_over(marked)
     }
 }

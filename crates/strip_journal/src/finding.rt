@@ -152,10 +152,10 @@ impl Journal {
     /// What the k-th edit of the line found, left or dropped.
     pub fn found(&self, k: u32) -> Counts
         requires journal { IsJournal (job_of self.now) self.now }
-        requires stands { k < length self.now.line.items }
+        requires stands { k < length self.now.line }
         ensures { IsFoundBy self.now k result }
     {
-        match self.entry_of(self.line[k as usize]) {
+        match self.entry_of(self.line.get(k)) {
             None => Counts::none(),
             Some(place) => self.counts_at(place),
         }
@@ -216,11 +216,10 @@ impl Journal {
     /// The place of an edit among those that are left, if it is one of them.
     fn left_of(&self, edit: u32) -> Option<usize>
         requires { IsJournal (job_of self.now) self.now }
-        ensures { MatchOption result ((k : ℕ) → k < self.now.at → slice_index self.now.line.items k ≡ edit → ⊥)
-            (λ k. (k < self.now.at) × (slice_index self.now.line.items k ≡ edit)) }
+        ensures { MatchOption result ((k : ℕ) → k < self.now.at → slice_index self.now.line k ≡ edit → ⊥)
+            (λ k. (k < self.now.at) × (slice_index self.now.line k ≡ edit)) }
     {
-        let left = &self.line.as_slice()[..self.at as usize];
-        left.binary_search(&edit).ok()
+        self.line.place_of(edit, self.at)
     }
 
     /// Adds what the edit of the entry at a place found to the count of its move, if that is left.

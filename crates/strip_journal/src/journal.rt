@@ -1,3 +1,4 @@
+use crate::edit_line::EditLine;
 use crate::entry::Entry;
 use ray_shapes::Solid;
 use ray_words::WordRay;
@@ -6,17 +7,22 @@ use std::snapshot::Snapshot;
 use strip_marks::WordChange;
 use strip_plan::Plan;
 
-/// What a strip keeps: its newest sets, and what is needed to look back.
+/// What a strip keeps: its newest sets, and what is needed to look back. First what an edit that leaves it alone reads and writes.
 #[derive(Drop)]
 pub struct Journal {
+    /// The strip's number.
+    pub number: u32,
+    /// How many edits are done.
+    pub done: u32,
+    /// The edits that applied a move, in order: the first `at` are left, the others dropped.
+    pub at: u32,
+    pub line: EditLine,
     pub alloc: Global,
     /// What the strip is of: for contracts alone, without a byte.
     pub plan: Snapshot<Plan>,
     pub stock: Snapshot<Solid>,
     pub part: Snapshot<Solid>,
     pub fixture: Snapshot<Solid>,
-    /// The strip's number.
-    pub number: u32,
     /// How many stock points it has.
     pub of: u32,
     pub rays: Vec<WordRay>,
@@ -24,9 +30,4 @@ pub struct Journal {
     pub changes: Vec<WordChange>,
     /// The edits that had an effect here, in order.
     pub entries: Vec<Entry>,
-    /// The edits that applied a move, in order: the first `at` are left, the others dropped.
-    pub line: Vec<u32>,
-    pub at: u32,
-    /// How many edits are done.
-    pub done: u32,
 }

@@ -2,6 +2,7 @@
 #![tactic(auto)]
 
 mod applying;
+mod edit_line;
 mod entry;
 mod finding;
 mod fresh;

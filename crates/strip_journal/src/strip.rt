@@ -9,6 +9,7 @@ ghost use Rattle.job_facts.specs.Counts.{AreWithin};
 ghost use Rattle.job_model.specs.Points.{left_moves, point_in, state_after, strip_points, totals_over};
 ghost use Rattle.strip_journal.specs.Strips.{AddsFound, IsFoundAt, most_before};
 
+use crate::edit_line::EditLine;
 use crate::fresh::{fresh_rays, hold_grid};
 use crate::journal::Journal;
 use job_facts::{Counts, PointState, Totals};
@@ -77,19 +78,19 @@ impl Strip {
         hold_grid(plan.grid());
         let (rays, of) = fresh_rays(alloc, plan.grid(), number, stock, part, fixture)?;
         let journal = Journal {
+            number,
+            done: 0,
+            at: 0,
+            line: EditLine::new(alloc),
             alloc,
             plan: Snapshot::of(plan),
             stock: Snapshot::of(&stock.solid),
             part: Snapshot::of(&part.solid),
             fixture: Snapshot::of(&fixture.solid),
-            number,
             of,
             rays,
             changes: Vec::new(alloc),
             entries: Vec::new(alloc),
-            line: Vec::new(alloc),
-            at: 0,
-            done: 0,
         };
         Ok(Strip { journal })
     }

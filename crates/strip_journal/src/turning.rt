@@ -105,7 +105,7 @@ impl Journal {
             self.move_to(at);
             return Ok(());
         }
-        let source = self.line[at as usize - 1];
+        let source = self.line.get(at - 1);
         self.turn(source, true)?;
         self.move_to(at - 1);
         Ok(())
@@ -123,7 +123,7 @@ impl Journal {
             self.move_to(at);
             return Ok(());
         }
-        let source = self.line[at as usize];
+        let source = self.line.get(at);
         self.turn(source, false)?;
         self.move_to(at + 1);
         Ok(())

@@ -1,5 +1,5 @@
 -- What a move changes on a strip: its rays in the window are enough.
-use Rattle.std.proofs.Common.{◌≡◌, ℕ, ◌-◌, ◌<◌, ◌≤◌, false, not, ◌&&◌, List, length, get_or, arith, sym, ap, ◌∙◌, ◌⊎◌, inl, inr, ⊎_elim}
+use Rattle.std.proofs.Common.{◌≡◌, ℕ, ◌-◌, ◌<◌, ◌≤◌, false, not, ◌&&◌, List, [], length, get_or, arith, sym, ap, ◌∙◌, ◌⊎◌, inl, inr, ⊎_elim}
 use Rattle.vf_spans.specs.Members.{has}
 use Rattle.job_facts.specs.declared.counts.Counts.{Counts}
 use Rattle.job_facts.specs.Counts.{no_counts}
@@ -13,6 +13,7 @@ use Rattle.strip_marks.specs.Marks.{AreRays, IsMarkedStrip, among, points_at, po
 use Rattle.strip_marks.specs.RowMarks.{AreRaysMarked}
 use Rattle.strip_marks.proofs.Counting.{found_none, inside_or, sum_window}
 use Rattle.strip_marks.proofs.Lists.{among_none, other_ray}
+use Rattle.strip_marks.proofs.MoreRays.{no_rays_to}
 use Rattle.strip_marks.proofs.OnStrips.{not_sure_there, nowhere_beyond}
 use Rattle.strip_marks.proofs.Idle.{unmarked_meets_none}
 
@@ -67,3 +68,12 @@ module _ (plan : PlanOf) (number : ℕ) (move : JobMove) (strip lo hi : ℕ) (be
         ∙ sym (sum_window (ray_found plan move strip before) lo (hi - lo) (length before) (omega arith)
         (λ n lt. none_found n (inl lt) (omega arith)) (λ n ge lt. none_found n (inr (omega arith)) lt));
   }
+
+-- a move whose window on a strip is empty changes nothing there, and finds nothing
+pub unentered_strip : (plan : PlanOf) (number : ℕ) (move : JobMove) (strip lo hi : ℕ) (rays : List KeptSets) (changes : List WordChange)
+    (counts : Counts) → IsPlan plan → HasNumber plan number move → strip < length (strips_of plan.grid) → AreRays plan.grid strip rays
+    → lo ≡ hi → hi ≤ length rays → HoldsEntered plan move strip lo hi → changes ≡ [] → counts ≡ no_counts
+    → IsMarkedStrip plan move strip rays rays changes counts
+unentered_strip plan number move strip lo hi rays changes counts valid named there own empty within window none nothing =
+    strip_marked plan number move strip lo hi rays rays changes counts valid named there own (omega arith) within window
+    (no_rays_to plan move strip lo hi rays rays changes counts empty none nothing)

@@ -1,13 +1,16 @@
 -- The move is marked, and what it changes is taken over: the journal of the edits before becomes that of one edit more.
-use Rattle.std.proofs.Common.{◌+◌, List, rules, sym, subst}
+use Rattle.std.proofs.Common.{◌≡◌, ◌<◌, List, length, rules, sym, subst}
+use Rattle.std.proofs.lemmas.Result.{on_ok_weaker}
+use Rattle.ray_grid.specs.Strips.{strips_of}
 use Rattle.ray_words.specs.Rays.{KeptSets}
+use Rattle.job_model.specs.Tasks.{PlanOf}
 use Rattle.strip_marks.specs.Marks.{HaveSameSets}
-use Rattle.strip_journal.specs.declared.journal.Journal.{Journal}
-use Rattle.strip_journal.specs.Journals.{IsAt}
-use Rattle.strip_journal.specs.Steps.{IsEntered}
-use Rattle.strip_journal.proofs.EnteredRoom.{CanStand, same_at}
+use Rattle.strip_journal.specs.Steps.{HasSameEdits, IsStood}
+use Rattle.strip_journal.proofs.EnteredRoom.{same_at}
 use Rattle.strip_journal.proofs.KeptSame.{same_edits_through}
 use Rattle.strip_journal.proofs.MarkedBy.{IsMarking, marking_at, marking_fits, marking_on, marking_stands}
+use Rattle.strip_journal.proofs.MovedAt.{on_err_both, on_ok_both, unmoved_at}
+use Rattle.strip_journal.proofs.Unentered.{stands_apply, unentered_at}
 use Rattle.strip_journal.proofs.journal.Journal.apply.Goals as goal
 use Rattle.strip_journal.proofs.journal.Journal.apply.Goals.{In_ok-marked}
 
@@ -24,12 +27,25 @@ marking c = record {
   marked = c.in_ok-marked.ensures.marked;
 }
 
--- there is a place for its edit in a journal in which it is entered
-stands : (c : In_ok-marked) (k : Journal)
-    → IsEntered c.mark.new.self k c.in_ok-marked.marked.changes.items c.in_ok-marked.marked.counts → CanStand k
-stands c k entered =
-    marking_stands c.args.plan.now c.args.self.now c.mark.new.self k c.args.number c.in_ok-marked.marked.changes.items
-    c.in_ok-marked.marked.counts (marking c) entered
+pub strip_window-window-requires-clause-strip : goal.strip_window-window-requires-clause-strip
+strip_window-window-requires-clause-strip c =
+    subst (λ (p : PlanOf). c.args.self.now.number < length (strips_of p.grid)) c.requires.plan c.requires.journal.strip
+
+pub stand-requires : goal.stand-requires
+stand-requires c = stands_apply c.args.plan.now c.args.self.now c.args.number c.requires.journal c.requires.plan c.requires.edit
+
+pub returns-then-window-clause-ok : goal.returns-then-window-clause-ok
+returns-then-window-clause-ok c =
+    let w = c.strip_window-window in
+    let at = λ (stood : IsStood c.args.self.now c.stand.new.self).
+    unentered_at c.args.plan.now c.args.self.now c.stand.new.self c.args.number w.result.0 w.result.1 c.requires.journal c.requires.plan
+    c.requires.edit c.requires.number c.if-window.true w.ensures.within w.ensures.holds stood in
+    on_ok_weaker c.stand.result at c.stand.ensures.ok
+
+pub returns-then-window-clause-unchanged : goal.returns-then-window-clause-unchanged
+returns-then-window-clause-unchanged c =
+    on_err_both c.stand.result _ _ _ (unmoved_at c.args.self.now c.stand.new.self c.requires.journal) c.stand.ensures.edits
+    c.stand.ensures.rays
 
 pub returns-in_err-marked-clause-unchanged : goal.returns-in_err-marked-clause-unchanged
 returns-in_err-marked-clause-unchanged c =
@@ -45,30 +61,25 @@ take_over-requires-clause-fits c =
     marking_fits c.args.plan.now c.args.self.now c.mark.new.self c.args.number c.in_ok-marked.marked.changes.items
     c.in_ok-marked.marked.counts (marking (goal.at.take_over-requires-clause-fits c).In_ok-marked)
 
-pub returns-in_err-take_over-clause-unchanged : goal.returns-in_err-take_over-clause-unchanged
-returns-in_err-take_over-clause-unchanged c =
-    let edits =
-    same_edits_through c.args.self.now c.mark.new.self c.take_over.new.self c.mark.ensures.edits c.in_err-take_over.ensures.edits in
-    let same =
-    subst (λ (z : List KeptSets). HaveSameSets c.args.self.now.rays.items z) (sym c.in_err-take_over.ensures.rays) c.mark.ensures.same in
-    let at = same_at c.args.self.now c.take_over.new.self c.requires.journal same edits in search (rules, at)
-
-pub stand-requires-clause-left : goal.stand-requires-clause-left
-stand-requires-clause-left c =
-    (stands (goal.at.stand-requires-clause-left c).In_ok-marked c.take_over.new.self c.in_ok-take_over.ensures.entered).left
-
-pub stand-requires-clause-few : goal.stand-requires-clause-few
-stand-requires-clause-few c =
-    (stands (goal.at.stand-requires-clause-few c).In_ok-marked c.take_over.new.self c.in_ok-take_over.ensures.entered).few
-
-pub stand-requires-clause-next : goal.stand-requires-clause-next
-stand-requires-clause-next c =
-    (stands (goal.at.stand-requires-clause-next c).In_ok-marked c.take_over.new.self c.in_ok-take_over.ensures.entered).next
+pub take_over-requires-clause-stands : goal.take_over-requires-clause-stands
+take_over-requires-clause-stands c =
+    marking_stands c.args.plan.now c.args.self.now c.mark.new.self c.args.number c.in_ok-marked.marked.changes.items
+    c.in_ok-marked.marked.counts (marking (goal.at.take_over-requires-clause-stands c).In_ok-marked)
 
 pub returns-clause-ok : goal.returns-clause-ok
 returns-clause-ok c =
-    let at : IsAt c.args.self.now c.stand.new.self (c.args.self.now.done + 1) =
-    marking_at c.args.plan.now c.args.self.now c.mark.new.self c.take_over.new.self c.stand.new.self c.args.number
-    c.in_ok-marked.marked.changes.items c.in_ok-marked.marked.counts (marking (goal.at.returns-clause-ok c).In_ok-marked)
-    c.in_ok-take_over.ensures.few c.in_ok-take_over.ensures.entered c.stand.ensures in
-    search (rules, at)
+    let own = marking (goal.at.returns-clause-ok c).In_ok-marked in
+    on_ok_both c.take_over.result _ _ _
+    (marking_at c.args.plan.now c.args.self.now c.mark.new.self c.take_over.new.self c.args.number c.in_ok-marked.marked.changes.items
+    c.in_ok-marked.marked.counts own)
+    c.take_over.ensures.few c.take_over.ensures.applied
+
+pub returns-clause-unchanged : goal.returns-clause-unchanged
+returns-clause-unchanged c =
+    let before = c.args.self.now in
+    let after = c.take_over.new.self in
+    let at = λ (edits : HasSameEdits c.mark.new.self after) (rays : after.rays.items ≡ c.mark.new.self.rays.items).
+    same_at before after c.requires.journal
+    (subst (λ (z : List KeptSets). HaveSameSets before.rays.items z) (sym rays) c.mark.ensures.same)
+    (same_edits_through before c.mark.new.self after c.mark.ensures.edits edits) in
+    on_err_both c.take_over.result _ _ _ at c.take_over.ensures.edits c.take_over.ensures.rays

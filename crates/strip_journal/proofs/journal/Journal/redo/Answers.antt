@@ -1,7 +1,5 @@
 -- A Redo goes one forth in the line, and gives again what the edit there changed.
-use Rattle.std.proofs.Common.{◌≡◌, ◌∙◌, false, rules, arith, subst}
-use Rattle.std.specs.Prelude.{slice_index}
-use Rattle.std.proofs.lemmas.List.{get_or_default}
+use Rattle.std.proofs.Common.{false, rules, arith, subst}
 use Rattle.strip_journal.specs.Steps.{IsTurnedFrom}
 use Rattle.strip_journal.proofs.MovedAt.{moved_on, stands_next, unmoved_at}
 use Rattle.strip_journal.proofs.TurnedAt.{redo_none_at, redone_at}
@@ -10,7 +8,6 @@ use Rattle.strip_journal.proofs.journal.Journal.redo.Goals as goal
 
 pub returns-then-at-len-clause-ok : goal.returns-then-at-len-clause-ok
 returns-then-at-len-clause-ok c =
-    let size = c.args.self.now.line.ok.0 in
     redo_none_at c.args.self.now c.move_to.new.self c.requires.journal c.requires.edit (omega arith) c.move_to.ensures
 
 pub returns-in_err-turn-clause-unchanged : goal.returns-in_err-turn-clause-unchanged
@@ -30,9 +27,7 @@ move_to-requires-2 c =
 
 pub returns-clause-ok : goal.returns-clause-ok
 returns-clause-ok c =
-    let size = c.args.self.now.line.ok.0 in
-    let source : c.index-source.result.now ≡ slice_index c.args.self.now.line.items c.args.self.now.at =
-    c.index-source.ensures ∙ get_or_default c.args.self.now.line.items c.args.self.now.at c.index-source.result.now 0 (omega arith) in
+    let source = c.get-source.ensures in
     let turned = subst (λ u. IsTurnedFrom c.args.self.now c.turn.new.self u false) source c.in_ok-turn.ensures.ok in
     redone_at c.args.self.now c.turn.new.self c.move_to-2.new.self c.requires.journal c.requires.edit (omega arith) turned
     (moved_on c.turn.new.self c.move_to-2.new.self _ _ c.args.self.now.done c.turn.ensures.line.done c.move_to-2.ensures)

@@ -1,7 +1,5 @@
 -- An Undo goes one back in the line, and takes back what the edit there changed.
-use Rattle.std.proofs.Common.{◌≡◌, ◌∙◌, ◌-◌, true, rules, arith, subst}
-use Rattle.std.specs.Prelude.{slice_index}
-use Rattle.std.proofs.lemmas.List.{get_or_default}
+use Rattle.std.proofs.Common.{true, rules, arith, subst}
 use Rattle.strip_journal.specs.Steps.{IsTurnedFrom}
 use Rattle.strip_journal.proofs.MovedAt.{moved_on, stands_next, unmoved_at}
 use Rattle.strip_journal.proofs.TurnedAt.{undo_none_at, undone_at}
@@ -12,8 +10,8 @@ pub returns-then-at-eq0-clause-ok : goal.returns-then-at-eq0-clause-ok
 returns-then-at-eq0-clause-ok c =
     undo_none_at c.args.self.now c.move_to.new.self c.requires.journal c.requires.edit c.if-at-eq0.true c.move_to.ensures
 
-pub index-source-requires : goal.index-source-requires
-index-source-requires c =
+pub get-source-requires : goal.get-source-requires
+get-source-requires c =
     let stands = stands_next c.args.self.now Undo c.requires.journal c.requires.edit in
     let left = stands.left in omega arith
 
@@ -29,10 +27,7 @@ move_to-requires-2 c =
 
 pub returns-clause-ok : goal.returns-clause-ok
 returns-clause-ok c =
-    let stands = stands_next c.args.self.now Undo c.requires.journal c.requires.edit in
-    let left = stands.left in
-    let source : c.index-source.result.now ≡ slice_index c.args.self.now.line.items (c.args.self.now.at - 1) =
-    c.index-source.ensures ∙ get_or_default c.args.self.now.line.items (c.args.self.now.at - 1) c.index-source.result.now 0 (omega arith) in
+    let source = c.get-source.ensures in
     let turned = subst (λ u. IsTurnedFrom c.args.self.now c.turn.new.self u true) source c.in_ok-turn.ensures.ok in
     undone_at c.args.self.now c.turn.new.self c.move_to-2.new.self c.requires.journal c.requires.edit (omega arith) turned
     (moved_on c.turn.new.self c.move_to-2.new.self _ _ c.args.self.now.done c.turn.ensures.line.done c.move_to-2.ensures)

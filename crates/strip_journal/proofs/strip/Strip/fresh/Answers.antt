@@ -17,9 +17,9 @@ invariant_of-result g c =
     c.args.fixture.now.solid c.in_ok-rays.rays.items c.grid-2.ensures c.in_ok-rays.ensures.rays)
     (record {
       of = c.in_ok-rays.ensures.stock;
-      changes = c.new.ensures.items;
-      entries = c.new-2.ensures.items;
-      line = c.new-3.ensures.items;
+      changes = c.new-2.ensures.items;
+      entries = c.new-3.ensures.items;
+      line = c.new.ensures;
       at = refl;
       done = refl;
     })

@@ -1,0 +1,98 @@
+ghost use Rattle.std.specs.Prelude.{◌≡◌, ℕ, ◌+◌, ◌-◌, ◌<◌, ◌≤◌, ◌^◌, [], ◌∷◌, ◌++◌, List, MatchOption, OnErr, OnOk, length, slice_index, take};
+ghost use Rattle.std.specs.List.{range_with_len};
+ghost use Rattle.vf_spans.specs.Edges.{Ascends};
+
+use std::alloc::Global;
+use std::marker::Model;
+use vf_io::NoMemory;
+
+/// A list of edits of which most stand at their own numbers. It is seen as the list 0, 1, .. below `straight` and then the rest: while
+/// the k-th edit is number k, an edit more is one number more, and takes no memory.
+#[derive(Drop)]
+pub struct EditLine {
+    straight: u32,
+    rest: Vec<u32>,
+}
+
+impl Model for EditLine {
+    ghost Value = { List ℕ };
+
+    ghost view = { λ l. range_with_len 0 l.straight ++ l.rest.items };
+}
+
+/// The place of an edit in a list that ascends.
+fn place_in(edits: &[u32], edit: u32) -> Option<usize>
+    requires { Ascends edits.now }
+    ensures { MatchOption result ((k : ℕ) → k < length edits.now → slice_index edits.now k ≡ edit → ⊥)
+        (λ k. (k < length edits.now) × (slice_index edits.now k ≡ edit)) }
+{
+    edits.binary_search(&edit).ok()
+}
+
+impl EditLine {
+    /// No edit. It takes no memory.
+    pub fn new(alloc: Global) -> EditLine
+        ensures { result ≡ [] }
+    {
+        EditLine {
+            straight: 0,
+            rest: Vec::new(alloc),
+        }
+    }
+
+    pub fn len(&self) -> usize
+        ensures { result ≡ length self.now }
+    {
+        self.straight as usize + self.rest.len()
+    }
+
+    /// The k-th edit.
+    pub fn get(&self, k: u32) -> u32
+        requires { k < length self.now }
+        ensures { result ≡ slice_index self.now k }
+    {
+        if k < self.straight {
+            k
+        } else {
+            self.rest[(k - self.straight) as usize]
+        }
+    }
+
+    /// Cuts off what stands from a place on, and adds an edit there. After want of memory nothing is changed; where the edit goes on
+    /// straight it takes none.
+    pub fn put(&mut self, at: u32, edit: u32) -> Result<(), NoMemory>
+        requires { at < 2 ^ 32 - 1 }
+        ensures ok { OnOk result (self.new ≡ take at self.old ++ edit ∷ []) }
+        ensures unchanged { OnErr result (self.new ≡ self.old) }
+    {
+        if edit == at && at <= self.straight {
+            self.straight = at + 1;
+            self.rest.clear();
+            return Ok(());
+        }
+        self.rest.reserve(1)?;
+        self.rest
+            .truncate(at.saturating_sub(self.straight) as usize);
+        self.straight = self.straight.min(at);
+        let _put = self.rest.push(edit);
+        Ok(())
+    }
+
+    /// The place of an edit among those ahead of `at`, if it is one of them.
+    pub fn place_of(&self, edit: u32, at: u32) -> Option<usize>
+        requires within { at ≤ length self.now }
+        requires ascends { Ascends self.now }
+        ensures { MatchOption result ((k : ℕ) → k < at → slice_index self.now k ≡ edit → ⊥)
+            (λ k. (k < at) × (slice_index self.now k ≡ edit)) }
+    {
+        // An edit below the straight part's end stands at its own number.
+        if edit < self.straight {
+            return if edit < at { Some(edit as usize) } else { None };
+        }
+        let ahead = at.saturating_sub(self.straight) as usize;
+        match place_in(&self.rest.as_slice()[..ahead], edit) {
+            None => None,
+            Some(k) => Some(self.straight as usize + k),
+        }
+    }
+}
