@@ -108,7 +108,7 @@ impl<'a> MoveMarker<'a> {
             n: self.turn.n,
             width: width_on(line, l),
         };
-        mark_by_forms(self.sweep, self.stacks, point, &forms, self.depth)
+        mark_by_forms(self.sweep, self.stacks, point, &forms, self.depth, usize::MAX)
     }
 
     /// The line through the points of a ray, where it has two or more.
