@@ -6,7 +6,6 @@ mod limits;
 mod line;
 mod move_marker;
 mod ray_marker;
-mod sample;
 mod scaled;
 mod sets;
 mod sheet;
