@@ -5,6 +5,7 @@ mod hull;
 mod limits;
 mod line;
 mod move_marker;
+mod narrow;
 mod ray_marker;
 mod scaled;
 mod sets;

@@ -11,6 +11,7 @@ ghost use Rattle.wanted_marks.specs.Starts.{IsStart};
 ghost use Rattle.wanted_marks.specs.Lines.{FitsAt, IsThrough, coefficient_at, height_at, heights_at, width_at};
 ghost use Rattle.wanted_marks.specs.Widths.{IsTurn, quadratic, spread_form};
 
+use crate::narrow::times_narrow;
 use crate::scaled::scaled_way;
 use crate::start::Start;
 use crate::turn::Turn;
@@ -26,7 +27,7 @@ pub fn spread_form(d: &Form2, n: &Form2, u: &Form2, v: &Form2, by: i128) -> Form
     requires by { unsigned_abs by ≤ 8 }
     ensures { result.c ≡ spread_form by d.now.c n.now.c u.now.c v.now.c }
 {
-    scale4(&minus4(&times22(d, n), &times22(u, v)), by)
+    scale4(&minus4(&times22(d, n), &times_narrow(u, v)), by)
 }
 
 /// a + l x, or what is left of it in 128 bits.
