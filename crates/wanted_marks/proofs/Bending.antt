@@ -1,10 +1,10 @@
 -- What the width form of a line bends by from one point of a ray to another is the form of the way between them.
-use Rattle.std.proofs.Common.{◌≡◌, ℕ, zero, suc, ◌*◌, ◌≤◌, [], ◌∷◌, List, ℤ, pos, ◌+ℤ◌, ◌*ℤ◌, ◌-ℤ◌, arith, refl, ap, ap₂, subst, sym, ◌∙◌}
+use Rattle.std.proofs.Common.{◌≡◌, ℕ, ◌≤◌, [], ◌∷◌, List, ℤ, pos, ◌+ℤ◌, ◌*ℤ◌, ◌-ℤ◌, arith, refl, ap, ap₂, subst, sym, ◌∙◌}
 use Rattle.std.specs.List.{All}
 use Rattle.space.specs.Motion.{IsSweep, Motion, axis_at}
 use Rattle.space.specs.Ranges.{IsPoint, IsWithin}
 use Rattle.space.specs.Vectors.{at}
-use Rattle.space.proofs.Solver.{var, num, add, mul, ring}
+use Rattle.space.proofs.Solver.{var, add, mul, ring}
 use Rattle.space.proofs.Terms.{from, sub}
 use Rattle.bern_form.specs.Between.{n_between}
 use Rattle.bern_form.specs.Cells.{dot_on_cell}
@@ -13,7 +13,7 @@ use Rattle.bern_form.specs.Sizes.{axis_limit, offset_limit, scale_limit}
 use Rattle.bern_form.proofs.Sizes.{axis_within, small_as}
 use Rattle.axis_cells.proofs.Bounds.{cross_bounded}
 use Rattle.wanted_marks.specs.declared.line.Line.{Line}
-use Rattle.wanted_marks.specs.Lines.{IsThrough, bend_over, u_step}
+use Rattle.wanted_marks.specs.Lines.{IsThrough, bend_over}
 use Rattle.wanted_marks.specs.Ways.{IsAlong, scaled_vector, scaled_way}
 use Rattle.wanted_marks.specs.Widths.{spread_form}
 use Rattle.wanted_marks.proofs.Fitting.{spread_fits, way_small}

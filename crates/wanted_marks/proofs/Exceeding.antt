@@ -45,5 +45,14 @@ not_at_most a b h = let no = not_from_Decides (int_le a b) (decides_le a b) h in
 pub all_more : (c r : List ℤ) → ((k : ℕ) → k < 5 → int_lt (at r k) (at c k) ≡ true) → all_positive (difference4 c r) ≡ true
 all_more c r h = (decides_positive (difference4 c r)).1 (all_over c r (λ k l. (decides_lt (at r k) (at c k)).0 (h k l)))
 
+one_under : (c r : List ℤ) (i : ℕ) → i < 5 → at c i ≤ℤ at r i → all_positive (difference4 c r) ≡ false
+one_under c r i l h = says_no (AllPositive (difference4 c r)) (all_positive (difference4 c r)) (decides_positive (difference4 c r)) (over_at c r i l h)
+
 pub one_not_more : (c r : List ℤ) (i : ℕ) → i < 5 → int_lt (at r i) (at c i) ≡ false → all_positive (difference4 c r) ≡ false
-one_not_more c r i l h = says_no (AllPositive (difference4 c r)) (all_positive (difference4 c r)) (decides_positive (difference4 c r)) (over_at c r i l (not_less (at r i) (at c i) h))
+one_not_more c r i l h = one_under c r i l (not_less (at r i) (at c i) h)
+
+pub one_at_most : (c r : List ℤ) (i : ℕ) → i < 5 → int_le (at c i) (at r i) ≡ true → all_positive (difference4 c r) ≡ false
+one_at_most c r i l h = one_under c r i l ((decides_le (at c i) (at r i)).0 h)
+
+pub more : (a b : ℤ) → int_le a b ≡ false → int_lt b a ≡ true
+more a b h = (decides_lt b a).1 (not_at_most a b h)

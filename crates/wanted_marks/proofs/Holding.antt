@@ -1,16 +1,15 @@
 -- What an inner slab holds at the last sample is sure.
-use Rattle.std.proofs.Common.{◌≡◌, Bool, true, false, ◌&&◌, get_or, length, ◌<◌, ℕ, ◌+◌, ◌^◌, List, ℤ, pos, ◌*ℤ◌, arith, subst, sym, refl, ap₂, ◌∙◌}
-use Rattle.std.proofs.lemmas.List.Elements.{Contains-get_or}
+use Rattle.std.proofs.Common.{◌≡◌, true, ℕ, ◌+◌, ◌^◌, List, ℤ, pos, ◌*ℤ◌, arith, subst, sym, refl, ap₂, ◌∙◌}
 use Rattle.space.specs.Motion.{Motion, axis_at, offset_at}
 use Rattle.space.specs.Vectors.{at, spread}
 use Rattle.bern_form.specs.Between.{n_between, u_between}
 use Rattle.bern_form.specs.Marks.{held_at_sample, some_holds}
-use Rattle.bern_form.specs.Slab.{SlabSize, covers}
-use Rattle.bern_form.proofs.Decided.{decides_among, found_below}
+use Rattle.bern_form.specs.Slab.{SlabSize}
+use Rattle.bern_form.proofs.Decided.{found_below}
 use Rattle.cutter_slabs.specs.Stacks.{inner_stack}
 use Rattle.cutter_marks.specs.MarkBy.{is_possible_by, is_sure_by}
 use Rattle.wanted_marks.specs.Rays.{IsRemovedBy, MoveOf}
-use Rattle.axis_cells.specs.Exclusion.{covered_by_some}
+use Rattle.box_bisect.specs.SlabTests.{some_covers}
 use Rattle.wanted_marks.specs.Widths.{whole_width}
 
 -- the last coefficients are the values at the last sample
@@ -18,7 +17,7 @@ pub last_width_is : (m : Motion) (p : List ℤ) (S : ℕ) → at (whole_width m 
 last_width_is m p S = refl
 
 held_last : (m : Motion) (p : List ℤ) (S : ℕ) (slabs : List SlabSize)
-    → covered_by_some (pos S) (at (u_between m p 0 S S) 2) (at (n_between m 0 S S) 2) (spread (offset_at m p (pos S) (pos S)) (axis_at m (pos S) (pos S))) slabs ≡ true → held_at_sample slabs m p S ≡ true
+    → some_covers (pos S) (at (u_between m p 0 S S) 2) (at (n_between m 0 S S) 2) (spread (offset_at m p (pos S) (pos S)) (axis_at m (pos S) (pos S))) slabs ≡ true → held_at_sample slabs m p S ≡ true
 held_last m p S slabs held = found_below (λ k. some_holds slabs m p k S) (S + 1) S (omega arith) held
 
 sure_last : (v : MoveOf) (p : List ℤ) (slabs : List SlabSize) → slabs ≡ inner_stack v.cutter v.slabs → held_at_sample slabs v.motion p (2 ^ v.depth) ≡ true → is_sure_by v.cutter v.slabs v.motion p (2 ^ v.depth) ≡ true
@@ -28,27 +27,9 @@ sure_last v p slabs e held = subst (λ l. held_at_sample l v.motion p (2 ^ v.dep
 pub is_removed : (v : MoveOf) (p : List ℤ) (slabs : List SlabSize) (u n : ℤ) → slabs ≡ inner_stack v.cutter v.slabs
     → (is_sure_by v.cutter v.slabs v.motion p (2 ^ v.depth) ≡ true → is_possible_by v.cutter v.slabs v.motion p (2 ^ v.depth) ≡ true)
     → u ≡ at (u_between v.motion p 0 (2 ^ v.depth) (2 ^ v.depth)) 2 → n ≡ at (n_between v.motion 0 (2 ^ v.depth) (2 ^ v.depth)) 2
-    → covered_by_some (pos (2 ^ v.depth)) u n (spread (offset_at v.motion p (pos (2 ^ v.depth)) (pos (2 ^ v.depth))) (axis_at v.motion (pos (2 ^ v.depth)) (pos (2 ^ v.depth)))) slabs ≡ true
+    → some_covers (pos (2 ^ v.depth)) u n (spread (offset_at v.motion p (pos (2 ^ v.depth)) (pos (2 ^ v.depth))) (axis_at v.motion (pos (2 ^ v.depth)) (pos (2 ^ v.depth)))) slabs ≡ true
     → IsRemovedBy v p
 is_removed v p slabs u n e both eu en held =
     let S = 2 ^ v.depth in let w = spread (offset_at v.motion p (pos S) (pos S)) (axis_at v.motion (pos S) (pos S)) in
-    let sure = sure_last v p slabs e (held_last v.motion p S slabs (ap₂ (λ x y. covered_by_some (pos S) x y w slabs) (sym eu) (sym en) ∙ held)) in
+    let sure = sure_last v p slabs e (held_last v.motion p S slabs (ap₂ (λ x y. some_covers (pos S) x y w slabs) (sym eu) (sym en) ∙ held)) in
     record { sure = sure; possible = both sure }
-
--- some slab at a place of the list covers
-pub covered_at : (slabs : List SlabSize) (i : ℕ) (d : SlabSize) (scale u n w : ℤ) → i < length slabs → covers (get_or slabs i d) scale u n w ≡ true → covered_by_some scale u n w slabs ≡ true
-covered_at slabs i d scale u n w l held =
-    (decides_among (λ s. covers s scale u n w) (λ s. covers s scale u n w ≡ true) slabs (λ s. (λ e. e, λ e. e))).1 (get_or slabs i d, Contains-get_or slabs i d l, held)
-
--- of four tests the third says no, or the first three say yes
-pub third_no : (a b c d : Bool) → c ≡ false → false ≡ (a && (b && (c && d)))
-third_no true true true d e = cc
-third_no true true false d e = refl
-third_no true false c d e = refl
-third_no false b c d e = refl
-
-pub fourth : (a b c d : Bool) → a ≡ true → b ≡ true → c ≡ true → d ≡ (a && (b && (c && d)))
-fourth true true true d e f g = refl
-fourth true true false d e f g = cc
-fourth true false c d e f g = cc
-fourth false b c d e f g = cc

@@ -11,3 +11,4 @@ pub mod Dropping
 pub mod Widest
 pub mod OnRays
 pub mod Holding
+pub mod Narrowing

@@ -3,6 +3,7 @@ pub mod Rays
 pub mod Ways
 pub mod Widths
 pub mod Lines
+pub mod Lasts
 pub mod Starts
 pub mod Sheets
 pub mod Limits

@@ -13,10 +13,10 @@ pub fn are_behind(line: &Line, l: u32, m: u32) -> bool
     requires last { FitsAt line.now (pos m) }
     ensures { IsTrue result → (x : ℕ) → l ≤ x → x ≤ m → all_negative (heights_at line.now (pos x)) ≡ true }
 {
-    if !line.is_behind(l) {
+    if !line.is_behind(l, line.last_height(l)) {
         return false;
     }
-    line.is_behind(m)
+    line.is_behind(m, line.last_height(m))
 }
 
 /// Whether a coefficient of the width form is above its limit at all these points. It is quadratic in the number of steps, so on

@@ -11,6 +11,7 @@ ghost use Rattle.wanted_marks.specs.Starts.{IsStart};
 ghost use Rattle.wanted_marks.specs.Lines.{FitsAt, IsThrough, coefficient_at, height_at, heights_at, width_at};
 ghost use Rattle.wanted_marks.specs.Widths.{IsTurn, quadratic, spread_form};
 
+use crate::narrow::times_narrow;
 use crate::scaled::scaled_way;
 use crate::start::Start;
 use crate::turn::Turn;
@@ -26,7 +27,7 @@ pub fn spread_form(d: &Form2, n: &Form2, u: &Form2, v: &Form2, by: i128) -> Form
     requires by { unsigned_abs by ≤ 8 }
     ensures { result.c ≡ spread_form by d.now.c n.now.c u.now.c v.now.c }
 {
-    scale4(&minus4(&times22(d, n), &times22(u, v)), by)
+    scale4(&minus4(&times22(d, n), &times_narrow(u, v)), by)
 }
 
 /// a + l x, or what is left of it in 128 bits.
@@ -117,13 +118,18 @@ impl Line {
         limit < self.width(k, l)
     }
 
-    /// Whether each coefficient at the point l steps on is above its limit. The last one is looked at first, for it is the one that
-    /// most often isn't.
-    pub fn exceed(&self, l: u32, limits: &[i128; 5]) -> bool
-        requires { FitsAt self.now (pos l) }
+    /// Whether each coefficient at the point l steps on is above its limit, where `last` is the last one. That is looked at first, for
+    /// it is the one that most often isn't.
+    #[inline]
+    pub fn exceed(&self, l: u32, last: i128, limits: &[i128; 5]) -> bool
+        requires fits { FitsAt self.now (pos l) }
+        requires last { last ≡ at (width_at self.now (pos l)) 4 }
         ensures { result ≡ all_positive (difference4 (width_at self.now (pos l)) limits.now) }
     {
-        for k in 0..5 {
+        if last <= limits[4] {
+            return false;
+        }
+        for k in 1..5 {
             if !self.is_above(4 - k, l, limits[4 - k]) {
                 return false;
             }
@@ -141,23 +147,24 @@ impl Line {
         wrapped(self.height.c[k], i128::from(l), self.height_step.c[k])
     }
 
-    /// u at the last sample, of the point l steps on.
+    /// u at the last sample, of the point l steps on. It fits 64 bits.
     #[inline]
-    pub fn last_height(&self, l: u32) -> i128
+    pub fn last_height(&self, l: u32) -> i64
         requires { FitsAt self.now (pos l) }
         ensures { result ≡ height_at self.now 2 (pos l) }
     {
-        self.height(2, l)
+        self.height(2, l) as i64
     }
 
-    /// Whether each coefficient of u is below 0 at the point l steps on. The last one is looked at first, for most points of a
-    /// line are ahead of the tip at the last sample or behind it throughout.
+    /// Whether each coefficient of u is below 0 at the point l steps on, where `last` is the last one. That is looked at first, for
+    /// most points of a line are ahead of the tip at the last sample or behind it throughout.
     #[inline]
-    pub fn is_behind(&self, l: u32) -> bool
-        requires { FitsAt self.now (pos l) }
+    pub fn is_behind(&self, l: u32, last: i64) -> bool
+        requires fits { FitsAt self.now (pos l) }
+        requires last { last ≡ height_at self.now 2 (pos l) }
         ensures { result ≡ all_negative (heights_at self.now (pos l)) }
     {
-        if 0 <= self.last_height(l) {
+        if 0 <= last {
             return false;
         }
         if 0 <= self.height(0, l) {

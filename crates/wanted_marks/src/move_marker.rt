@@ -2,7 +2,6 @@ use crate::hull::{are_behind, are_beside};
 use crate::limits::{greatest_diameter, limits_of};
 use crate::line::Line;
 use crate::ray_marker::RayMarker;
-use crate::sample::is_covered_by_some;
 use crate::sheet::{Sheet, heights_on, width_on};
 use crate::strip_marker::StripMarker;
 use crate::turn::Turn;
@@ -11,7 +10,7 @@ use box_bisect::mark_point_uncounted;
 use cutter_slabs::Stacks;
 use ray_grid::{Family, Grid, Ray};
 use std::marker::Model;
-use width_bisect::{WholeForms, mark_by_forms};
+use width_bisect::{Sample, WholeForms, mark_by_forms};
 
 /// A move of a cutter, ready to mark points of rays. It keeps what is the same for all of them: how the axis turns, and the
 /// limits beyond which a point is beside every outer slab throughout the move.
@@ -44,7 +43,9 @@ impl<'a> MoveMarker<'a> {
     ghost use Rattle.ray_grid.specs.Families.{first_axis};
     ghost use Rattle.ray_grid.specs.Lattice.{IsRay, nodes_of};
     ghost use Rattle.bern_form.specs.Forms.{IsSmall};
-    ghost use Rattle.wanted_marks.specs.Lines.{FitsAt, HasFormsIn, IsLineOf, bend_over};
+    ghost use Rattle.space.specs.Vectors.{at};
+    ghost use Rattle.wanted_marks.specs.Lasts.{IsLastOf};
+    ghost use Rattle.wanted_marks.specs.Lines.{FitsAt, HasFormsIn, IsLineOf, bend_over, height_at, width_at};
     ghost use Rattle.wanted_marks.specs.Rays.{IsClearOf, IsRemovedBy, is_possible_in, is_sure_in, move_of};
     ghost use Rattle.wanted_marks.specs.Strips.{IsSheetOf};
     ghost use Rattle.wanted_marks.specs.Told.{tells_possible, tells_sure};
@@ -95,8 +96,9 @@ impl<'a> MoveMarker<'a> {
         mark_point_uncounted(self.sweep, self.stacks, point, self.depth)
     }
 
-    /// The mark of the point l steps on along a line, by the forms that the line has there.
-    pub(crate) fn mark_on(&self, line: &Line, l: u32, point: [i32; 3]) -> Mark
+    /// The mark of the point l steps on along a line, by the forms that the line has there. `near` is the number of a slab to look
+    /// from.
+    pub(crate) fn mark_on(&self, line: &Line, l: u32, point: [i32; 3], near: usize) -> Mark
         requires point { IsPoint point }
         requires fits { FitsAt line.now (pos l) }
         requires forms { HasFormsIn line.now (pos l) self.now point }
@@ -108,7 +110,7 @@ impl<'a> MoveMarker<'a> {
             n: self.turn.n,
             width: width_on(line, l),
         };
-        mark_by_forms(self.sweep, self.stacks, point, &forms, self.depth)
+        mark_by_forms(self.sweep, self.stacks, point, &forms, self.depth, near)
     }
 
     /// The line through the points of a ray, where it has two or more.
@@ -162,18 +164,36 @@ impl<'a> MoveMarker<'a> {
         Some(sheet.line(ray.j))
     }
 
-    /// Whether the point l steps on is behind the tip throughout the move, or beside every outer slab. It is then neither sure nor
-    /// possible.
+    /// The last sample of the point l steps on.
     #[inline]
-    pub(crate) fn is_apart(&self, line: &Line, l: u32) -> bool
+    pub(crate) fn last_sample(&self, line: &Line, l: u32) -> Sample
         requires { FitsAt line.now (pos l) }
+        ensures u { result.u ≡ height_at line.now 2 (pos l) }
+        ensures width { result.width ≡ at (width_at line.now (pos l)) 4 }
+        ensures last { (p : List ℤ) → HasFormsIn line.now (pos l) self.now p → IsLastOf result self.now p }
+    {
+        Sample {
+            scale: self.scale,
+            u: line.last_height(l),
+            n: self.turn.last_square(),
+            width: line.last_width(l),
+        }
+    }
+
+    /// Whether the point l steps on is behind the tip throughout the move, or beside every outer slab, by its last sample first. It is
+    /// then neither sure nor possible.
+    #[inline]
+    pub(crate) fn is_apart(&self, line: &Line, l: u32, last: &Sample) -> bool
+        requires fits { FitsAt line.now (pos l) }
+        requires u { last.now.u ≡ height_at line.now 2 (pos l) }
+        requires width { last.now.width ≡ at (width_at line.now (pos l)) 4 }
         ensures { IsTrue result → (p : List ℤ) → HasFormsIn line.now (pos l) self.now p → IsClearOf self.now p }
     {
         let limits = &self.limits;
-        if line.is_behind(l) {
+        if line.is_behind(l, last.u) {
             return true;
         }
-        line.exceed(l, limits)
+        line.exceed(l, last.width, limits)
     }
 
     /// Whether the points from the one l steps on to the one m steps on are all behind the tip throughout the move, or all beside
@@ -194,18 +214,18 @@ impl<'a> MoveMarker<'a> {
         are_beside(line, l, m, limits)
     }
 
-    /// Whether some inner slab holds the point l steps on at the last sample. It is then sure.
+    /// Whether some inner slab holds a point at its last sample. It is then sure. The slab at its height is looked for from the number
+    /// `near` on, in whose place comes that of the one found.
     #[inline]
-    pub(crate) fn is_held_last(&self, line: &Line, l: u32) -> bool
-        requires { FitsAt line.now (pos l) }
-        ensures { IsTrue result → (p : List ℤ) → HasFormsIn line.now (pos l) self.now p → IsRemovedBy self.now p }
+    pub(crate) fn is_held_last(&self, last: &Sample, near: &mut usize) -> bool
+        ensures { IsTrue result → (p : List ℤ) → IsLastOf last.now self.now p → IsRemovedBy self.now p }
     {
-        is_covered_by_some(
-            self.stacks.inner(),
-            self.scale,
-            line.last_height(l),
-            self.turn.n.c[2],
-            line.last_width(l),
-        )
+        if last.u < 0 {
+            return false;
+        }
+        let inner = self.stacks.inner();
+        let reached = last.reached(inner, *near);
+        *near = reached;
+        last.holds(inner, reached)
     }
 }

@@ -32,7 +32,7 @@ impl<'a> RayMarker<'a> {
     ghost use Rattle.ray_grid.specs.Lattice.{IsRay, point_of, points_of};
     ghost use Rattle.vf_spans.specs.Words.{has_bit};
     ghost use Rattle.wanted_marks.specs.Lines.{IsLineOf};
-    ghost use Rattle.wanted_marks.specs.Rays.{AreOnRay, IsClearOf, IsRemovedBy};
+    ghost use Rattle.wanted_marks.specs.Rays.{AreOnRay, IsClearOf};
     ghost use Rattle.wanted_marks.specs.Rays.{is_possible_at, is_possible_bit, is_sure_at, is_sure_bit, is_told_bit};
     ghost use Rattle.wanted_marks.specs.Told.{tells_possible, tells_sure};
 
@@ -61,19 +61,6 @@ impl<'a> RayMarker<'a> {
             grid,
             ray,
             line,
-        }
-    }
-
-    /// Whether the point at an index is behind the tip throughout the move, or beside every outer slab. It is then neither sure
-    /// nor possible.
-    #[inline]
-    fn is_apart(&self, l: u32) -> bool
-        requires { l < points_of self.now.grid self.now.ray.family }
-        ensures { IsTrue result → IsClearOf self.now.sweep (point_of self.now.grid self.now.ray l) }
-    {
-        match &self.line {
-            None => false,
-            Some(line) => self.mover.is_apart(line, l),
         }
     }
 
@@ -106,34 +93,34 @@ impl<'a> RayMarker<'a> {
         self.are_apart(first + lowest_bit(bits), first + highest_bit(bits))
     }
 
-    /// Whether some inner slab holds the point at an index at the last sample. It is then sure.
-    #[inline]
-    fn is_held_last(&self, l: u32) -> bool
-        requires { l < points_of self.now.grid self.now.ray.family }
-        ensures { IsTrue result → IsRemovedBy self.now.sweep (point_of self.now.grid self.now.ray l) }
+    /// The mark of the point at an index, by the line through the points. `near` is the number of the slab to look from, in whose place
+    /// comes that of the slab at the point's height, where it is looked for.
+    fn mark_along(&self, line: &Line, l: u32, near: &mut usize) -> Mark
+        requires within { l < points_of self.now.grid self.now.ray.family }
+        requires line { IsLineOf line.now self.now }
+        ensures sure { tells_sure result ≡ is_sure_at self.now l }
+        ensures possible { tells_possible result ≡ is_possible_at self.now l }
     {
-        match &self.line {
-            None => false,
-            Some(line) => self.mover.is_held_last(line, l),
+        let last = self.mover.last_sample(line, l);
+        if self.mover.is_apart(line, l, &last) {
+            return Mark::Clear;
         }
+        if self.mover.is_held_last(&last, near) {
+            return Mark::Removed;
+        }
+        let point = self.grid.point(&self.ray, l);
+        self.mover.mark_on(line, l, point, *near)
     }
 
     /// The mark of the point at an index.
-    fn mark_at(&self, l: u32) -> Mark
+    fn mark_at(&self, l: u32, near: &mut usize) -> Mark
         requires { l < points_of self.now.grid self.now.ray.family }
         ensures sure { tells_sure result ≡ is_sure_at self.now l }
         ensures possible { tells_possible result ≡ is_possible_at self.now l }
     {
-        if self.is_apart(l) {
-            return Mark::Clear;
-        }
-        if self.is_held_last(l) {
-            return Mark::Removed;
-        }
-        let point = self.grid.point(&self.ray, l);
         match &self.line {
-            None => self.mover.mark_point(point),
-            Some(line) => self.mover.mark_on(line, l, point),
+            None => self.mover.mark_point(self.grid.point(&self.ray, l)),
+            Some(line) => self.mark_along(line, l, near),
         }
     }
 
@@ -149,10 +136,12 @@ impl<'a> RayMarker<'a> {
             sure: 0,
             possible: 0,
         };
+        // Points beside each other mostly reach the same slab. The first one looks from the last slab down, the tallest of most stacks.
+        let mut near = usize::MAX;
         let mut rest = wanted;
         while rest != 0 {
             let b = lowest_bit(rest);
-            marks = marks.with_mark(b, self.mark_at(first + b));
+            marks = marks.with_mark(b, self.mark_at(first + b, &mut near));
             rest = without_bit(rest, b);
         }
         marks

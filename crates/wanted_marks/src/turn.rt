@@ -1,5 +1,6 @@
 ghost use Rattle.std.specs.Prelude.{◌≡◌, ◌*◌, ◌≤◌};
 ghost use Rattle.space.specs.Ranges.{IsWithin};
+ghost use Rattle.space.specs.Vectors.{at};
 ghost use Rattle.bern_form.specs.Sizes.{IsBounded2, axis_limit, scale_limit};
 ghost use Rattle.wanted_marks.specs.Widths.{IsTurn};
 
@@ -27,5 +28,13 @@ impl Turn {
         let last = scaled_axis(scale, &sweep.axis_to);
         let n = scalar_product_on_cell(&first, &last, &first, &last);
         Turn { first, last, n }
+    }
+
+    /// n at the last sample. It fits 64 bits.
+    #[inline]
+    pub fn last_square(&self) -> i64
+        ensures { result ≡ at self.now.n.c 2 }
+    {
+        self.n.c[2] as i64
     }
 }

@@ -16,3 +16,4 @@ mod whole;
 pub use forms::WholeForms;
 pub use length::{product, scaled_square};
 pub use point::mark_by_forms;
+pub use sample::Sample;

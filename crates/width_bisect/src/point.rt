@@ -19,6 +19,7 @@ fn mark_ahead(
     point: [i32; 3],
     forms: &WholeForms,
     depth: u32,
+    near: usize,
 ) -> Mark
     requires point { IsPoint point }
     requires depth { depth ≤ 10 }
@@ -36,7 +37,7 @@ fn mark_ahead(
     }
     let inner = stacks.inner();
     let outer = stacks.outer();
-    let reached = reached_on_whole(&whole, &lists, outer);
+    let reached = reached_on_whole(&whole, &lists, outer, near);
     if !lists.leaves_some(outer, reached, &whole.width) {
         return Mark::Clear;
     }
@@ -49,13 +50,15 @@ fn mark_ahead(
 
 /// The mark of a point by the stacks and the reach of a cutter, at the samples and on the cells of a depth, from its forms on the
 /// whole move: that of `mark_point_uncounted`, with less work. A point that is behind the tip throughout, as most are that stand
-/// below a tool's way, costs next to nothing.
+/// below a tool's way, costs next to nothing. `near` is the number from which the slab at the point's height is looked for: any is
+/// right, best that of a point beside it.
 pub fn mark_by_forms(
     sweep: &Sweep,
     stacks: &Stacks,
     point: [i32; 3],
     forms: &WholeForms,
     depth: u32,
+    near: usize,
 ) -> Mark
     requires point { IsPoint point }
     requires depth { depth ≤ 10 }
@@ -65,5 +68,5 @@ pub fn mark_by_forms(
     if forms.u.all_negative() {
         return Mark::Clear;
     }
-    mark_ahead(sweep, stacks, point, forms, depth)
+    mark_ahead(sweep, stacks, point, forms, depth, near)
 }

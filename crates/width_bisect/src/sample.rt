@@ -1,9 +1,9 @@
-ghost use Rattle.std.specs.Prelude.{◌≡◌, ◌≤◌, ◌&&◌, ◌*ℤ◌, ℤ, pos, int_le, unsigned_abs};
+ghost use Rattle.std.specs.Prelude.{◌≡◌, ◌≤◌, ◌&&◌, ◌*ℤ◌, ◌≤ℤ◌, ℤ, pos, int_le, unsigned_abs};
 ghost use Rattle.space.specs.Vectors.{at};
 ghost use Rattle.bern_form.specs.Cells.{scaled_square};
 ghost use Rattle.bern_form.specs.Sizes.{scale_limit};
 ghost use Rattle.cutter_slabs.specs.Rising.{IsRising};
-ghost use Rattle.box_bisect.specs.SlabTests.{is_reached, some_covers};
+ghost use Rattle.box_bisect.specs.SlabTests.{TurnsAt, is_reached, some_covers};
 
 use crate::length::{product, scaled_square};
 use crate::stretch::Stretch;
@@ -110,8 +110,31 @@ impl Sample {
         self.is_under_top(slab)
     }
 
-    /// Whether some of the slabs holds the point at this sample. The highest that it reaches decides, which is looked for from any
-    /// number on, best from one near it.
+    /// The number of the slab above the highest that the point reaches. It is looked for from any number on, best from one near it.
+    #[inline]
+    pub fn reached(&self, slabs: &[Slab], near: usize) -> usize
+        ensures { let at = self.now in TurnsAt (is_reached (pos at.scale) at.u at.n) slabs.now result }
+    {
+        walk_up(self, slabs, walk_down(self, slabs, near.min(slabs.len())))
+    }
+
+    /// Whether some of the slabs holds the point that is ahead of the tip: the highest that it reaches decides.
+    #[inline]
+    pub fn holds(&self, slabs: &[Slab], reached: usize) -> bool
+        requires ahead { pos 0 ≤ℤ self.now.u }
+        requires rising { IsRising slabs.now }
+        requires reached { let at = self.now in TurnsAt (is_reached (pos at.scale) at.u at.n) slabs.now reached }
+        ensures { (w : ℤ) → self.now.width ≡ pos 4 *ℤ w
+            → result ≡ some_covers (pos self.now.scale) self.now.u self.now.n w slabs.now }
+    {
+        if reached == 0 {
+            return false;
+        }
+        self.is_within(&slabs[reached - 1])
+    }
+
+    /// Whether some of the slabs holds the point at this sample. The highest that it reaches is looked for from any number on, best
+    /// from one near it.
     #[inline]
     pub fn is_held(&self, slabs: &[Slab], near: usize) -> bool
         requires { IsRising slabs.now }
@@ -121,10 +144,6 @@ impl Sample {
         if self.u < 0 {
             return false;
         }
-        let reached = walk_up(self, slabs, walk_down(self, slabs, near.min(slabs.len())));
-        if reached == 0 {
-            return false;
-        }
-        self.is_within(&slabs[reached - 1])
+        self.holds(slabs, self.reached(slabs, near))
     }
 }

@@ -1,6 +1,6 @@
 ghost use Rattle.std.specs.Prelude.{◌≡◌, ◌≤◌, Bool, length};
 ghost use Rattle.bern_form.specs.Slab.{SlabSize};
-ghost use Rattle.box_bisect.specs.SlabTests.{TurnsAt, TurnsBetween};
+ghost use Rattle.box_bisect.specs.SlabTests.{TurnsAt};
 ghost use Rattle.width_bisect.specs.Turns.{IsReachedBefore, StopsAt};
 
 use bern_form::Slab;
@@ -12,24 +12,6 @@ pub trait Reaches {
     /// Whether it reaches the slab.
     fn reaches(&self, slab: &Slab) -> bool
         ensures { result ≡ reached self.now slab.now };
-}
-
-/// Where the test turns from the lower slabs to the higher ones, by halving what is between two numbers.
-#[inline]
-pub fn turn<T: Reaches>(test: &T, slabs: &[Slab]) -> usize
-    ensures { TurnsAt (T.reached test.now) slabs.now result }
-{
-    let mut low = 0;
-    let mut high = slabs.len();
-    while low < high {
-        let middle = low + (high - low) / 2;
-        if test.reaches(&slabs[middle]) {
-            low = middle + 1;
-        } else {
-            high = middle;
-        }
-    }
-    low
 }
 
 /// From a number downwards to the next slab that passes the test.

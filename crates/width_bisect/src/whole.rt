@@ -12,20 +12,20 @@ use crate::lists::Lists;
 use crate::sample::Sample;
 use crate::search::mark_between;
 use crate::stretch::Stretch;
-use crate::turn::{turn, walk_up};
+use crate::turn::walk_up;
 use axis_cells::Mark;
 use bern_form::Slab;
 
 /// The number of the slab above the highest that the point isn't below throughout the move. It is looked for at the last sample,
-/// which costs one product a slab, and from there upwards.
+/// which costs one product a slab, from any number on, and from there upwards.
 #[inline]
-pub fn reached_on_whole(whole: &Stretch, lists: &Lists, slabs: &[Slab]) -> usize
+pub fn reached_on_whole(whole: &Stretch, lists: &Lists, slabs: &[Slab], near: usize) -> usize
     requires raised { lists.now.raised ≡ lifted whole.now.n }
     requires height { lists.now.height ≡ product22 whole.now.u whole.now.u }
     ensures { let l = lists.now in TurnsAt (λ s. not (is_below_by l.scale l.raised l.height s)) slabs.now result }
 {
     let last = Sample::last_of(whole, lists.scale);
-    walk_up(lists, slabs, turn(&last, slabs))
+    walk_up(lists, slabs, last.reached(slabs, near))
 }
 
 /// The mark of the point whose forms these are on a whole move of 2^`depth` cells: both ends are tried, and then what is between

@@ -1,4 +1,4 @@
-use Rattle.std.proofs.Common.{◌≡◌, ◌≢◌, ℕ, ◌-◌, pos, ◌*ℤ◌, int_lt, true, FitsSigned, arith, rules, ◌<◌, ap, subst, sym, ⊎_elim, ◌∙◌}
+use Rattle.std.proofs.Common.{◌≡◌, ◌≢◌, ◌-◌, pos, ◌*ℤ◌, int_lt, true, FitsSigned, arith, rules, ◌<◌, ap, subst, sym, ⊎_elim, ◌∙◌}
 use Rattle.std.proofs.lemmas.Bool.{cases_eq}
 use Rattle.std.proofs.lemmas.Int.{to_z-of_z}
 use mir.Syntax.{w128}

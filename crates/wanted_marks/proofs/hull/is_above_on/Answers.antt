@@ -1,4 +1,4 @@
-use Rattle.std.proofs.Common.{◌≡◌, ℤ, pos, ◌-◌, ◌*◌, ◌+ℤ◌, ◌*ℤ◌, ◌-ℤ◌, FitsSigned, arith, rules, subst, sym, ap}
+use Rattle.std.proofs.Common.{◌≡◌, pos, ◌-◌, ◌+ℤ◌, ◌*ℤ◌, ◌-ℤ◌, FitsSigned, arith, rules, subst, sym, ap}
 use Rattle.std.proofs.lemmas.Int.{fits_signed_from_abs, to_z-of_z}
 use mir.Syntax.{w128}
 use Rattle.space.specs.Vectors.{at}

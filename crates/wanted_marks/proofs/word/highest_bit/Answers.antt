@@ -1,4 +1,4 @@
-use Rattle.std.proofs.Common.{arith, subst, rules}
+use Rattle.std.proofs.Common.{rules}
 use Rattle.wanted_marks.proofs.BitLemmas.{has_bit-highest_set}
 use Rattle.wanted_marks.proofs.word.highest_bit.Goals as goal
 

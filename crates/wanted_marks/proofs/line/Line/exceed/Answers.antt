@@ -1,16 +1,16 @@
-use Rattle.std.proofs.Common.{◌≡◌, ◌≢◌, ◌-◌, ◌<◌, pos, int_lt, true, FitsSigned, arith, rules, subst, sym, ap, ⊎_elim, ◌∙◌}
+use Rattle.std.proofs.Common.{◌≡◌, ◌≢◌, ◌-◌, ◌<◌, pos, int_le, int_lt, true, FitsSigned, arith, rules, subst, sym, ap, ⊎_elim, ◌∙◌}
 use Rattle.std.proofs.lemmas.Bool.{cases_eq}
 use Rattle.std.proofs.lemmas.Int.{to_z-of_z}
 use mir.Syntax.{w128}
 use Rattle.space.specs.Vectors.{at}
 use Rattle.wanted_marks.specs.Lines.{coefficient_at}
 use Rattle.wanted_marks.specs.Widths.{quadratics}
-use Rattle.wanted_marks.proofs.Exceeding.{all_more, one_not_more}
+use Rattle.wanted_marks.proofs.Exceeding.{all_more, more, one_at_most, one_not_more}
 use Rattle.wanted_marks.proofs.Fitting.{at_quadratics, small_at}
 use Rattle.wanted_marks.proofs.line.Line.exceed.Goals as goal
 
 pub is_above-requires-clause-small : goal.is_above-requires-clause-small
-is_above-requires-clause-small c = let s = c.args.self.now in small_at s.constant.c s.first.c s.second.c (pos c.args.l) (4 - c.loop-k.k) (omega arith) c.requires.width
+is_above-requires-clause-small c = let s = c.args.self.now in small_at s.constant.c s.first.c s.second.c (pos c.args.l) (4 - c.loop-k.k) (omega arith) c.requires.fits.width
 
 pub returns-then-not-is_above : goal.returns-then-not-is_above
 returns-then-not-is_above c =
@@ -19,6 +19,22 @@ returns-then-not-is_above c =
     let limit : FitsSigned w128 (at c.args.limits.now k) = search rules in
     let here = sym (simp to_z-of_z at c.is_above.ensures) ∙ c.if-not-is_above.true in
     sym (one_not_more (quadratics s.constant.c s.first.c s.second.c l) c.args.limits.now k below (ap (int_lt (at c.args.limits.now k)) (at_quadratics s.constant.c s.first.c s.second.c l k below) ∙ here))
+
+pub returns-then-last-limits : goal.returns-then-last-limits
+returns-then-last-limits c =
+    let s = c.args.self.now in let l = pos c.args.l in
+    let limit : FitsSigned w128 (at c.args.limits.now 4) = search rules in
+    let last = c.ranges.last in
+    sym (one_at_most (quadratics s.constant.c s.first.c s.second.c l) c.args.limits.now 4 (omega arith) (ap (λ z. int_le z (at c.args.limits.now 4)) (sym c.requires.last) ∙ (simp to_z-of_z at c.if-last-limits.true)))
+
+pub loop-k-init : goal.loop-k-init
+loop-k-init c = λ i below done.
+    let s = c.args.self.now in
+    let limit : FitsSigned w128 (at c.args.limits.now 4) = search rules in
+    let last = c.ranges.last in
+    let e : 4 ≡ i = omega (arith, below, done) in
+    let here = ap (λ z. int_le z (at c.args.limits.now 4)) (sym c.requires.last) ∙ (simp to_z-of_z at c.if-last-limits.false) in
+    subst (λ j. int_lt (at c.args.limits.now j) (coefficient_at s j (pos c.args.l)) ≡ true) e (more (coefficient_at s 4 (pos c.args.l)) (at c.args.limits.now 4) here)
 
 pub loop-k-preserved : goal.loop-k-preserved
 loop-k-preserved c = λ i below done.

@@ -1,6 +1,5 @@
-use Rattle.std.proofs.Common.{◌+◌, ◌≤◌, arith, ap, subst, sym, ◌∙◌}
+use Rattle.std.proofs.Common.{◌+◌, arith, ap, ◌∙◌}
 use Rattle.vf_spans.specs.Words.{has_bit}
-use Rattle.wanted_marks.specs.Rays.{IsRayOf}
 use Rattle.vf_spans.proofs.WordBits.{has_bit-zero}
 use Rattle.wanted_marks.proofs.BitLemmas.{at_least, at_most}
 use Rattle.wanted_marks.proofs.ray_marker.RayMarker.are_bits_apart.Goals as goal

@@ -1,4 +1,4 @@
-use Rattle.std.proofs.Common.{◌*◌, refl, subst, sym}
+use Rattle.std.proofs.Common.{◌*◌, subst, sym}
 use Rattle.space.specs.Motion.{Motion}
 use Rattle.bern_form.specs.Sizes.{IsBounded2, axis_limit, offset_limit}
 use Rattle.axis_cells.proofs.Bounds.{cross_bounded}

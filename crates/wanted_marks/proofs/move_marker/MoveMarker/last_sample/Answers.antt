@@ -1,0 +1,21 @@
+use Rattle.std.proofs.Common.{FitsSigned, rules, ap, subst, ◌∙◌}
+use Rattle.std.proofs.lemmas.Int.{to_z-of_z}
+use mir.Syntax.{w64, w128}
+use Rattle.space.specs.Vectors.{at}
+use Rattle.bern_form.specs.Between.{n_between}
+use Rattle.wanted_marks.specs.Ready.{IsReadyMove}
+use Rattle.wanted_marks.proofs.move_marker.MoveMarker.last_sample.Goals as goal
+
+pub returns-clause-last : goal.returns-clause-last
+returns-clause-last c = λ p forms.
+    let s = c.self.inside in let v = c.args.self.now in
+    let ready = subst (IsReadyMove s.scale s.turn.first s.turn.last s.turn.n.c s.limits) c.self.view_is c.self.invariant in
+    let f0 : FitsSigned w64 c.last_height.result = search rules in
+    let f1 : FitsSigned w64 c.last_square.result = search rules in
+    let f2 : FitsSigned w128 c.last_width.result = search rules in
+    record {
+      scale_is = ready.scale_is;
+      u_is = to_z-of_z w64 c.last_height.result f0 ∙ c.last_height.ensures ∙ ap (λ l. at l 2) forms.height;
+      n_is = to_z-of_z w64 c.last_square.result f1 ∙ c.last_square.ensures ∙ ap (λ l. at l 2) ready.turn.n_is ∙ ap (λ k. at (n_between v.motion 0 k k) 2) ready.scale_is;
+      width_is = to_z-of_z w128 c.last_width.result f2 ∙ c.last_width.ensures ∙ ap (λ l. at l 4) forms.width;
+    }
