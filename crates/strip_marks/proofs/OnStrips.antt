@@ -10,7 +10,7 @@ use Rattle.ray_grid.specs.declared.ray.Family.{Family}
 use Rattle.ray_grid.specs.declared.ray.Family.TheVariants.{X, Y, Z}
 use Rattle.ray_grid.specs.declared.ray.Ray.{Ray}
 use Rattle.ray_grid.specs.Families.{first_axis, second_axis}
-use Rattle.ray_grid.specs.Lattice.{IsRay, nodes_of, point_of, points_of}
+use Rattle.ray_grid.specs.Lattice.{IsRay, nodes_of}
 use Rattle.ray_grid.specs.Points.{LatticePoint}
 use Rattle.ray_grid.specs.Strips.{strip_at, strip_of, strips_of}
 use Rattle.ray_grid.proofs.Rows.{length-strip, length-strips, only_place, ray_in, row_x, row_y, row_z, strip_there}
@@ -73,9 +73,6 @@ on_grid grid strip n lt within =
     subst (λ (ray : Ray). IsRay grid ray) (sym (ray_is grid strip n row.family row.i row.rays within))
     (record { first = row.first; second = nodes_enough grid strip n row.family row.i row.rays within })
 
-pub ray_there : (grid : GridSize) (strip n : ℕ) (ray : Ray) → slice_get (strip_at grid strip) n ≡ Some ray → ray_of grid strip n ≡ ray
-ray_there grid strip n ray e = get_or_from_slice_get (strip_at grid strip) n ray (record { family = X; i = 0; j = 0 }) e
-
 pub ray_stands : (grid : GridSize) (strip n : ℕ) → n < length (strip_at grid strip)
     → slice_get (strip_at grid strip) n ≡ Some (ray_of grid strip n)
 ray_stands grid strip n lt = slice_get-get_or (strip_at grid strip) n (record { family = X; i = 0; j = 0 }) lt
@@ -129,30 +126,17 @@ pub node_within : (plan : PlanOf) (number strip n : ℕ) (s : StripOf) → IsMar
 node_within plan number strip n s h lt =
     subst (λ (g : GridSize). n < nodes_of g (second_axis s.family)) (sym h.grid) (nodes_enough plan.grid strip n s.family s.i h.rays lt)
 
--- outside its window on the ray the move is possible at no point
-window_of : (plan : PlanOf) (number : ℕ) (move : JobMove) (strip n lo hi : ℕ) (ray : Ray) → IsPlan plan → HasNumber plan number move
-    → slice_get (strip_at plan.grid strip) n ≡ Some ray → IsRay plan.grid ray → lo ≤ hi → hi ≤ points_of plan.grid ray.family
-    → HoldsPossible plan move ray lo hi
+-- outside its window on ray n the move is possible at no point
+pub window_on : (plan : PlanOf) (number : ℕ) (move : JobMove) (strip n lo hi : ℕ) → IsPlan plan → HasNumber plan number move
+    → strip < length (strips_of plan.grid) → n < length (strip_at plan.grid strip) → lo ≤ hi → hi ≤ points_at plan.grid strip n
+    → HoldsPossible plan move (ray_of plan.grid strip n) lo hi
     → IsWindow (move_on plan move strip n) lo hi
-window_of plan number move strip n lo hi ray valid has there on order within holds =
-    let same = ray_there plan.grid strip n ray there in
-    subst (λ (x : Ray). IsWindow (record { sweep = move_in plan move; grid = plan.grid; ray = x }) lo hi) (sym same)
-    (record {
-      order = order;
-      within = within;
-      holds = λ l lt t. holds l record { on_grid = on; index = lt; possible = t };
-      both = λ l t. both_there plan number move record { ray = ray; l = l; position = point_of plan.grid ray l } valid has t;
-    })
-
--- the same where the ray is told by a grid that is the plan's
-pub window_on : (plan : PlanOf) (number : ℕ) (move : JobMove) (strip n lo hi : ℕ) (ray : Ray) (grid : GridSize) → grid ≡ plan.grid
-    → IsPlan plan → HasNumber plan number move
-    → slice_get (strip_at grid strip) n ≡ Some ray → IsRay grid ray → lo ≤ hi → hi ≤ points_of plan.grid ray.family
-    → HoldsPossible plan move ray lo hi
-    → IsWindow (move_on plan move strip n) lo hi
-window_on plan number move strip n lo hi ray grid e valid has there on order within holds =
-    window_of plan number move strip n lo hi ray valid has (subst (λ (g : GridSize). slice_get (strip_at g strip) n ≡ Some ray) e there)
-    (subst (λ (g : GridSize). IsRay g ray) e on) order within holds
+window_on plan number move strip n lo hi valid has within lt order below holds = record {
+  order = order;
+  within = below;
+  holds = λ l less t. holds l record { on_grid = on_grid plan.grid strip n within lt; index = less; possible = t };
+  both = λ l t. both_there plan number move (point_at plan.grid strip n l) valid has t;
+}
 
 -- with an empty window, it is possible at none
 pub nowhere_on : (plan : PlanOf) (number : ℕ) (move : JobMove) (strip n lo hi l : ℕ) → IsWindow (move_on plan move strip n) lo hi

@@ -1,8 +1,10 @@
 -- What a move changes on neighbouring rays of a strip, and what it finds there.
 use Rattle.std.specs.Prelude.{◌≡◌, ℕ, ◌-◌, ◌<◌, ◌≤◌, true, not, ◌&&◌, List, map, All}
 use Rattle.std.specs.List.{range_with_len}
+use Rattle.std.specs.Option.{IfSome}
 use Rattle.vf_spans.specs.Members.{has}
 use Rattle.ray_grid.specs.Grids.{GridSize}
+use Rattle.ray_grid.specs.declared.ray.Family.{Family}
 use Rattle.ray_grid.specs.Strips.{strip_at, strip_of}
 use Rattle.job_facts.specs.declared.counts.Counts.{Counts}
 use Rattle.dexel_rays.specs.Sets.{HaveBound, Sets}
@@ -11,7 +13,9 @@ use Rattle.wanted_marks.specs.Strips.{StripOf}
 use Rattle.job_model.specs.Sums.{sum_counts}
 use Rattle.job_model.specs.Tasks.{JobMove, PlanOf}
 use Rattle.strip_plan.specs.Plans.{HasNumber, move_in}
+use Rattle.strip_plan.specs.Windows.{IsCommonWindow}
 use Rattle.strip_marks.specs.declared.change.WordChange.{WordChange}
+use Rattle.strip_marks.specs.declared.shared.Shared.{Shared}
 use Rattle.strip_marks.specs.Marks.{AreInOrder, IsChangeOn, among, points_at, possible_of, possible_there, ray_found, sets_of, sure_of, sure_there}
 
 -- the sets are those of ray n of the strip, and no point is sure that isn't possible
@@ -24,6 +28,11 @@ pub record IsMarkerOf (plan : PlanOf) (number strip : ℕ) (s : StripOf) : Type 
   pub grid : s.grid ≡ plan.grid
   pub rays : strip_at plan.grid strip ≡ strip_of plan.grid s.family s.i
   pub sweep : (move : JobMove) → HasNumber plan number move → s.sweep ≡ move_in plan move
+
+-- what the plan's move with a number has on all rays of a family: its window, where one is told, and whether it is in rapid motion
+pub record IsShared (plan : PlanOf) (number : ℕ) (family : Family) (shared : Shared) : Type 0 where
+  pub window : IfSome shared.window (IsCommonWindow plan number family)
+  pub rapid : (move : JobMove) → HasNumber plan number move → shared.rapid ≡ move.rapid
 
 -- a change on one of the rays from the one number on and below the other
 pub record IsChangeFrom (rays : List KeptSets) (lo hi : ℕ) (change : WordChange) : Type 0 where

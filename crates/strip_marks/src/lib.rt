@@ -4,6 +4,7 @@
 mod change;
 mod marked;
 mod ray;
+mod shared;
 mod strip;
 mod word;
 

@@ -4,10 +4,11 @@ ghost use Rattle.job_model.specs.Tasks.{IsPlan, JobMove};
 ghost use Rattle.strip_plan.specs.Plans.{HasNumber};
 ghost use Rattle.strip_marks.specs.Marks.{AreRays, HaveSameSets, IsMarkedStrip, possible_there, sure_there};
 ghost use Rattle.strip_marks.specs.RayMarks.{Adds, CanCount, HasSameSets, IsRayMarked};
-ghost use Rattle.strip_marks.specs.RowMarks.{AreRaysMarked, AreSetsAt, IsMarkerOf};
+ghost use Rattle.strip_marks.specs.RowMarks.{AreRaysMarked, AreSetsAt, IsMarkerOf, IsShared};
 
 use crate::marked::Marked;
 use crate::ray::{first_wanted, mark_ray};
+use crate::shared::{Shared, shared_by, window_at};
 use job_facts::Counts;
 use ray_words::WordRay;
 use std::alloc::Global;
@@ -24,6 +25,7 @@ fn mark_at<'x>(
     number: u32,
     strip: u32,
     n: u32,
+    shared: Shared,
     marked: &mut Marked,
 ) -> Result<(), NoMemory>
     requires plan { IsPlan plan.now }
@@ -32,6 +34,7 @@ fn mark_at<'x>(
     requires n { n < length (strip_at plan.now.grid strip) }
     requires ray { AreSetsAt plan.now.grid strip n ray.old.sets }
     requires marker { IsMarkerOf plan.now number strip marker.now }
+    requires shared { IsShared plan.now number marker.now.family shared }
     requires room { CanCount (2 ^ 33) marked.old.counts }
     ensures same { HasSameSets ray.old ray.new }
     ensures marked { OnOk result ((move : JobMove) → HasNumber plan.now number move → Adds marked.old marked.new (λ added found.
@@ -39,21 +42,13 @@ fn mark_at<'x>(
 {
     // The bound fits.
     let _bound = ray.bound();
-    let window = plan.ray_window(number, &plan.grid().strip_ray(strip, n));
+    let window = window_at(shared.window, plan, number, strip, n);
     let first = first_wanted(ray, window);
     if window.1.div_ceil(64) <= first {
         return Ok(());
     }
     let on_ray = marker.on_ray(n);
-    mark_ray(
-        &on_ray,
-        ray,
-        n,
-        first,
-        window,
-        plan.is_rapid(number),
-        marked,
-    )?;
+    mark_ray(&on_ray, ray, n, first, window, shared.rapid, marked)?;
     Ok(())
 }
 
@@ -82,6 +77,7 @@ fn mark_rays(
     let first = grid.strip_ray(strip, 0);
     let mover = plan.marker(number);
     let marker = mover.on_strip(grid, first.family, first.i);
+    let shared = shared_by(plan, number, first.family);
     let mut marked = Marked {
         changes: Vec::new(alloc),
         counts: Counts::none(),
@@ -94,6 +90,7 @@ fn mark_rays(
             number,
             strip,
             n,
+            shared,
             &mut marked,
         )?;
     }

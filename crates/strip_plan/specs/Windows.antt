@@ -1,10 +1,12 @@
 -- Ranges of indices outside of which a move is possible nowhere.
 use Rattle.std.specs.Prelude.{◌≡◌, true, ℕ, ◌<◌, ◌≤◌, Some, slice_get}
+use Rattle.ray_grid.specs.declared.ray.Family.{Family}
 use Rattle.ray_grid.specs.declared.ray.Ray.{Ray}
 use Rattle.ray_grid.specs.Lattice.{IsRay, point_of, points_of}
 use Rattle.ray_grid.specs.Strips.{strip_at}
 use Rattle.job_model.specs.Points.{may_meet}
 use Rattle.job_model.specs.Tasks.{JobMove, PlanOf}
+use Rattle.strip_plan.specs.Plans.{HasNumber}
 
 -- from the one index on and below the other
 abbrev pub IsFrom : ℕ → ℕ → ℕ → Type 0
@@ -19,6 +21,13 @@ pub record IsPossibleAt (plan : PlanOf) (move : JobMove) (ray : Ray) (l : ℕ) :
 -- each index of the ray at which the move is possible is one of these
 abbrev pub HoldsPossible : PlanOf → JobMove → Ray → ℕ → ℕ → Type 0
 HoldsPossible plan move ray lo hi = (l : ℕ) → IsPossibleAt plan move ray l → IsFrom lo hi l
+
+-- a window for all rays of a family: on each of them it holds the indices at which the plan's move with a number is possible
+pub record IsCommonWindow (plan : PlanOf) (number : ℕ) (family : Family) (window : ℕ × ℕ) : Type 0 where
+  pub order : window.0 ≤ window.1
+  pub within : window.1 ≤ points_of plan.grid family
+  pub holds : (move : JobMove) (ray : Ray) → HasNumber plan number move → ray.family ≡ family
+      → HoldsPossible plan move ray window.0 window.1
 
 -- each ray of the strip with a point at which the move is possible has one of these numbers
 abbrev pub HoldsEntered : PlanOf → JobMove → ℕ → ℕ → ℕ → Type 0

@@ -88,7 +88,7 @@ impl IndexBox {
 
     /// The points along a family's rays.
     #[inline]
-    fn along(&self, family: Family) -> (u32, u32)
+    pub fn along(&self, family: Family) -> (u32, u32)
         ensures { result ≡ (ranges_for self.now family).along }
     {
         match family {

@@ -1,18 +1,19 @@
 ghost use Rattle.std.specs.Prelude.{◌≡◌, ◌<◌, ◌≤◌, All, Some, IfOk, length, slice_get};
+ghost use Rattle.std.specs.Option.{IfSome};
 ghost use Rattle.edit_plan.specs.Edits.{AppliesBelow};
 ghost use Rattle.edit_plan.specs.Limits.{most_edits, most_script_moves};
 ghost use Rattle.ray_grid.specs.Lattice.{IsRay, points_of};
 ghost use Rattle.ray_grid.specs.Strips.{strip_at, strips_of};
 ghost use Rattle.job_model.specs.Tasks.{IsPlan, JobMove};
 ghost use Rattle.strip_plan.specs.Plans.{HasNumber, move_in};
-ghost use Rattle.strip_plan.specs.Windows.{HoldsEntered, HoldsPossible};
+ghost use Rattle.strip_plan.specs.Windows.{HoldsEntered, HoldsPossible, IsCommonWindow};
 
 use crate::boxes::{Boxes, boxes_of};
 use crate::cutters::{Cutters, cutters_of};
 use crate::plan_move::PlanMove;
 use crate::windows::{boxes_ray_window, boxes_strip_window, row};
 use edit_plan::{Edit, Edits};
-use ray_grid::{Grid, Ray};
+use ray_grid::{Family, Grid, Ray};
 use std::alloc::Global;
 use std::marker::Model;
 use vf_io::NoMemory;
@@ -162,6 +163,20 @@ impl Plan {
             return window;
         }
         boxes_ray_window(&self.boxes.boxes, start, end, ray)
+    }
+
+    /// From the one index to the other lie, on every ray of a family, all at which a move is possible. The second is excluded. Of a
+    /// move with several boxes nothing is told: it may have others on each ray.
+    pub fn common_window(&self, number: u32, family: Family) -> Option<(u32, u32)>
+        requires { number < length self.now.moves }
+        ensures { IfSome result (IsCommonWindow self.now number family) }
+    {
+        let start = self.boxes.starts[number as usize];
+        let end = self.boxes.starts[number as usize + 1];
+        if start != end {
+            return None;
+        }
+        Some(self.boxes.hulls[number as usize].along(family))
     }
 
     /// From the one number of a strip's rays to the other stand all with a point at which a move is possible. The second is

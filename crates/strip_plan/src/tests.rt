@@ -12,9 +12,9 @@ use std::test::Fail;
 use vf_io::NoMemory;
 
 /// A flat cutter of 1 mm along x at y = 0 and along y at x = 7 mm, the latter in rapid motion, and a ball cutter of 2 mm along x at
-/// y = 7 mm, all upright with the tip at z = 0.
+/// y = 7 mm and a tenth of a millimetre back, all upright with the tip at z = 0.
 fn moves(alloc: Global) -> Result<Vec<PlanMove>, NoMemory>
-    ensures { IfOk result (λ moves. length moves.items ≡ 3) }
+    ensures { IfOk result (λ moves. length moves.items ≡ 4) }
 {
     let flat = Cutter {
         d: 1_000,
@@ -46,17 +46,24 @@ fn moves(alloc: Global) -> Result<Vec<PlanMove>, NoMemory>
         axis_from: [0, 0, 1],
         axis_to: [0, 0, 1],
     };
+    let short = Sweep {
+        from: [0, 7_000, 0],
+        to: [100, 7_000, 0],
+        axis_from: [0, 0, 1],
+        axis_to: [0, 0, 1],
+    };
     let mut moves = Vec::new(alloc);
     moves.push(PlanMove::new(along_x, flat, false, 3))?;
     moves.push(PlanMove::new(along_y, flat, true, 5))?;
     moves.push(PlanMove::new(back, ball, false, 7))?;
+    moves.push(PlanMove::new(short, ball, false, 9))?;
     Ok(moves)
 }
 
 /// A move is applied, another one, which is dropped and taken back, and the last one.
 fn edits(alloc: Global) -> Result<Edits, NoMemory>
     ensures few { IfOk result (λ edits. length edits ≤ most_edits) }
-    ensures named { IfOk result (λ edits. All (AppliesBelow 3) edits) }
+    ensures named { IfOk result (λ edits. All (AppliesBelow 4) edits) }
 {
     let mut edits = Edits::new(alloc);
     edits.push(Edit::Apply(0))?;
@@ -106,6 +113,15 @@ fn ray_window(plan: &Plan, number: u32, family: Family, i: u32) -> Option<(u32, 
     }
 }
 
+/// The window of a move on all rays of a family, where the plan has the move and the move has one.
+fn common_window(plan: &Plan, number: u32, family: Family) -> Option<(u32, u32)> {
+    if number < plan.moves() {
+        plan.common_window(number, family)
+    } else {
+        None
+    }
+}
+
 /// The window of a move in a strip, where the plan has both.
 fn strip_window(plan: &Plan, number: u32, strip: u32) -> Option<(u32, u32)> {
     if number < plan.moves() && strip < plan.grid().strips() {
@@ -119,7 +135,7 @@ fn strip_window(plan: &Plan, number: u32, strip: u32) -> Option<(u32, u32)> {
 fn what_a_plan_has(rt: HostRuntime) -> Result<(), Fail> {
     let plan = plan(rt.alloc())?;
     assert_eq!(rt; plan.grid().strips(), 24);
-    assert_eq!(rt; plan.moves(), 3);
+    assert_eq!(rt; plan.moves(), 4);
     assert_eq!(rt; plan.edits(), 5);
     assert_eq!(rt; edit(&plan, 0), Some(Edit::Apply(0)));
     assert_eq!(rt; edit(&plan, 3), Some(Edit::Redo));
@@ -129,7 +145,8 @@ fn what_a_plan_has(rt: HostRuntime) -> Result<(), Fail> {
     Ok(())
 }
 
-/// The rays along x stand behind the 8 strips of those along z: strip 8 has y = 0, and strip 15 has y = 7 mm.
+/// The rays along x stand behind the 8 strips of those along z: strip 8 has y = 0, and strip 15 has y = 7 mm. Only the short move has
+/// one box.
 #[test]
 fn where_moves_are_possible(rt: HostRuntime) -> Result<(), Fail> {
     let plan = plan(rt.alloc())?;
@@ -137,6 +154,9 @@ fn where_moves_are_possible(rt: HostRuntime) -> Result<(), Fail> {
     assert_eq!(rt; ray_window(&plan, 0, Family::X, 7), Some((0, 0)));
     assert_eq!(rt; ray_window(&plan, 1, Family::X, 3), Some((13, 16)));
     assert_eq!(rt; ray_window(&plan, 2, Family::X, 7), Some((0, 16)));
+    assert_eq!(rt; common_window(&plan, 2, Family::X), None);
+    assert_eq!(rt; common_window(&plan, 3, Family::X), Some((0, 3)));
+    assert_eq!(rt; common_window(&plan, 3, Family::Y), Some((12, 16)));
     assert_eq!(rt; strip_window(&plan, 0, 0), Some((0, 1)));
     assert_eq!(rt; strip_window(&plan, 0, 5), Some((0, 0)));
     assert_eq!(rt; strip_window(&plan, 2, 8), Some((0, 0)));

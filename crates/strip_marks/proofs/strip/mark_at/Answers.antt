@@ -1,20 +1,30 @@
-use Rattle.std.proofs.Common.{arith, sym, ◌∙◌, subst}
+use Rattle.std.proofs.Common.{arith, ap, sym, ◌∙◌, subst, IfSome}
+use Rattle.ray_grid.specs.declared.ray.Family.{Family}
+use Rattle.ray_grid.specs.declared.ray.Ray.{Ray}
 use Rattle.wanted_marks.specs.Rays.{RayOf}
+use Rattle.strip_plan.specs.Windows.{IsCommonWindow}
 use Rattle.strip_marks.specs.RayMarks.{IsWindow}
 use Rattle.strip_marks.proofs.OneRay.{marked_by, sets_for, untouched}
-use Rattle.strip_marks.proofs.OnStrips.{marker_is, node_within, some_move, window_on}
+use Rattle.strip_marks.proofs.OnStrips.{marker_is, node_within, ray_is, some_move, window_on}
 use Rattle.strip_marks.proofs.strip.mark_at.Goals as goal
+
+pub window_at-window-requires-clause-common : goal.window_at-window-requires-clause-common
+window_at-window-requires-clause-common c =
+    let a = c.args in
+    subst (λ (f : Family). IfSome a.shared.window (IsCommonWindow a.plan.now a.number f))
+    (sym (ap (λ (r : Ray). r.family)
+    (ray_is a.plan.now.grid a.strip a.n a.marker.now.family a.marker.now.i c.requires.marker.rays c.requires.n)))
+    c.requires.shared.window
 
 pub returns-then-div_ceil-first-clause-marked : goal.returns-then-div_ceil-first-clause-marked
 returns-then-div_ceil-first-clause-marked c = λ move has.
     let a = c.args in
-    let e = c.ray_window-window.ensures in
-    let w = window_on a.plan.now a.number move a.strip a.n c.ray_window-window.result.0 c.ray_window-window.result.1 c.strip_ray.result
-    c.grid.result.now c.grid.ensures c.requires.plan has
-    c.strip_ray.ensures.there c.strip_ray.ensures.ray e.order e.within (e.holds move has) in
-    untouched a.plan.now move a.strip a.n c.ray_window-window.result.0 c.ray_window-window.result.1 c.first_wanted-first.result a.ray.now
-    a.marked.now c.requires.ray w c.first_wanted-first.ensures (omega (arith, c.div_ceil.ensures))
-    (omega (arith, c.bound-bound.ensures.points))
+    let found = c.window_at-window in
+    let e = found.ensures in
+    let w = window_on a.plan.now a.number move a.strip a.n found.result.0 found.result.1 c.requires.plan has c.requires.strip c.requires.n
+    e.order e.within (e.holds move has) in
+    untouched a.plan.now move a.strip a.n found.result.0 found.result.1 c.first_wanted-first.result a.ray.now a.marked.now c.requires.ray w
+    c.first_wanted-first.ensures (omega (arith, c.div_ceil.ensures)) (omega (arith, c.bound-bound.ensures.points))
 
 pub on_ray-on_ray-requires : goal.on_ray-on_ray-requires
 on_ray-on_ray-requires c = node_within c.args.plan.now c.args.number c.args.strip c.args.n c.args.marker.now c.requires.marker c.requires.n
@@ -30,17 +40,17 @@ mark_ray-requires-clause-ray c =
 pub mark_ray-requires-clause-window : goal.mark_ray-requires-clause-window
 mark_ray-requires-clause-window c =
     let a = c.args in
-    let e = c.ray_window-window.ensures in
+    let found = c.window_at-window in
+    let e = found.ensures in
     let some = some_move a.plan.now a.number c.requires.number in
-    subst (λ (r : RayOf). IsWindow r c.ray_window-window.result.0 c.ray_window-window.result.1)
+    subst (λ (r : RayOf). IsWindow r found.result.0 found.result.1)
     (sym (c.on_ray-on_ray.ensures ∙ marker_is a.plan.now a.number a.strip a.n some.0 a.marker.now c.requires.marker some.1 c.requires.n))
-    (window_on a.plan.now a.number some.0 a.strip a.n c.ray_window-window.result.0 c.ray_window-window.result.1 c.strip_ray.result
-    c.grid.result.now c.grid.ensures c.requires.plan some.1
-    c.strip_ray.ensures.there c.strip_ray.ensures.ray e.order e.within (e.holds some.0 some.1))
+    (window_on a.plan.now a.number some.0 a.strip a.n found.result.0 found.result.1 c.requires.plan some.1 c.requires.strip c.requires.n
+    e.order e.within (e.holds some.0 some.1))
 
 pub returns-clause-marked : goal.returns-clause-marked
 returns-clause-marked c = λ move has.
     let a = c.args in
-    marked_by a.plan.now move a.strip a.n c.on_ray-on_ray.result c.is_rapid.result c.mark_ray.new.ray a.marked.now c.mark_ray.new.marked
+    marked_by a.plan.now move a.strip a.n c.on_ray-on_ray.result a.shared.rapid c.mark_ray.new.ray a.marked.now c.mark_ray.new.marked
     (c.on_ray-on_ray.ensures ∙ marker_is a.plan.now a.number a.strip a.n move a.marker.now c.requires.marker has c.requires.n)
-    (c.is_rapid.ensures move has) c.in_ok-mark_ray.ensures.marked
+    (c.requires.shared.rapid move has) c.in_ok-mark_ray.ensures.marked

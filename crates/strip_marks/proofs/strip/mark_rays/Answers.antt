@@ -1,10 +1,12 @@
-use Rattle.std.proofs.Common.{◌≡◌, ℕ, ◌+◌, ◌-◌, ◌*◌, ◌<◌, List, length, get_or, arith, sym, subst}
+use Rattle.std.proofs.Common.{◌≡◌, ℕ, ◌+◌, ◌-◌, ◌*◌, ◌<◌, List, length, get_or, arith, ap, sym, subst}
 use Rattle.std.proofs.lemmas.List.{get_or_default}
 use Rattle.job_facts.specs.Counts.{most_count}
+use Rattle.ray_grid.specs.declared.ray.Family.{Family}
 use Rattle.ray_words.specs.Rays.{KeptSets}
+use Rattle.wanted_marks.specs.Strips.{StripOf}
 use Rattle.strip_marks.specs.Marks.{kept_of}
 use Rattle.strip_marks.specs.RayMarks.{HasSameSets}
-use Rattle.strip_marks.specs.RowMarks.{AreRaysMarked, AreSetsAt}
+use Rattle.strip_marks.specs.RowMarks.{AreRaysMarked, AreSetsAt, IsShared}
 use Rattle.strip_marks.proofs.Counting.{within_more}
 use Rattle.strip_marks.proofs.MoreRays.{no_sets, same_again, same_with, sets_at}
 use Rattle.strip_marks.proofs.OneRay.{rays_step, within_next}
@@ -22,6 +24,11 @@ mark_at-requires-clause-marker c =
     marker_of a.plan.now a.number a.strip c.on_strip-marker.result c.marker-mover.result c.grid-grid.result.now c.strip_ray-first.result
     c.on_strip-marker.ensures c.grid-grid.ensures
     c.strip_ray-first.ensures.there c.strip_ray-first.ensures.ray c.marker-mover.ensures.marker
+
+pub mark_at-requires-clause-shared : goal.mark_at-requires-clause-shared
+mark_at-requires-clause-shared c =
+    subst (λ (f : Family). IsShared c.args.plan.now c.args.number f c.shared_by-shared.result)
+    (sym (ap (λ (s : StripOf). s.family) c.on_strip-marker.ensures)) c.shared_by-shared.ensures
 
 pub mark_at-requires-clause-ray : goal.mark_at-requires-clause-ray
 mark_at-requires-clause-ray c =
