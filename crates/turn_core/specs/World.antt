@@ -1,5 +1,6 @@
 -- The core: a version for each strip, and what steps do.
-use Rattle.std.specs.Prelude.{◌≡◌, ℕ, ◌+◌, ◌<◌, ◌≤◌, List, [], ◌∷◌, Some, length, map, max, min, slice_get, slice_index, slice_index_or, slice_set}
+use Rattle.std.specs.Prelude.{◌≡◌, ℕ, ◌+◌, ◌<◌, ◌≤◌, List, [], ◌∷◌, Some, length, map, max, min}
+use Rattle.std.specs.Prelude.{slice_get, slice_index, slice_index_or, slice_set}
 use Rattle.ray_grid.specs.Strips.{strip_number, strips_of}
 use Rattle.edit_plan.specs.declared.query.Ask.{Ask}
 use Rattle.edit_plan.specs.declared.query.Ask.TheVariants as asks

@@ -1,7 +1,8 @@
 ghost use Rattle.std.specs.Prelude.{◌≡◌, ◌∷◌, [], ◌++◌, All, IfOk, OnErr, OnOk, length};
 ghost use Rattle.edit_plan.specs.Queries.{IsQuery};
 ghost use Rattle.job_model.specs.Tasks.{Job};
-ghost use Rattle.turn_core.specs.World.{AreBetween, AreOfPlan, AreStrips, AreStripsAt, IsStepOf, after_step, after_steps, answers_to, versions_of};
+ghost use Rattle.turn_core.specs.World.{AreBetween, AreOfPlan, AreStrips, AreStripsAt, IsStepOf};
+ghost use Rattle.turn_core.specs.World.{after_step, after_steps, answers_to, versions_of};
 
 use crate::asking::ask;
 use crate::step::Step;

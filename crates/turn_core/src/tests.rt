@@ -1,5 +1,3 @@
-mod jobs;
 mod long_ray;
 mod orders;
-mod strips;
 mod views;

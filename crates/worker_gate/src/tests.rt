@@ -1,4 +1,3 @@
 mod again;
 mod crews;
-mod jobs;
 mod meeting;

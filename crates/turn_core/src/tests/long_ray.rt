@@ -2,14 +2,13 @@ ghost use Rattle.std.specs.Prelude.{◌≡◌, All, IfOk, length};
 ghost use Rattle.edit_plan.specs.Edits.{AppliesBelow};
 ghost use Rattle.turn_core.specs.World.{AreOfPlan};
 
-use super::jobs::boxed;
-use super::strips::strips;
 use crate::turning::turn_strip;
 use axis_cells::Sweep;
 use cutter_slabs::Cutter;
 use edit_plan::{Edit, Edits};
 use job_facts::Totals;
 use ray_grid::Grid;
+use sample_job::{boxed, strips};
 use std::alloc::Global;
 use std::test::Fail;
 use strip_journal::Strip;

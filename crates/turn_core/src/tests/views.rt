@@ -1,12 +1,11 @@
 ghost use Rattle.std.specs.Prelude.{◌≡◌, ◌≤◌, All, IfOk, length};
 ghost use Rattle.edit_plan.specs.Edits.{AppliesBelow};
 
-use super::jobs::{edits, plan, stock};
-use super::strips::strips;
 use crate::asking::state_at;
 use crate::turning::raise;
 use edit_plan::{Edit, Edits};
 use job_facts::PointState;
+use sample_job::{edits, plan, stock, strips};
 use std::alloc::Global;
 use std::test::Fail;
 use strip_journal::Strip;
@@ -21,7 +20,7 @@ fn more_edits(alloc: Global) -> Result<Edits, NoMemory>
     ensures many { IfOk result (λ edits. length edits ≡ 10) }
     ensures named { IfOk result (λ edits. All (AppliesBelow 2) edits) }
 {
-    let mut more = edits(alloc)?;
+    let mut more = edits(alloc, 1)?;
     more.push(Edit::Undo)?;
     more.push(Edit::Redo)?;
     more.push(Edit::Apply(0))?;

@@ -7,8 +7,8 @@ use std::sync::atomic::Ordering::SeqCst;
 /// How often one looks for the other.
 const LOOKS: u32 = 100_000_000;
 
-/// A gate that lets the first tickets of the strips 0 and 1 in once a worker has come with each. Later tickets pass: a worker that
-/// is alone would come to both strips in the end.
+/// A gate that lets the tickets 0 and 1 in, which stand for the strips 0 and 1, once a worker has come with each. Later tickets
+/// pass.
 #[derive(Drop)]
 pub struct Meeting {
     came: [AtomicBool; 2],

@@ -8,7 +8,7 @@ use Rattle.std.proofs.Math.Seq.{get_or-append_seam}
 use Rattle.std.proofs.lemmas.Option.{get_or_from_slice_get, slice_get-get_or, slice_get_within}
 use Rattle.job_model.specs.Tasks.{PlanOf}
 use Rattle.strip_journal.specs.Strips.{StripOf}
-use Rattle.turn_core.proofs.tests.strips.strips_by.Goals as goal
+use Rattle.sample_job.proofs.fresh.strips_by.Goals as goal
 
 -- a strip of the plan with this number
 record IsNumbered (plan : PlanOf) (k : ℕ) (s : StripOf) : Type 0 where

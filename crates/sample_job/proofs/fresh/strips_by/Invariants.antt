@@ -1,6 +1,6 @@
 use Rattle.std.proofs.Common.{◌≡◌, ℕ, Some, length, slice_get}
 use Rattle.strip_journal.specs.Strips.{StripOf}
-use Rattle.turn_core.proofs.tests.strips.strips_by.Given as goal
+use Rattle.sample_job.proofs.fresh.strips_by.Given as goal
 
 abbrev pub invariant-loop-number : goal.invariant-loop-number
 invariant-loop-number g l = record {

@@ -1,4 +1,5 @@
-ghost use Rattle.std.specs.Prelude.{◌≡◌, ◌≤◌, All, IfOk, length};
+ghost use Rattle.std.specs.Prelude.{◌≡◌, ◌*◌, ◌+◌, ◌≤◌, All, IfOk, length};
+ghost use Rattle.ray_grid.specs.Strips.{strips_of};
 ghost use Rattle.edit_plan.specs.Edits.{AppliesBelow};
 ghost use Rattle.edit_plan.specs.Limits.{most_edits};
 
@@ -6,7 +7,6 @@ use axis_cells::Sweep;
 use cutter_slabs::Cutter;
 use edit_plan::{Edit, Edits};
 use ray_grid::Grid;
-use ray_shapes::{Bodies, Body, Plane};
 use std::alloc::Global;
 use strip_plan::{Plan, PlanMove};
 use vf_io::NoMemory;
@@ -39,16 +39,18 @@ fn moves(alloc: Global) -> Result<Vec<PlanMove>, NoMemory>
     Ok(moves)
 }
 
-/// Both moves are applied and dropped, and then the second alone is applied.
-pub fn edits(alloc: Global) -> Result<Edits, NoMemory>
-    ensures many { IfOk result (λ edits. length edits ≡ 5) }
+/// Both moves are applied and dropped, so many times, and then the second alone is applied.
+pub fn edits(alloc: Global, rounds: u32) -> Result<Edits, NoMemory>
+    ensures many { IfOk result (λ edits. length edits ≡ 4 * rounds + 1) }
     ensures named { IfOk result (λ edits. All (AppliesBelow 2) edits) }
 {
     let mut edits = Edits::new(alloc);
-    edits.push(Edit::Apply(0))?;
-    edits.push(Edit::Apply(1))?;
-    edits.push(Edit::Undo)?;
-    edits.push(Edit::Undo)?;
+    for _round in 0..rounds {
+        edits.push(Edit::Apply(0))?;
+        edits.push(Edit::Apply(1))?;
+        edits.push(Edit::Undo)?;
+        edits.push(Edit::Undo)?;
+    }
     edits.push(Edit::Apply(1))?;
     Ok(edits)
 }
@@ -57,7 +59,8 @@ pub fn edits(alloc: Global) -> Result<Edits, NoMemory>
 pub fn plan(alloc: Global, edits: Edits) -> Result<Plan, NoMemory>
     requires few { length edits ≤ most_edits }
     requires named { All (AppliesBelow 2) edits }
-    ensures { IfOk result (λ plan. plan.edits ≡ edits) }
+    ensures edits { IfOk result (λ plan. plan.edits ≡ edits) }
+    ensures strips { IfOk result (λ plan. length (strips_of plan.grid) ≡ 9) }
 {
     let grid = Grid {
         origin: [0, 0, 0],
@@ -66,54 +69,4 @@ pub fn plan(alloc: Global, edits: Edits) -> Result<Plan, NoMemory>
         counts: [3, 3, 2],
     };
     Plan::new(alloc, grid, 8, 2, moves(alloc)?, edits)
-}
-
-/// A box from the origin to 2.5 mm, 2.5 mm and 1.5 mm.
-pub fn stock(alloc: Global) -> Result<Bodies, NoMemory> {
-    boxed(alloc, [0, 0, 0], [2_500, 2_500, 1_500])
-}
-
-/// A box that reaches so far below the origin and so far above it.
-pub fn boxed(alloc: Global, below: [i64; 3], above: [i64; 3]) -> Result<Bodies, NoMemory> {
-    let planes = [
-        Plane {
-            a: -1,
-            b: 0,
-            c: 0,
-            d: below[0],
-        },
-        Plane {
-            a: 0,
-            b: -1,
-            c: 0,
-            d: below[1],
-        },
-        Plane {
-            a: 0,
-            b: 0,
-            c: -1,
-            d: below[2],
-        },
-        Plane {
-            a: 1,
-            b: 0,
-            c: 0,
-            d: above[0],
-        },
-        Plane {
-            a: 0,
-            b: 1,
-            c: 0,
-            d: above[1],
-        },
-        Plane {
-            a: 0,
-            b: 0,
-            c: 1,
-            d: above[2],
-        },
-    ];
-    let mut bodies = Vec::new(alloc);
-    bodies.push(Body::new(Vec::from_slice(alloc, planes.as_slice())?))?;
-    Ok(Bodies::new(bodies))
 }
