@@ -12,3 +12,4 @@ pub mod Ready
 pub mod Settled
 pub mod Tasks
 pub mod Truth
+pub mod Verdict

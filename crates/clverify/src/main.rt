@@ -13,6 +13,7 @@ mod task;
 #[cfg(test)]
 mod tests;
 mod top;
+pub mod verdict;
 
 use crate::arguments::read_words;
 use crate::status::Status;

@@ -1,3 +1,10 @@
+ghost use Rattle.std.specs.Prelude.{ℕ, List};
+
+mod crews;
+mod faults;
+mod refusals;
+mod verdicts;
+
 use crate::arguments::read_words;
 use crate::commands::read_command;
 use crate::status::Status;
@@ -7,8 +14,8 @@ use std::env::{Env, FillError};
 use std::sync::Wait;
 use std::test::Fail;
 use std::thread::Threads;
-use vf_io::{MemShelf, MemSink};
-use worker_gate::Open;
+use vf_io::{MemShelf, MemSink, Shelf};
+use worker_gate::{Gate, Open};
 
 /// The usage line.
 const USAGE: &str =
@@ -42,24 +49,52 @@ fn answer_over<R: Threads + Wait + Sync>(
     failing_reads: &[u64],
     failing_writes: &[u64],
 ) -> Result<(Status, Vec<u8>), Fail> {
-    let mut files = Vec::new(alloc);
-    for (name, bytes) in named {
-        files.push((
-            String::from_str(alloc, name)?,
-            Vec::from_slice(alloc, bytes)?,
-        ))?;
-    }
-    let mut texts = Vec::new(alloc);
-    for word in words {
-        texts.push(String::from_str(alloc, word)?)?;
-    }
-    let mut shelf = MemShelf::new(files, Vec::from_slice(alloc, failing_reads)?);
+    let mut shelf = MemShelf::new(
+        owned_files(alloc, named)?,
+        Vec::from_slice(alloc, failing_reads)?,
+    );
+    answer_by(rt, alloc, words, &mut shelf, failing_writes, &Open)
+}
+
+/// The same over a shelf, with workers that go through a gate.
+fn answer_by<R: Threads + Wait + Sync, S: Shelf, G: Gate + Sync>(
+    rt: &R,
+    alloc: Global,
+    words: &[&str],
+    shelf: &mut S,
+    failing_writes: &[u64],
+    gate: &G,
+) -> Result<(Status, Vec<u8>), Fail>
+    requires { (name : List ℕ) → S.allows shelf.old name }
+{
+    let words = owned_words(alloc, words)?;
     let Ok(mut sink) = MemSink::new(alloc, 20_000_000, Vec::from_slice(alloc, failing_writes)?)
     else {
         return Err(Fail::from("no memory for the sink"));
     };
-    let status = run(rt, alloc, &texts, &mut shelf, &mut sink, &Open);
+    let status = run(rt, alloc, &words, shelf, &mut sink, gate);
     Ok((status, Vec::from_slice(alloc, sink.written())?))
+}
+
+/// Words as they are handed over.
+fn owned_words(alloc: Global, words: &[&str]) -> Result<Vec<String>, Fail> {
+    let mut owned = Vec::new(alloc);
+    for word in words {
+        owned.push(String::from_str(alloc, word)?)?;
+    }
+    Ok(owned)
+}
+
+/// Files as they are handed over.
+fn owned_files(alloc: Global, named: &[(&str, &[u8])]) -> Result<Vec<(String, Vec<u8>)>, Fail> {
+    let mut owned = Vec::new(alloc);
+    for (name, bytes) in named {
+        owned.push((
+            String::from_str(alloc, name)?,
+            Vec::from_slice(alloc, bytes)?,
+        ))?;
+    }
+    Ok(owned)
 }
 
 /// A file as a CAM system writes it.
@@ -360,6 +395,11 @@ height = 5000\n\
 box = [0, 0, 0, 2500, 2500, 1500]\n\
 [[part]]\n\
 box = [0, 0, 0, 2500, 2500, 1000]\n";
+
+/// The first setup with another text in place of one.
+fn stock_with(alloc: Global, text: &str, other: &str) -> Result<String, Fail> {
+    Ok(std::str::from_utf8(STOCK)?.replace(alloc, text, other)?)
+}
 
 /// The first without its pitch.
 const NO_PITCH: &[u8] = b"[grid]\n\
