@@ -1,4 +1,5 @@
--- `verify CL SETUP [--script F] [--workers N]`: what each move of a cutter location file does to stock, part and fixtures, and whether it is safe.
+-- `verify CL SETUP [--script F] [--workers N]`: what each move of a cutter location file does to stock, part and fixtures, and
+-- whether it is safe.
 use Rattle.std.specs.Prelude.{◌≡◌, ℕ, Bool, List, ◌∷◌, Result, Ok, codes, if◌then◌else◌}
 use Rattle.std.specs.Option.{option_map, option_to_list}
 use Rattle.job_facts.specs.Facts.{JobFacts, is_clean}

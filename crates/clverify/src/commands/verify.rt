@@ -30,7 +30,8 @@ pub(crate) fn verify_command<'a>(
     alloc: Global,
     words: &'a [String],
 ) -> Result<Option<Command<'a>>, NoMemory>
-    ensures command { IfOk result (λ command. option_map command_seen command ≡ option_map verify_moves (call_of (map string_bytes words.now))) }
+    ensures command { IfOk result (λ command. option_map command_seen command
+        ≡ option_map verify_moves (call_of (map string_bytes words.now))) }
     ensures valid { IfOk result (λ command. IfSome command MayBeAsked) }
 {
     match verify_words(alloc, words) {
