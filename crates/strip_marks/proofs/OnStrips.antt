@@ -73,6 +73,9 @@ on_grid grid strip n lt within =
     subst (λ (ray : Ray). IsRay grid ray) (sym (ray_is grid strip n row.family row.i row.rays within))
     (record { first = row.first; second = nodes_enough grid strip n row.family row.i row.rays within })
 
+pub ray_there : (grid : GridSize) (strip n : ℕ) (ray : Ray) → slice_get (strip_at grid strip) n ≡ Some ray → ray_of grid strip n ≡ ray
+ray_there grid strip n ray e = get_or_from_slice_get (strip_at grid strip) n ray (record { family = X; i = 0; j = 0 }) e
+
 pub ray_stands : (grid : GridSize) (strip n : ℕ) → n < length (strip_at grid strip)
     → slice_get (strip_at grid strip) n ≡ Some (ray_of grid strip n)
 ray_stands grid strip n lt = slice_get-get_or (strip_at grid strip) n (record { family = X; i = 0; j = 0 }) lt
