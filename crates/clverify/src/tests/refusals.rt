@@ -105,7 +105,7 @@ fn jobs_that_are_cut_off_or_damaged(rt: HostRuntime) -> Result<(), Fail> {
     assert_eq!(rt; status.code(), 3, "the code of a program that is cut off");
     assert_eq!(rt;
         written.as_slice(),
-        b"refused: cl line 1: ParamCount\n",
+        "refused: cl line 1: ParamCount\n".as_bytes(),
         "the text of a program that is cut off"
     );
     for (program, script, text) in SCRIPTS {
