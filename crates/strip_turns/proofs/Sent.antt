@@ -1,6 +1,13 @@
 -- A pass may go to another thread, and any thread may share the board.
-use denote.Param.Send.{IsSend, IsSync, recorded_send, recorded_sync, sendable, struct_send, struct_sync}
+use mathlib.Core.List.{[], ◌∷◌}
+use mir.Syntax.{Sym}
+use denote.RattleType.{RattleType}
+use denote.Builtin.{One}
+use denote.Ref.{NamedLft}
+use denote.Param.Send.{IsSend, IsSync, mut_send, recorded_send, recorded_sync, sendable, shr_send, struct_send, struct_sync}
 use denote.Struct.Declared.{shape}
+use denote.Struct.Field.{mut_ref_field, shr_ref_field}
+use denote.Struct.Tuple.{TupleAt, field_at, type_at}
 use Rattle.std.proofs.Crossing as heap
 use Rattle.std.specs.contracts.alloc.Global as global
 use Rattle.std.specs.contracts.impls.GlobalAllocator.TheImpl as allocator
@@ -36,3 +43,11 @@ slots_sync = table.the_field_sync (option.the_row strip.the_row) view.the_row ke
 pub board_sync : IsSync board.the_row
 board_sync = recorded_sync (board.the_field).row _ _ (board.the_type).to_one
     (struct_sync (shape board.the_type) (plan.the_sync, (slots_sync, tt)))
+
+-- a closure over one reference that shares and one that writes may go to another thread where what they refer to may
+pub drawing_sent : (name : Sym) (a b : NamedLft) (R S : RattleType) (r : One R.mir) (s : One S.mir) → IsSync R → IsSend S
+    → IsSend (TupleAt name ((shr_ref_field a R r).row ∷ (mut_ref_field b S s).row ∷ []))
+drawing_sent name a b R S r s shared written =
+    let rows = (shr_ref_field a R r).row ∷ (mut_ref_field b S s).row ∷ [] in
+    recorded_send (field_at name rows).row _ _ (type_at name rows).to_one
+    (struct_send (shape (type_at name rows)) (shr_send _ _ R shared, (mut_send _ _ S written, tt)))

@@ -12,6 +12,7 @@ use std::alloc::Global;
 use std::sync::Wait;
 use std::test::Fail;
 use std::thread;
+use std::thread::Threads;
 use vf_io::NoMemory;
 
 /// A board of the small job, with five edits for each of its nine strips, and its first pass.
@@ -40,6 +41,37 @@ fn hundred(board: &Board, pass: &mut Pass) -> [u64; 100]
     tickets
 }
 
+/// Two threads draw a hundred tickets each.
+fn drawn_by_two<R: Threads + Sync>(
+    rt: &R,
+    board: &Board,
+    one: &mut Pass,
+    two: &mut Pass,
+) -> ([u64; 100], [u64; 100])
+    requires one { IsPass board.now one.old }
+    requires two { IsPass board.now two.old }
+    requires none_by_one { one.old.seat.me.0.drawn ≡ 0 }
+    requires none_by_two { two.old.seat.me.0.drawn ≡ 0 }
+    ensures one { IsPass board.now one.new }
+    ensures two { IsPass board.now two.new }
+    ensures view_of_one { let log = one.new.seat.me.0.log in one.new.seat.me.0 ≡ record one.old.seat.me.0 { drawn = 100; log = log } }
+    ensures view_of_two { let log = two.new.seat.me.0.log in two.new.seat.me.0 ≡ record two.old.seat.me.0 { drawn = 100; log = log } }
+{
+    thread::join_mut(
+        rt,
+        &mut || -> [u64; 100]
+            requires { IsPass board.now one.now × (one.now.seat.me.0.drawn ≡ 0) }
+            ensures { IsPass board.entry.now one.exit.now × (one.exit.now.seat.me.0
+                ≡ record one.entry.now.seat.me.0 { drawn = 100; log = one.exit.now.seat.me.0.log }) }
+        { hundred(board, one) },
+        &mut || -> [u64; 100]
+            requires { IsPass board.now two.now × (two.now.seat.me.0.drawn ≡ 0) }
+            ensures { IsPass board.entry.now two.exit.now × (two.exit.now.seat.me.0
+                ≡ record two.entry.now.seat.me.0 { drawn = 100; log = two.exit.now.seat.me.0.log }) }
+        { hundred(board, two) },
+    )
+}
+
 /// Asks the queries in order.
 fn asked<R: Wait>(
     rt: &R,
@@ -65,11 +97,7 @@ fn tickets_of_two_threads(rt: HostRuntime) -> Result<(), Fail> {
     let alloc = rt.alloc();
     let (board, mut pass) = board(alloc)?;
     let mut other = board.split(&mut pass);
-    let (one, two) = thread::join_mut(
-        &rt,
-        &mut || hundred(&board, &mut pass),
-        &mut || hundred(&board, &mut other),
-    );
+    let (one, two) = drawn_by_two(&rt, &board, &mut pass, &mut other);
     board.merge(&mut pass, other);
 
     let mut tickets = Vec::from_slice(alloc, one.as_slice())?;
