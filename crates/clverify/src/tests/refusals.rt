@@ -45,6 +45,51 @@ fn programs_that_are_cut_off_or_damaged(rt: HostRuntime) -> Result<(), Fail> {
     Ok(())
 }
 
+#[test]
+fn setups_that_are_damaged(rt: HostRuntime) -> Result<(), Fail> {
+    let alloc = rt.alloc();
+    let high = stock_with(alloc, "[3, 3, 2]", "[3, 3, 401]")?;
+    let keyed = stock_with(alloc, "1500]\n", "1500]\nspeed = 1\n")?;
+    let blank = " ".repeat(alloc, 1_048_577)?;
+    let rows: [(&[u8], &str); 4] = [
+        (b"\xff", "refused: setup: SetupSyntax\n"),
+        (
+            high.as_bytes(),
+            "refused: setup grid.counts: SetupRange 401\n",
+        ),
+        (keyed.as_bytes(), "refused: setup stock: SetupKey\n"),
+        (blank.as_bytes(), "refused: setup: TooLong\n"),
+    ];
+    for (setup, text) in rows {
+        let files = [("A", FLAT), ("S", setup)];
+        let (status, written) = answer_over(&rt, alloc, VERIFY, &files, &[], &[])?;
+        assert_eq!(rt; status.code(), 3, "the code of {text}");
+        assert_eq!(rt; written.as_slice(), text.as_bytes(), "the text of {text}");
+    }
+    Ok(())
+}
+
+/// Where the program is refused no setup is looked for.
+#[test]
+fn a_program_is_refused_without_a_setup(rt: HostRuntime) -> Result<(), Fail> {
+    let files: [(&str, &[u8]); 1] = [("A", b"GOTO/")];
+    let (status, written) = answer_over(&rt, rt.alloc(), VERIFY, &files, &[], &[])?;
+    let text = "refused: cl line 1: ParamCount\n";
+    assert_eq!(rt; status.code(), 3, "the code");
+    assert_eq!(rt; written.as_slice(), text.as_bytes(), "the text");
+    Ok(())
+}
+
+#[test]
+fn lines_may_end_with_a_carriage_return(rt: HostRuntime) -> Result<(), Fail> {
+    let program = std::str::from_utf8(FLAT)?.replace(rt.alloc(), "\n", "\r\n")?;
+    let files = [("A", program.as_bytes()), ("S", STOCK)];
+    let (status, written) = answer_over(&rt, rt.alloc(), VERIFY, &files, &[], &[])?;
+    assert_eq!(rt; status.code(), 0, "the code");
+    assert_eq!(rt; written.as_slice(), CLEAN.as_bytes(), "the text");
+    Ok(())
+}
+
 /// A script over a program, and the line that it is refused with.
 const SCRIPTS: [(&[u8], &[u8], &str); 5] = [
     (
@@ -71,46 +116,10 @@ const SCRIPTS: [(&[u8], &[u8], &str); 5] = [
 ];
 
 #[test]
-fn jobs_that_are_cut_off_or_damaged(rt: HostRuntime) -> Result<(), Fail> {
-    let alloc = rt.alloc();
-    let windows = std::str::from_utf8(FLAT)?.replace(alloc, "\n", "\r\n")?;
-    let high = stock_with(alloc, "[3, 3, 2]", "[3, 3, 401]")?;
-    let keyed = stock_with(alloc, "1500]\n", "1500]\nspeed = 1\n")?;
-    let blank = " ".repeat(alloc, 1_048_577)?;
-    let jobs: [(&[u8], &[u8], u8, &str); 5] = [
-        (windows.as_bytes(), STOCK, 0, CLEAN),
-        (FLAT, b"\xff", 3, "refused: setup: SetupSyntax\n"),
-        (
-            FLAT,
-            high.as_bytes(),
-            3,
-            "refused: setup grid.counts: SetupRange 401\n",
-        ),
-        (
-            FLAT,
-            keyed.as_bytes(),
-            3,
-            "refused: setup stock: SetupKey\n",
-        ),
-        (FLAT, blank.as_bytes(), 3, "refused: setup: TooLong\n"),
-    ];
-    for (program, setup, code, text) in jobs {
-        let files = [("A", program), ("S", setup)];
-        let (status, written) = answer_over(&rt, alloc, VERIFY, &files, &[], &[])?;
-        assert_eq!(rt; status.code(), code, "the code of {text}");
-        assert_eq!(rt; written.as_slice(), text.as_bytes(), "the text of {text}");
-    }
-    // Where the program is refused no setup is looked for.
-    let (status, written) = answer_over(&rt, alloc, VERIFY, &[("A", b"GOTO/")], &[], &[])?;
-    assert_eq!(rt; status.code(), 3, "the code of a program that is cut off");
-    assert_eq!(rt;
-        written.as_slice(),
-        "refused: cl line 1: ParamCount\n".as_bytes(),
-        "the text of a program that is cut off"
-    );
+fn scripts_that_are_damaged(rt: HostRuntime) -> Result<(), Fail> {
     for (program, script, text) in SCRIPTS {
         let files = [("A", program), ("S", STOCK), ("F", script)];
-        let (status, written) = answer_over(&rt, alloc, SCRIPTED, &files, &[], &[])?;
+        let (status, written) = answer_over(&rt, rt.alloc(), SCRIPTED, &files, &[], &[])?;
         assert_eq!(rt; status.code(), 3, "the code of {text}");
         assert_eq!(rt; written.as_slice(), text.as_bytes(), "the text of {text}");
     }
