@@ -6,3 +6,4 @@ pub mod Boxes
 pub mod Held
 pub mod Lines
 pub mod Covers
+pub mod Cylinders

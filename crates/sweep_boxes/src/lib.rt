@@ -4,6 +4,7 @@
 mod boxes;
 mod change;
 mod cut;
+mod cylinder;
 mod held;
 mod hold;
 mod line;
@@ -17,4 +18,5 @@ mod size;
 mod vector;
 
 pub use boxes::push_boxes;
+pub use cylinder::BoundingCylinder;
 pub use point_box::PointBox;

@@ -1,0 +1,21 @@
+ghost use Rattle.std.specs.Prelude.{◌*◌, ◌≤◌, ◌^◌, ◌≤ℤ◌, pos, unsigned_abs};
+ghost use Rattle.space.specs.Ranges.{IsWithin};
+ghost use Rattle.sweep_boxes.specs.Limits.{place_limit, side_limit};
+
+/// A cylinder about the tool axis in the middle of a move, wide and high enough that it holds every point of a region at which the move
+/// is possible. The tip and the axis are those in the middle, times `scale`. Of an offset from that tip, times `scale`, the scalar
+/// product with the axis is from `least` to `most`, and the cross product no longer than `moment`.
+#[derive(Drop)]
+pub struct BoundingCylinder {
+    pub scale: u32,
+    pub tip: [i64; 3],
+    pub axis: [i64; 3],
+    pub least: i64,
+    pub most: i64,
+    pub moment: i64,
+    ghost scaled: { (1 ≤ scale) × (scale ≤ 128) },
+    ghost tip_within: { IsWithin (128 * place_limit) tip },
+    ghost axis_within: { IsWithin side_limit axis },
+    ghost moment_some: { pos 0 ≤ℤ moment },
+    ghost moment_small: { unsigned_abs moment ≤ 3 * 10 ^ 18 },
+}
