@@ -1,6 +1,7 @@
 //! Boxes that hold all points which a part of a move may meet.
 #![tactic(auto)]
 
+mod around;
 mod boxes;
 mod change;
 mod cut;
@@ -17,6 +18,7 @@ mod side;
 mod size;
 mod vector;
 
+pub use around::cylinder_of;
 pub use boxes::push_boxes;
 pub use cylinder::BoundingCylinder;
 pub use point_box::PointBox;

@@ -1,0 +1,30 @@
+use Rattle.std.proofs.Common.{◌≡◌, ℤ, List, pos, FitsSigned, rules, subst, sym, ◌∙◌}
+use Rattle.std.proofs.lemmas.Int.{to_z-of_z}
+use mir.Syntax.{w64, w128}
+use Rattle.sweep_boxes.specs.Pieces.{IsHeldOn, offset_from}
+use Rattle.sweep_boxes.proofs.around.cylinder_about.Goals as goal
+
+-- what is held by some numbers is held by the same
+held_same : (least low most high moment far scale : ℤ) (tip t axis a p : List ℤ) → low ≡ least → high ≡ most → far ≡ moment → t ≡ tip → a ≡ axis
+    → IsHeldOn least most moment (offset_from scale tip p) axis → IsHeldOn low high far (offset_from scale t p) a
+held_same least low most high moment far scale tip t axis a p el eh ef et ea held =
+    subst (λ (z : ℤ). IsHeldOn z high far (offset_from scale t p) a) (sym el)
+    (subst (λ (z : ℤ). IsHeldOn least z far (offset_from scale t p) a) (sym eh)
+    (subst (λ (z : ℤ). IsHeldOn least most z (offset_from scale t p) a) (sym ef)
+    (subst (λ (v : List ℤ). IsHeldOn least most moment (offset_from scale v p) a) (sym et)
+    (subst (λ (v : List ℤ). IsHeldOn least most moment (offset_from scale tip p) v) (sym ea) held))))
+
+pub returns : goal.returns
+returns c p held =
+    let hold = c.args.hold.now in
+    let a : FitsSigned w128 hold.least = search rules in
+    let b : FitsSigned w128 hold.most = search rules in
+    let d : FitsSigned w128 hold.moment = search rules in
+    let x : FitsSigned w64 c.short.result = search rules in
+    let y : FitsSigned w64 c.short-2.result = search rules in
+    let z : FitsSigned w64 c.short-3.result = search rules in
+    let l : c.short.result ≡ hold.least = c.short.ensures ∙ to_z-of_z w128 hold.least a in
+    let m : c.short-2.result ≡ hold.most = c.short-2.ensures ∙ to_z-of_z w128 hold.most b in
+    let t : c.short-3.result ≡ hold.moment = c.short-3.ensures ∙ to_z-of_z w128 hold.moment d in
+    simp to_z-of_z (held_same hold.least c.short.result hold.most c.short-2.result hold.moment c.short-3.result (pos c.args.piece.now.scale) c.args.piece.now.tip c.narrow.result
+    c.args.piece.now.axis c.narrow-2.result p l m t c.narrow.ensures c.narrow-2.ensures held)

@@ -1,0 +1,36 @@
+use Rattle.std.proofs.Common.{◌≡◌, true, ◌+◌, ◌^◌, ◌<◌, ℕ, ℤ, List, pos, to_z, of_z, FitsSigned, arith, rules, subst, sym}
+use mir.Syntax.{w32}
+use Rattle.std.proofs.lemmas.Int.{to_z-of_z}
+use Rattle.space.specs.Motion.{Motion}
+use Rattle.space.specs.Reach.{is_in_reach}
+use Rattle.bern_form.specs.Between.{is_left_between}
+use Rattle.bern_form.specs.Slab.{SlabSize}
+use Rattle.cutter_slabs.specs.Stacks.{outer_stack, reach_of}
+use Rattle.sweep_boxes.specs.Pieces.{AreAsLarge}
+use Rattle.sweep_boxes.proofs.Coarse.{LeftPart, left_part, possible_parts}
+use Rattle.sweep_boxes.proofs.around.cylinder_of.Goals as goal
+
+-- of one part there is only the first
+whole : (slabs : List SlabSize) (m : Motion) (p : List ℤ) → LeftPart slabs m p 0 → is_left_between slabs m p 0 (0 + 1) (2 ^ 0) ≡ true
+whole slabs m p here =
+    let within = here.within in let first : here.part ≡ 0 = omega (arith, within) in
+    subst (λ (k : ℕ). is_left_between slabs m p k (k + 1) (2 ^ 0) ≡ true) first here.left
+
+pub returns : goal.returns
+returns c p depth inside possible =
+    let cutter = c.args.stacks.now.cutter in let n = c.args.stacks.now.slabs in let m = c.args.sweep.now in
+    let outer = outer_stack cutter n in
+    let parts = possible_parts cutter n m p (2 ^ depth) possible in
+    let left = whole outer m p (left_part outer m p 0 depth parts.1.0 (omega arith) parts.1.1 parts.1.2) in
+    let large : AreAsLarge c.size_of-size.result.widest c.size_of-size.result.highest outer =
+    subst (AreAsLarge c.size_of-size.result.widest c.size_of-size.result.highest) c.outer.ensures.stack c.size_of-size.ensures.large in
+    let wide : FitsSigned w32 c.size_of-size.result.widest = search rules in
+    let tall : FitsSigned w32 c.size_of-size.result.highest = search rules in
+    let sizes : AreAsLarge (to_z w32 (of_z w32 c.size_of-size.result.widest)) (to_z w32 (of_z w32 c.size_of-size.result.highest)) outer = simp to_z-of_z large in
+    let fits : FitsSigned w32 c.reach.result = search rules in
+    let reached : is_in_reach c.reach.result c.sweep.inside.from c.sweep.inside.to p ≡ true =
+    subst (λ (z : ℤ). is_in_reach z c.sweep.inside.from c.sweep.inside.to p ≡ true) (sym c.reach.ensures.value)
+    (subst (λ (q : Motion). is_in_reach (pos (reach_of cutter)) q.from q.to p ≡ true) (sym c.sweep.view_is) parts.0) in
+    let near = c.near_part-near.ensures.value p inside (simp to_z-of_z reached) in
+    let closer = c.narrowed-closer.ensures.kept m 0 (2 ^ 0) outer p c.piece_of-piece.ensures sizes near left in
+    c.cylinder_about.ensures p (c.hold_in.ensures m 0 (2 ^ 0) outer p c.piece_of-piece.ensures large closer left)
