@@ -1,9 +1,11 @@
--- Ranges of indices outside of which a move is possible nowhere.
+-- Ranges of indices, and cylinders, outside of which a move is possible nowhere.
 use Rattle.std.specs.Prelude.{◌≡◌, true, ℕ, ◌<◌, ◌≤◌, Some, slice_get}
 use Rattle.ray_grid.specs.declared.ray.Family.{Family}
 use Rattle.ray_grid.specs.declared.ray.Ray.{Ray}
 use Rattle.ray_grid.specs.Lattice.{IsRay, point_of, points_of}
 use Rattle.ray_grid.specs.Strips.{strip_at}
+use Rattle.sweep_boxes.specs.declared.cylinder.BoundingCylinder.{BoundingCylinder}
+use Rattle.sweep_boxes.specs.Cylinders.{IsInCylinder}
 use Rattle.job_model.specs.Points.{may_meet}
 use Rattle.job_model.specs.Tasks.{JobMove, PlanOf}
 use Rattle.strip_plan.specs.Plans.{HasNumber}
@@ -33,3 +35,7 @@ pub record IsCommonWindow (plan : PlanOf) (number : ℕ) (family : Family) (wind
 abbrev pub HoldsEntered : PlanOf → JobMove → ℕ → ℕ → ℕ → Type 0
 HoldsEntered plan move strip lo hi =
     (n : ℕ) (ray : Ray) (l : ℕ) → slice_get (strip_at plan.grid strip) n ≡ Some ray → IsPossibleAt plan move ray l → IsFrom lo hi n
+
+-- the cylinder holds each point of the lattice at which the move is possible
+abbrev pub HoldsMet : PlanOf → JobMove → BoundingCylinder → Type 0
+HoldsMet plan move cylinder = (ray : Ray) (l : ℕ) → IsPossibleAt plan move ray l → IsInCylinder cylinder (point_of plan.grid ray l)

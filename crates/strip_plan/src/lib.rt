@@ -4,6 +4,7 @@
 mod bounds;
 mod boxes;
 mod cutters;
+mod cylinders;
 mod index_box;
 mod indexed;
 mod plan;

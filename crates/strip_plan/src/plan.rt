@@ -6,16 +6,18 @@ ghost use Rattle.ray_grid.specs.Lattice.{IsRay, points_of};
 ghost use Rattle.ray_grid.specs.Strips.{strip_at, strips_of};
 ghost use Rattle.job_model.specs.Tasks.{IsPlan, JobMove};
 ghost use Rattle.strip_plan.specs.Plans.{HasNumber, move_in};
-ghost use Rattle.strip_plan.specs.Windows.{HoldsEntered, HoldsPossible, IsCommonWindow};
+ghost use Rattle.strip_plan.specs.Windows.{HoldsEntered, HoldsMet, HoldsPossible, IsCommonWindow};
 
 use crate::boxes::{Boxes, boxes_of};
 use crate::cutters::{Cutters, cutters_of};
+use crate::cylinders::cylinders_of;
 use crate::plan_move::PlanMove;
 use crate::windows::{boxes_ray_window, boxes_strip_window, row};
 use edit_plan::{Edit, Edits};
 use ray_grid::{Family, Grid, Ray};
 use std::alloc::Global;
 use std::marker::Model;
+use sweep_boxes::BoundingCylinder;
 use vf_io::NoMemory;
 use wanted_marks::MoveMarker;
 
@@ -28,6 +30,7 @@ pub struct Plan {
     edits: Edits,
     cutters: Cutters,
     boxes: Boxes,
+    cylinders: Vec<BoundingCylinder>,
 }
 
 impl Model for Plan {
@@ -37,6 +40,7 @@ impl Model for Plan {
     ghost use Rattle.job_model.specs.Tasks.{IsPlan, PlanOf};
     ghost use Rattle.strip_plan.specs.Boxed.{HasBoxes};
     ghost use Rattle.strip_plan.specs.Cutters.{HasStacks};
+    ghost use Rattle.strip_plan.specs.Cylinders.{HasCylinders};
 
     ghost Value = { PlanOf };
 
@@ -47,6 +51,7 @@ impl Model for Plan {
         × HasStacks p.cutters.slabs p.moves.items p.cutters.stacks.items p.cutters.places.items (length p.moves.items)
         × HasBoxes p.grid p.cutters.slabs p.depth p.moves.items p.boxes.hulls.items p.boxes.boxes.items p.boxes.starts.items
         (length p.moves.items)
+        × HasCylinders p.grid p.cutters.slabs p.depth p.moves.items p.cylinders.items (length p.moves.items)
         × IsPlan record { grid = p.grid; slabs = p.cutters.slabs; depth = p.depth; moves = p.moves.items; edits = p.edits } };
 }
 
@@ -70,6 +75,7 @@ impl Plan {
     {
         let cutters = cutters_of(alloc, &moves, slabs)?;
         let boxes = boxes_of(alloc, &grid, depth, &moves, &cutters)?;
+        let cylinders = cylinders_of(alloc, &grid, &moves, &cutters)?;
         Ok(Plan {
             grid,
             depth,
@@ -77,6 +83,7 @@ impl Plan {
             edits,
             cutters,
             boxes,
+            cylinders,
         })
     }
 
@@ -177,6 +184,14 @@ impl Plan {
             return None;
         }
         Some(self.boxes.hulls[number as usize].along(family))
+    }
+
+    /// The cylinder that holds the points of the lattice at which a move is possible.
+    pub fn cylinder(&self, number: u32) -> &BoundingCylinder
+        requires { number < length self.now.moves }
+        ensures { (move : JobMove) → HasNumber self.now number move → HoldsMet self.now move result.now }
+    {
+        &self.cylinders[number as usize]
     }
 
     /// From the one number of a strip's rays to the other stand all with a point at which a move is possible. The second is
