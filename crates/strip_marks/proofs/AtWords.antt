@@ -1,8 +1,8 @@
 -- A move that is asked about the wanted points of its window in a word alone changes and finds there what it would if it were asked
 -- about all.
-use Rattle.std.proofs.Common.{◌≡◌, ℕ, ◌+◌, ◌-◌, ◌*◌, ◌<◌, ◌≤◌, Bool, true, false, not, ◌&&◌, ◌||◌, IsTrue, length, arith, refl, sym, ap, ap₂, ◌∙◌, ◌⊎◌, inl, inr, ⊎_elim, leb, ltb}
+use Rattle.std.proofs.Common.{◌≡◌, ℕ, ◌+◌, ◌-◌, ◌*◌, ◌<◌, ◌≤◌, Bool, true, false, not, ◌&&◌, ◌||◌, IsTrue, length, arith, refl, sym, subst, ap, ap₂, ◌∙◌, ◌⊎◌, inl, inr, ⊎_elim, leb, ltb}
 use Rattle.std.specs.List.{range_with_len}
-use Rattle.std.proofs.lemmas.Bool.{and_parts, and_right, cases_lt, false_from_ne_true, le-leb, le-ltb, lt-leb, lt-ltb}
+use Rattle.std.proofs.lemmas.Bool.{and_parts, and_right, cases_Bool, cases_lt, false_from_ne_true, le-leb, le-ltb, lt-leb, lt-ltb}
 use borrow.Author.Tests.{ltb-true}
 use Rattle.vf_spans.specs.Members.{has, in_range}
 use Rattle.vf_spans.specs.Words.{has_bit}
@@ -21,10 +21,11 @@ use Rattle.dexel_rays.proofs.WordLaws.{agree_found, asked_word}
 use Rattle.ray_words.specs.Rays.{IsBelow, IsWordAt, is_wanted_at}
 use Rattle.wanted_marks.specs.Rays.{AreOnRay, RayOf, is_possible_at, is_sure_at, is_sure_bit, is_told_at, is_told_bit}
 use Rattle.strip_marks.specs.Marks.{seen_on}
-use Rattle.strip_marks.specs.RayMarks.{IsWindow}
+use Rattle.near_points.specs.Rays.{NearRayOf}
+use Rattle.strip_marks.specs.RayMarks.{AreAsked, AreAskedIn, HasNoneAhead, HasNoneAsked, IsAskedAt, IsIdle, IsNearOf, IsWindow}
 use Rattle.strip_marks.specs.Words.{AreSetsOf}
 use Rattle.strip_marks.proofs.Counting.{found_as, found_none, inside_or}
-use Rattle.strip_marks.proofs.Idle.{IsIdle, none_of_three, past, unmarked_meets_none}
+use Rattle.strip_marks.proofs.Idle.{none_of_three, past, unmarked_meets_none}
 
 left_of : (x y : Bool) → (x && y) ≡ true → x ≡ true
 left_of x y h = (and_parts x y h).0
@@ -71,11 +72,11 @@ idle_at r d lo hi l h w none lt =
     (λ out. inr (not_sure_beside r lo hi l w point out, not_possible_beside r lo hi l w point out))
 
 -- the bits are the wanted indices of the window
-abbrev pub AreAsked : Sets → ℕ → ℕ → ℕ → ℕ → Type 0
-AreAsked d n lo hi wanted = (b : ℕ) → b < 64 → has_bit wanted b ≡ (is_wanted_at d (64 * n + b) && in_range (64 * n + b) (lo, hi))
+abbrev pub AreWantedIn : Sets → ℕ → ℕ → ℕ → ℕ → Type 0
+AreWantedIn d n lo hi wanted = (b : ℕ) → b < 64 → has_bit wanted b ≡ (is_wanted_at d (64 * n + b) && in_range (64 * n + b) (lo, hi))
 
 -- where there is no bit, none is wanted
-pub none_wanted : (d : Sets) (n lo hi wanted : ℕ) → AreAsked d n lo hi wanted → wanted ≡ 0 → (l : ℕ) → 64 * n ≤ l → l < 64 * (n + 1)
+pub none_wanted : (d : Sets) (n lo hi wanted : ℕ) → AreWantedIn d n lo hi wanted → wanted ≡ 0 → (l : ℕ) → 64 * n ≤ l → l < 64 * (n + 1)
     → in_range l (lo, hi) ≡ true → is_wanted_at d l ≡ false
 none_wanted d n lo hi wanted is zero l ge lt t =
     let e : 64 * n + (l - 64 * n) ≡ l = omega arith in
@@ -84,12 +85,56 @@ none_wanted d n lo hi wanted is zero l ge lt t =
     ∙ sym (is (l - 64 * n) (omega arith))
     ∙ unmarked_bit wanted (l - 64 * n) zero
 
--- the bits are points of the ray
-pub wanted_on_ray : (r : RayOf) (d : Sets) (n lo hi wanted : ℕ) → IsWindow r lo hi → AreAsked d n lo hi wanted
-    → AreOnRay r (64 * n) wanted
-wanted_on_ray r d n lo hi wanted w is b lt t =
-    let both = and_parts (is_wanted_at d (64 * n + b)) (in_range (64 * n + b) (lo, hi)) (sym (is b lt) ∙ t) in
-    omega (arith, in_range_below lo hi (64 * n + b) both.1, w.within)
+-- ahead of a word ahead of which no point of the window is wanted there is none that the move is asked about
+pub unwanted_ahead : (near : NearRayOf) (d : Sets) (window : ℕ × ℕ) (word : ℕ) → HasNoneAhead d window word → HasNoneAsked near d window word
+unwanted_ahead near d window word ahead = record {
+  from = ahead.from;
+  to = ahead.to;
+  none = λ l lt at. let no = ahead.none l lt at.in_window in let yes = at.wanted in cc;
+}
+
+-- where no bit is set the move is asked about none of the word
+pub none_asked : (near : NearRayOf) (d : Sets) (window : ℕ × ℕ) (n asked : ℕ) → AreAskedIn near d window n asked → asked ≡ 0 → (l : ℕ) → 64 * n ≤ l
+    → l < 64 * (n + 1) → ¬ IsAskedAt near d window l
+none_asked near d window n asked is zero l ge lt at =
+    let e : l ≡ 64 * n + (l - 64 * n) = omega arith in
+    let here = subst (IsAskedAt near d window) e at in
+    let yes = (is (l - 64 * n) (omega arith)).1 here in
+    let no = unmarked_bit asked (l - 64 * n) zero in cc
+
+-- an index of the ray that the move isn't asked about, by its cylinder
+pub idle_unasked : (near : NearRayOf) (r : RayOf) (d : Sets) (lo hi l : ℕ) → AreSetsOf r d → IsWindow r lo hi → IsNearOf near r → l < length d.stock
+    → ¬ IsAskedAt near d (lo, hi) l → IsIdle d (is_sure_at r) (is_possible_at r) l
+idle_unasked near r d lo hi l h w of lt none =
+    let point : l < points_of r.grid r.ray.family = omega (arith, h.bound.stock) in
+    ⊎_elim
+    (λ (yes : is_wanted_at d l ≡ true).
+    inside_or lo hi l (IsIdle d (is_sure_at r) (is_possible_at r) l)
+    (λ ge less.
+    let clear : is_possible_at r l ≡ false =
+    false_from_ne_true (is_possible_at r l)
+    (λ t. none (record { wanted = yes; in_window = inside lo hi l ge less; held = of.holds l point t })) in
+    inr (false_from_ne_true (is_sure_at r l) (λ t. let both = w.both l t in cc), clear))
+    (λ out. inr (not_sure_beside r lo hi l w point out, not_possible_beside r lo hi l w point out)))
+    (λ (no : is_wanted_at d l ≡ false). inl no)
+    (cases_Bool (is_wanted_at d l))
+
+-- the bits that the move is asked about are wanted points of the ray, and the others idle
+pub asked_of : (near : NearRayOf) (r : RayOf) (d : Sets) (n lo hi asked : ℕ) → AreSetsOf r d → IsWindow r lo hi → IsNearOf near r
+    → AreAskedIn near d (lo, hi) n asked → AreAsked r d n asked
+asked_of near r d n lo hi asked h w of is = record {
+  on_ray = λ b lt t. let at = (is b lt).0 t in omega (arith, in_range_below lo hi (64 * n + b) at.in_window, w.within);
+  wanted = λ b lt t. ((is b lt).0 t).wanted;
+  others = λ b lt below no. idle_unasked near r d lo hi (64 * n + b) h w of below (λ at. let yes = (is b lt).1 at in cc);
+}
+
+-- where no bit is set every point of the word is idle
+pub all_idle : (r : RayOf) (d : Sets) (n asked : ℕ) → AreAsked r d n asked → asked ≡ 0 → (l : ℕ) → 64 * n ≤ l → l < 64 * (n + 1)
+    → l < length d.stock → IsIdle d (is_sure_at r) (is_possible_at r) l
+all_idle r d n asked is zero l ge lt within =
+    let e : 64 * n + (l - 64 * n) ≡ l = omega arith in
+    subst (IsIdle d (is_sure_at r) (is_possible_at r)) e
+    (is.others (l - 64 * n) (omega arith) (omega arith) (unmarked_bit asked (l - 64 * n) zero))
 
 -- where no bit is marked nothing is new, and nothing is found
 nothing : (word b : ℕ) (mark : Bool) → word ≡ 0 → has_bit 0 b ≡ (has_bit word b && mark)
@@ -119,7 +164,7 @@ pub record IsWordMarked (d : Sets) (sure possible : ℕ → Bool) (rapid : Bool)
   pub possible_below : IsBelow (length d.stock) n delta.possible
   pub found : counts ≡ findings (seen_on d sure possible rapid) (range_with_len (64 * n) 64)
 
-module _ (r : RayOf) (d : Sets) (n lo hi : ℕ) (w : WordSets) (h : AreSetsOf r d) (window : IsWindow r lo hi) (at : IsWordAt d n w) where
+module _ (r : RayOf) (d : Sets) (n : ℕ) (w : WordSets) (h : AreSetsOf r d) (at : IsWordAt d n w) where
   ordered : SureIsPossible w
   ordered b lt t = at.possible b lt ∙ h.ordered (64 * n + b) (sym (at.sure b lt) ∙ t)
 
@@ -149,36 +194,33 @@ module _ (r : RayOf) (d : Sets) (n lo hi : ℕ) (w : WordSets) (h : AreSetsOf r 
   same_wanted : (b : ℕ) → b < 64 → is_wanted_at d (64 * n + b) ≡ is_wanted (seen_bit w 0 0 false b)
   same_wanted b lt = sym (λ i. at.part b lt i || (at.fixture b lt i || not (at.sure b lt i)))
 
-  module _ (wanted only sure possible : ℕ) (rapid : Bool) (is_asked : AreAsked d n lo hi wanted)
+  module _ (wanted only sure possible : ℕ) (rapid : Bool) (is_asked : AreAsked r d n wanted)
       (is_only : (b : ℕ) → b < 64 → has_bit only b ≡ is_sure_only (seen_bit w 0 0 rapid b))
       (is_sure : (b : ℕ) → b < 64 → has_bit sure b ≡ is_sure_bit r (64 * n) wanted b)
       (is_told : (b : ℕ) → b < 64 → has_bit possible b ≡ is_told_bit r (64 * n) wanted only b) where
-    -- a bit beside the window isn't wanted
-    unasked : (b : ℕ) → b < 64 → (64 * n + b < lo) ⊎ (hi ≤ 64 * n + b) → has_bit wanted b ≡ false
-    unasked b lt out =
-        is_asked b lt ∙ ap (λ x. is_wanted_at d (64 * n + b) && x) (beside lo hi (64 * n + b) out)
-        ∙ and_right (is_wanted_at d (64 * n + b)) false refl
+    -- a point whose bit says whether it is wanted is marked as it is by all marks
+    told : (b : ℕ) → b < 64 → has_bit wanted b ≡ is_wanted_at d (64 * n + b)
+        → Agree (seen_by w (λ k. is_sure_at r (64 * n + k)) (λ k. is_possible_at r (64 * n + k)) rapid b) (has_bit sure b)
+        (has_bit possible b)
+    told b lt e =
+        asked_word w wanted only sure possible (λ k. is_sure_at r (64 * n + k)) (λ k. is_possible_at r (64 * n + k)) rapid b
+        (e ∙ same_wanted b lt) (is_only b lt) (is_sure b lt) (is_told b lt)
 
-    -- at each point of the ray the marks agree with all marks: beside the window there are none
+    -- at each point of the ray the marks agree with all marks: at an idle one there are none
     agree : (b : ℕ) → b < 64 → 64 * n + b < length d.stock
         → Agree (seen_by w (λ k. is_sure_at r (64 * n + k)) (λ k. is_possible_at r (64 * n + k)) rapid b) (has_bit sure b)
         (has_bit possible b)
     agree b lt below =
         let l = 64 * n + b in
-        let point : l < points_of r.grid r.ray.family = omega (arith, h.bound.stock) in
-        inside_or lo hi l
-        (Agree (seen_by w (λ k. is_sure_at r (64 * n + k)) (λ k. is_possible_at r (64 * n + k)) rapid b) (has_bit sure b)
-        (has_bit possible b))
-        (λ ge less. asked_word w wanted only sure possible (λ k. is_sure_at r (64 * n + k)) (λ k. is_possible_at r (64 * n + k)) rapid b
-        (is_asked b lt ∙ and_yes (is_wanted_at d l) (in_range l (lo, hi)) (inside lo hi l ge less) ∙ same_wanted b lt)
-        (is_only b lt) (is_sure b lt) (is_told b lt))
-        (λ out. record {
-          same_sure = λ t.
-              is_sure b lt ∙ ap (λ x. x && is_sure_at r l) (unasked b lt out) ∙ sym (not_sure_beside r lo hi l window point out);
-          same_possible = λ t o.
-              is_told b lt ∙ ap (λ x. x && is_told_at r (has_bit only b) l) (unasked b lt out)
-              ∙ sym (not_possible_beside r lo hi l window point out);
+        ⊎_elim (λ (yes : has_bit wanted b ≡ true). told b lt (yes ∙ sym (is_asked.wanted b lt yes)))
+        (λ (no : has_bit wanted b ≡ false).
+        ⊎_elim (λ (unwanted : is_wanted_at d l ≡ false). told b lt (no ∙ sym unwanted))
+        (λ (none : (is_sure_at r l ≡ false) × (is_possible_at r l ≡ false)). record {
+          same_sure = λ t. is_sure b lt ∙ ap (λ x. x && is_sure_at r l) no ∙ sym none.0;
+          same_possible = λ t o. is_told b lt ∙ ap (λ x. x && is_told_at r (has_bit only b) l) no ∙ sym none.1;
         })
+        (is_asked.others b lt below no))
+        (cases_Bool (has_bit wanted b))
 
     each : (b : ℕ) → b < 64
         → Agree (seen_by w (λ k. is_sure_at r (64 * n + k)) (λ k. is_possible_at r (64 * n + k)) rapid b) (has_bit sure b)
@@ -201,7 +243,7 @@ module _ (r : RayOf) (d : Sets) (n lo hi : ℕ) (w : WordSets) (h : AreSetsOf r 
         ∙ same_seen (is_sure_at r) (is_possible_at r) rapid b lt))
 
     on_ray : (b : ℕ) → b < 64 → has_bit wanted b ≡ true → 64 * n + b < length d.stock
-    on_ray b lt t = omega (arith, wanted_on_ray r d n lo hi wanted window is_asked b lt t, h.bound.stock)
+    on_ray b lt t = omega (arith, is_asked.on_ray b lt t, h.bound.stock)
 
     pub word_marked : (delta : WordDelta) (counts : Counts) → IsWordDelta w sure possible delta
         → counts ≡ findings (seen_bit w sure possible rapid) (range_with_len 0 64)

@@ -10,7 +10,7 @@ use Rattle.dexel_rays.specs.Sets.{HaveBound, Sets}
 use Rattle.dexel_rays.proofs.Laws.{no_more, outside_meets_none, point, settled_meets_none}
 use Rattle.ray_words.specs.Rays.{KeptSets, is_wanted_at}
 use Rattle.strip_marks.specs.Marks.{seen_on}
-use Rattle.strip_marks.specs.RayMarks.{AreWordsMarked, IsChangeIn, IsChangeOf, IsRayMarked}
+use Rattle.strip_marks.specs.RayMarks.{AreWordsMarked, IsChangeIn, IsChangeOf, IsIdle, IsRayMarked}
 use Rattle.strip_marks.proofs.Counting.{found_none}
 use Rattle.strip_marks.proofs.Lists.{order_few}
 
@@ -60,10 +60,6 @@ settled false true sure possible e i = cc
 settled false false false possible e i = cc
 settled false false true true e i = record { sure_before = refl; possible_before = refl; neither = refl }
 settled false false true false e i = let none = i refl in cc
-
--- the index isn't wanted, or the move is neither sure nor possible there
-abbrev pub IsIdle : Sets → (ℕ → Bool) → (ℕ → Bool) → ℕ → Type 0
-IsIdle d sure possible l = (is_wanted_at d l ≡ false) ⊎ ((sure l ≡ false) × (possible l ≡ false))
 
 module _ (d : Sets) (sure possible : ℕ → Bool) (rapid : Bool) (ordered : (l : ℕ) → has d.sure l ≡ true → has d.possible l ≡ true) where
   settled_at : (l : ℕ) → is_wanted_at d l ≡ false → IsSettled (has d.part l) (has d.fixture l) (has d.sure l) (has d.possible l)

@@ -23,20 +23,6 @@ pub sets_for : (plan : PlanOf) (move : JobMove) (strip n : ℕ) (r : RayOf) (ray
     → AreSetsAt plan.grid strip n ray.sets → AreSetsOf r ray.sets
 sets_for plan move strip n r ray e h = subst (λ (x : RayOf). AreSetsOf x ray.sets) (sym e) (record { bound = h.bound; ordered = h.ordered })
 
--- on a ray with no wanted point in its window the move changes nothing
-pub untouched : (plan : PlanOf) (move : JobMove) (strip n lo hi first : ℕ) (ray : KeptSets) (marked : Marked)
-    → AreSetsAt plan.grid strip n ray.sets → IsWindow (move_on plan move strip n) lo hi → HasNoneAhead ray.sets (lo, hi) first
-    → words_below hi ≤ first → length ray.sets.stock < 2 ^ 32
-    → Adds marked marked (λ added found. IsRayMarked ray (sure_there plan move strip n)
-    (possible_there plan move strip n) move.rapid n added found)
-untouched plan move strip n lo hi first ray marked h w ahead le few =
-    let sets = sets_for plan move strip n (move_on plan move strip n) ray refl h in
-    adds_none marked
-    (λ added found. IsRayMarked ray (sure_there plan move strip n) (possible_there plan move strip n) move.rapid n added found)
-    (idle_ray ray (sure_there plan move strip n) (possible_there plan move strip n) move.rapid n h.ordered few
-    (λ l lt. idle_at (move_on plan move strip n) ray.sets lo hi l sets w
-    (λ t. ahead.none l (omega (arith, in_range_below lo hi l t)) t) lt))
-
 -- what is marked by the move ready for the ray is what the move marks there
 pub marked_by : (plan : PlanOf) (move : JobMove) (strip n : ℕ) (r : RayOf) (rapid : Bool) (ray : KeptSets) (before after : Marked)
     → r ≡ move_on plan move strip n → rapid ≡ move.rapid

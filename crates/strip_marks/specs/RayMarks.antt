@@ -1,16 +1,18 @@
 -- What a move changes on a ray, and what it finds there.
-use Rattle.std.specs.Prelude.{◌≡◌, ℕ, ◌-◌, ◌*◌, ◌/◌, ◌<◌, ◌≤◌, ◌^◌, true, false, Bool, not, ◌&&◌, List, ◌++◌, length, slice_index_or, All}
+use Rattle.std.specs.Prelude.{◌≡◌, ℕ, ◌+◌, ◌-◌, ◌*◌, ◌/◌, ◌<◌, ◌≤◌, ◌^◌, ◌⊎◌, ◌↔◌, true, false, Bool, not, ◌&&◌, List, ◌++◌, length, slice_index_or, All}
 use Rattle.std.specs.List.{range_with_len}
 use Rattle.vf_spans.specs.Members.{has, in_range}
-use Rattle.vf_spans.specs.Words.{words_below}
+use Rattle.vf_spans.specs.Words.{has_bit, words_below}
+use Rattle.near_points.specs.Rays.{IsHeldAt, NearRayOf}
 use Rattle.ray_grid.specs.Lattice.{points_of}
 use Rattle.job_facts.specs.declared.counts.Counts.{Counts}
 use Rattle.job_facts.specs.Counts.{AreWithin, most_count, plus}
 use Rattle.dexel_rays.specs.Findings.{findings}
 use Rattle.dexel_rays.specs.Sets.{Sets}
 use Rattle.ray_words.specs.Rays.{IsBelow, IsKept, KeptSets, is_wanted_at}
-use Rattle.wanted_marks.specs.Rays.{RayOf, is_possible_at, is_sure_at}
+use Rattle.wanted_marks.specs.Rays.{AreOnRay, RayOf, is_possible_at, is_sure_at}
 use Rattle.strip_plan.specs.Windows.{IsFrom}
+use Rattle.strip_marks.specs.declared.asked_word.AskedWord.{AskedWord}
 use Rattle.strip_marks.specs.declared.change.WordChange.{WordChange}
 use Rattle.strip_marks.specs.declared.marked.Marked.{Marked}
 use Rattle.strip_marks.specs.Marks.{AreInOrder, among, possible_of, seen_on, sure_of}
@@ -32,6 +34,49 @@ pub record HasNoneAhead (d : Sets) (window : ℕ × ℕ) (word : ℕ) : Type 0 w
   pub from : window.0 / 64 ≤ word
   pub to : word ≤ words_below window.1
   pub none : (l : ℕ) → l < 64 * word → in_range l window ≡ true → is_wanted_at d l ≡ false
+
+-- an index that a move is asked about: it is wanted, it lies in the move's window, and the move's cylinder holds its point
+pub record IsAskedAt (near : NearRayOf) (d : Sets) (window : ℕ × ℕ) (l : ℕ) : Type 0 where
+  pub wanted : is_wanted_at d l ≡ true
+  pub in_window : in_range l window ≡ true
+  pub held : IsHeldAt near l
+
+-- there is no such index
+abbrev pub IsUnasked : NearRayOf → Sets → ℕ × ℕ → Type 0
+IsUnasked near d window = (l : ℕ) → IsAskedAt near d window l → ⊥
+
+-- bit b of a word is set where the move is asked about the index 64 n + b
+abbrev pub AreAskedIn : NearRayOf → Sets → ℕ × ℕ → ℕ → ℕ → Type 0
+AreAskedIn near d window n asked = (b : ℕ) → b < 64 → (has_bit asked b ≡ true) ↔ IsAskedAt near d window (64 * n + b)
+
+-- ahead of a word of the window there is no such index
+pub record HasNoneAsked (near : NearRayOf) (d : Sets) (window : ℕ × ℕ) (word : ℕ) : Type 0 where
+  pub from : window.0 / 64 ≤ word
+  pub to : word ≤ words_below window.1
+  pub none : (l : ℕ) → l < 64 * word → IsAskedAt near d window l → ⊥
+
+-- the first word with such an index, and its bits
+pub record IsFirstAsked (near : NearRayOf) (d : Sets) (window : ℕ × ℕ) (first : AskedWord) : Type 0 where
+  pub ahead : HasNoneAsked near d window first.word
+  pub inside : 64 * first.word < window.1
+  pub asked : AreAskedIn near d window first.word first.points
+
+-- the cylinder is one on the same ray, and it holds each point at which the move is possible
+pub record IsNearOf (near : NearRayOf) (r : RayOf) : Type 0 where
+  pub grid : near.grid ≡ r.grid
+  pub ray : near.ray ≡ r.ray
+  pub holds : (l : ℕ) → l < points_of r.grid r.ray.family → is_possible_at r l ≡ true → IsHeldAt near l
+
+-- the index isn't wanted, or the move is neither sure nor possible there
+abbrev pub IsIdle : Sets → (ℕ → Bool) → (ℕ → Bool) → ℕ → Type 0
+IsIdle d sure possible l = (is_wanted_at d l ≡ false) ⊎ ((sure l ≡ false) × (possible l ≡ false))
+
+-- the bits of word n are wanted points of the ray, and every other point of the word is idle
+pub record AreAsked (r : RayOf) (d : Sets) (n asked : ℕ) : Type 0 where
+  pub on_ray : AreOnRay r (64 * n) asked
+  pub wanted : (b : ℕ) → b < 64 → has_bit asked b ≡ true → is_wanted_at d (64 * n + b) ≡ true
+  pub others : (b : ℕ) → b < 64 → 64 * n + b < length d.stock → has_bit asked b ≡ false
+      → IsIdle d (is_sure_at r) (is_possible_at r) (64 * n + b)
 
 -- a change of ray n, which has so many points, at one of the words from the one on and below the other; it has only points of the ray
 pub record IsChangeIn (bound n lo hi : ℕ) (change : WordChange) : Type 0 where

@@ -1,6 +1,8 @@
 //! What a move changes on the rays of a strip, and what it finds there.
 #![tactic(auto)]
 
+mod asked;
+mod asked_word;
 mod change;
 mod marked;
 mod ray;

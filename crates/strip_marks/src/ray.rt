@@ -1,12 +1,17 @@
 ghost use Rattle.std.specs.Prelude.{◌≡◌, ◌/◌, ◌^◌, ◌≤◌, OnOk, All, length};
+ghost use Rattle.std.specs.Option.{IfNone, IfSome};
 ghost use Rattle.vf_spans.specs.Words.{words_below};
+ghost use Rattle.ray_grid.specs.Lattice.{points_of};
 ghost use Rattle.wanted_marks.specs.Rays.{is_possible_at, is_sure_at};
 ghost use Rattle.strip_marks.specs.Words.{AreSetsOf};
-ghost use Rattle.strip_marks.specs.RayMarks.{Adds, AreWordsMarked, CanCount, HasNoneAhead, HasSameSets, HaveWordsBelow, IsAtKept, IsRayMarked, IsWindow};
+ghost use Rattle.strip_marks.specs.RayMarks.{Adds, AreWordsMarked, CanCount, HasNoneAhead, HasNoneAsked, HasSameSets};
+ghost use Rattle.strip_marks.specs.RayMarks.{HaveWordsBelow, IsAtKept, IsFirstAsked, IsNearOf, IsRayMarked, IsWindow};
 
+use crate::asked_word::AskedWord;
 use crate::change::WordChange;
 use crate::marked::Marked;
-use crate::word::{mark_word, wanted_in};
+use crate::word::{asked_in, mark_word, wanted_in};
+use near_points::NearRay;
 use ray_words::WordRay;
 use vf_io::NoMemory;
 use wanted_marks::RayMarker;
@@ -27,26 +32,51 @@ pub fn first_wanted(ray: &WordRay, window: (u32, u32)) -> u32
     end
 }
 
-/// Takes in what a move changes on ray n from a word on, ahead of which no point of its window is wanted, and what it finds there.
+/// The first word from one on with points that a move is asked about, if there is one; ahead of it no point of the window is wanted.
+pub fn first_asked(
+    near: &NearRay<'_>,
+    ray: &WordRay,
+    first: u32,
+    window: (u32, u32),
+) -> Option<AskedWord>
+    requires on { window.1 ≤ points_of near.now.grid near.now.ray.family }
+    requires first { HasNoneAhead ray.now.sets window first }
+    ensures none { IfNone result (HasNoneAsked near.now ray.now.sets window (words_below window.1)) }
+    ensures some { IfSome result (IsFirstAsked near.now ray.now.sets window) }
+{
+    for word in first..window.1.div_ceil(64) {
+        let points = asked_in(near, ray, word, window);
+        if points != 0 {
+            return Some(AskedWord { word, points });
+        }
+    }
+    None
+}
+
+/// Takes in what a move changes on ray n, and what it finds there, from the first word on with points that it is asked about.
 fn mark_words(
     marker: &RayMarker<'_>,
+    near: &NearRay<'_>,
     ray: &WordRay,
     n: u32,
-    first: u32,
+    first: AskedWord,
     window: (u32, u32),
     rapid: bool,
     marked: &mut Marked,
 ) -> Result<(), NoMemory>
     requires ray { AreSetsOf marker.now ray.now.sets }
     requires window { IsWindow marker.now window.0 window.1 }
-    requires first { HasNoneAhead ray.now.sets window first }
+    requires near { IsNearOf near.now marker.now }
+    requires first { IsFirstAsked near.now ray.now.sets window first }
     requires room { CanCount (2 ^ 33) marked.old.counts }
     ensures { OnOk result (Adds marked.old marked.new (λ added found.
         AreWordsMarked ray.now.sets (is_sure_at marker.now) (is_possible_at marker.now) rapid n (window.0 / 64) (words_below window.1)
         added found)) }
 {
-    for word in first..window.1.div_ceil(64) {
-        mark_word(marker, ray, n, word, window, rapid, marked)?;
+    mark_word(marker, ray, n, first, rapid, marked)?;
+    for word in first.word + 1..window.1.div_ceil(64) {
+        let points = asked_in(near, ray, word, window);
+        mark_word(marker, ray, n, AskedWord { word, points }, rapid, marked)?;
     }
     Ok(())
 }
@@ -66,20 +96,22 @@ fn keep_changed(ray: &mut WordRay, changes: &[WordChange]) -> Result<(), NoMemor
     Ok(())
 }
 
-/// Takes in what a move changes on ray n, and what it finds there, from the first word on with a wanted point of its window. Each
+/// Takes in what a move changes on ray n, and what it finds there, from the first word on with points that it is asked about. Each
 /// word that changes is kept from then on.
 pub fn mark_ray(
     marker: &RayMarker<'_>,
+    near: &NearRay<'_>,
     ray: &mut WordRay,
     n: u32,
-    first: u32,
+    first: AskedWord,
     window: (u32, u32),
     rapid: bool,
     marked: &mut Marked,
 ) -> Result<(), NoMemory>
     requires ray { AreSetsOf marker.now ray.old.sets }
     requires window { IsWindow marker.now window.0 window.1 }
-    requires first { HasNoneAhead ray.old.sets window first }
+    requires near { IsNearOf near.now marker.now }
+    requires first { IsFirstAsked near.now ray.old.sets window first }
     requires room { CanCount (2 ^ 33) marked.old.counts }
     ensures same { HasSameSets ray.old ray.new }
     ensures marked { OnOk result (Adds marked.old marked.new (λ added found.
@@ -88,7 +120,7 @@ pub fn mark_ray(
     // The bound fits.
     let _bound = ray.bound();
     let start = marked.changes.len();
-    mark_words(marker, ray, n, first, window, rapid, marked)?;
+    mark_words(marker, near, ray, n, first, window, rapid, marked)?;
     keep_changed(ray, &marked.changes.as_slice()[start..])?;
     Ok(())
 }

@@ -1,25 +1,29 @@
-ghost use Rattle.std.specs.Prelude.{◌≡◌, ◌<◌, ◌≤◌, ◌^◌, IfOk, OnOk, length};
+ghost use Rattle.std.specs.Prelude.{◌≡◌, [], ◌<◌, ◌≤◌, ◌^◌, IfOk, OnOk, length};
+ghost use Rattle.job_facts.specs.Counts.{no_counts};
 ghost use Rattle.ray_grid.specs.Strips.{strip_at, strips_of};
 ghost use Rattle.job_model.specs.Tasks.{IsPlan, JobMove};
 ghost use Rattle.strip_plan.specs.Plans.{HasNumber};
 ghost use Rattle.strip_marks.specs.Marks.{AreRays, HaveSameSets, IsMarkedStrip, possible_there, sure_there};
 ghost use Rattle.strip_marks.specs.RayMarks.{Adds, CanCount, HasSameSets, IsRayMarked};
-ghost use Rattle.strip_marks.specs.RowMarks.{AreRaysMarked, AreSetsAt, IsMarkerOf, IsShared};
+ghost use Rattle.strip_marks.specs.RowMarks.{AreRaysMarked, AreSetsAt, IsMarkerOf, IsNearStripOf, IsShared};
 
+use crate::asked::asked_on;
 use crate::marked::Marked;
-use crate::ray::{first_wanted, mark_ray};
+use crate::ray::mark_ray;
 use crate::shared::{Shared, shared_by, window_at};
 use job_facts::Counts;
+use near_points::NearStrip;
 use ray_words::WordRay;
 use std::alloc::Global;
 use strip_plan::Plan;
 use vf_io::NoMemory;
 use wanted_marks::StripMarker;
 
-/// Takes in what the move changes on ray n of the strip, and what it finds there. A ray with no wanted point in its window isn't made
+/// Takes in what the move changes on ray n of the strip, and what it finds there. A ray on which it is asked about no point isn't made
 /// ready for marks.
 fn mark_at<'x>(
     marker: &'x StripMarker<'x>,
+    near: &'x NearStrip<'x>,
     ray: &mut WordRay,
     plan: &Plan,
     number: u32,
@@ -34,6 +38,7 @@ fn mark_at<'x>(
     requires n { n < length (strip_at plan.now.grid strip) }
     requires ray { AreSetsAt plan.now.grid strip n ray.old.sets }
     requires marker { IsMarkerOf plan.now number strip marker.now }
+    requires near { IsNearStripOf plan.now number strip near.now }
     requires shared { IsShared plan.now number marker.now.family shared }
     requires room { CanCount (2 ^ 33) marked.old.counts }
     ensures same { HasSameSets ray.old ray.new }
@@ -43,17 +48,63 @@ fn mark_at<'x>(
     // The bound fits.
     let _bound = ray.bound();
     let window = window_at(shared.window, plan, number, strip, n);
-    let first = first_wanted(ray, window);
-    if window.1.div_ceil(64) <= first {
-        return Ok(());
+    match asked_on(near, ray, n, window) {
+        None => Ok(()),
+        Some(asked) => {
+            let on_ray = marker.on_ray(n);
+            mark_ray(
+                &on_ray,
+                &asked.near,
+                ray,
+                n,
+                asked.first,
+                window,
+                shared.rapid,
+                marked,
+            )?;
+            Ok(())
+        }
     }
-    let on_ray = marker.on_ray(n);
-    mark_ray(&on_ray, ray, n, first, window, shared.rapid, marked)?;
-    Ok(())
+}
+
+/// The first ray of a strip, from the one number on and below the other, on which a move is asked about a point, or else that other
+/// number: on the rays ahead of it the move changes and finds nothing.
+fn first_ray<'x>(
+    near: &'x NearStrip<'x>,
+    rays: &[WordRay],
+    plan: &Plan,
+    number: u32,
+    strip: u32,
+    shared: Shared,
+    window: (u32, u32),
+) -> u32
+    requires plan { IsPlan plan.now }
+    requires number { number < length plan.now.moves }
+    requires strip { strip < length (strips_of plan.now.grid) }
+    requires rays { AreRays plan.now.grid strip rays.now }
+    requires near { IsNearStripOf plan.now number strip near.now }
+    requires shared { IsShared plan.now number near.now.family shared }
+    requires order { window.0 ≤ window.1 }
+    requires within { window.1 ≤ length rays.now }
+    ensures from { window.0 ≤ result }
+    ensures to { result ≤ window.1 }
+    ensures nothing { (move : JobMove) → HasNumber plan.now number move
+        → AreRaysMarked plan.now move strip rays.now rays.now window.0 result [] no_counts }
+{
+    for n in window.0..window.1 {
+        let ray = &rays[n as usize];
+        // The bound fits.
+        let _bound = ray.bound();
+        let span = window_at(shared.window, plan, number, strip, n);
+        if let Some(_asked) = asked_on(near, ray, n, span) {
+            return n;
+        }
+    }
+    window.1
 }
 
 /// What the move changes on the rays of the strip from the one number on and below the other, and what it finds there. A move
-/// enters few strips, so this stands apart from `mark_strip`.
+/// enters few strips, so this stands apart from `mark_strip`; and of those that it enters a third has no point that it is asked about.
 #[inline(never)]
 fn mark_rays(
     alloc: Global,
@@ -75,16 +126,22 @@ fn mark_rays(
 {
     let grid = plan.grid();
     let first = grid.strip_ray(strip, 0);
-    let mover = plan.marker(number);
-    let marker = mover.on_strip(grid, first.family, first.i);
     let shared = shared_by(plan, number, first.family);
+    let near = NearStrip::new(plan.cylinder(number), grid, first.family, first.i);
     let mut marked = Marked {
         changes: Vec::new(alloc),
         counts: Counts::none(),
     };
-    for n in window.0..window.1 {
+    let from = first_ray(&near, rays, plan, number, strip, shared, window);
+    if from == window.1 {
+        return Ok(marked);
+    }
+    let mover = plan.marker(number);
+    let marker = mover.on_strip(grid, first.family, first.i);
+    for n in from..window.1 {
         mark_at(
             &marker,
+            &near,
             &mut rays[n as usize],
             plan,
             number,

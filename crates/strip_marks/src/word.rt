@@ -1,14 +1,17 @@
-ghost use Rattle.std.specs.Prelude.{◌≡◌, ℕ, ◌+◌, ◌*◌, ◌/◌, ◌<◌, ◌≤◌, ◌&&◌, ◌++◌, OnOk};
+ghost use Rattle.std.specs.Prelude.{◌≡◌, ℕ, ◌+◌, ◌*◌, ◌/◌, ◌<◌, ◌≤◌, ◌^◌, ◌&&◌, ◌++◌, OnOk, length};
 ghost use Rattle.vf_spans.specs.Members.{in_range};
 ghost use Rattle.vf_spans.specs.Words.{has_bit};
+ghost use Rattle.ray_grid.specs.Lattice.{points_of};
 ghost use Rattle.ray_words.specs.Rays.{is_wanted_at};
 ghost use Rattle.wanted_marks.specs.Rays.{is_possible_at, is_sure_at};
-ghost use Rattle.strip_marks.specs.RayMarks.{Adds, AreWordsMarked, CanCount, IsWindow};
+ghost use Rattle.strip_marks.specs.RayMarks.{Adds, AreAsked, AreAskedIn, AreWordsMarked, CanCount};
 ghost use Rattle.strip_marks.specs.Words.{AreMarksAdded, AreSetsOf, noted};
 
+use crate::asked_word::AskedWord;
 use crate::change::WordChange;
 use crate::marked::Marked;
 use dexel_rays::{WordDelta, WordSets};
+use near_points::NearRay;
 use ray_words::WordRay;
 use vf_io::NoMemory;
 use vf_spans::bits::bits_of_range;
@@ -22,6 +25,17 @@ pub fn wanted_in(ray: &WordRay, word: u32, window: (u32, u32)) -> u64
     ensures { (b : ℕ) → b < 64 → has_bit result b ≡ (is_wanted_at ray.now.sets (64 * word + b) && in_range (64 * word + b) window) }
 {
     ray.wanted(word) & bits_of_range(word, window.0, window.1)
+}
+
+/// The points of a word of a ray that a move is asked about: those wanted ones in its window that its cylinder holds.
+#[inline]
+pub fn asked_in(near: &NearRay<'_>, ray: &WordRay, word: u32, window: (u32, u32)) -> u64
+    requires from { window.0 / 64 ≤ word }
+    requires to { 64 * word < window.1 }
+    requires on { window.1 ≤ points_of near.now.grid near.now.ray.family }
+    ensures { AreAskedIn near.now ray.now.sets window word result }
+{
+    near.near(64 * word, wanted_in(ray, word, window))
 }
 
 /// Notes what changes at a word, if anything does.
@@ -67,31 +81,29 @@ fn add_marks(
     Ok(())
 }
 
-/// Takes in what a move changes at the points of a word of ray n, and what it finds there. Only points of the window that the move
-/// has to be asked about are marked.
+/// Takes in what a move changes at the points of a word of ray n, and what it finds there, by those that it is asked about.
 pub fn mark_word(
     marker: &RayMarker<'_>,
     ray: &WordRay,
     n: u32,
-    word: u32,
-    window: (u32, u32),
+    asked: AskedWord,
     rapid: bool,
     marked: &mut Marked,
 ) -> Result<(), NoMemory>
     requires ray { AreSetsOf marker.now ray.now.sets }
-    requires window { IsWindow marker.now window.0 window.1 }
-    requires from { window.0 / 64 ≤ word }
-    requires to { 64 * word < window.1 }
+    requires asked { AreAsked marker.now ray.now.sets asked.word asked.points }
+    requires few { 64 * asked.word < 2 ^ 32 }
+    requires within { 64 * asked.word < length ray.now.sets.stock }
     requires room { CanCount 64 marked.old.counts }
     ensures { OnOk result (Adds marked.old marked.new (λ added found.
-        AreWordsMarked ray.now.sets (is_sure_at marker.now) (is_possible_at marker.now) rapid n word (word + 1) added found)) }
+        AreWordsMarked ray.now.sets (is_sure_at marker.now) (is_possible_at marker.now) rapid n asked.word (asked.word + 1) added found)) }
 {
-    let wanted = wanted_in(ray, word, window);
-    if wanted == 0 {
+    let AskedWord { word, points } = asked;
+    if points == 0 {
         return Ok(());
     }
     let sets = ray.word(word);
-    let marks = marker.mark(64 * word, wanted, sets.sure_only(rapid));
+    let marks = marker.mark(64 * word, points, sets.sure_only(rapid));
     add_marks(&sets, marks, n, word, rapid, marked)?;
     Ok(())
 }

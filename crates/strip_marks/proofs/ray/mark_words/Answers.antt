@@ -1,12 +1,33 @@
-use Rattle.std.proofs.Common.{◌≡◌, ℕ, ◌*◌, ◌/◌, ◌+◌, ◌<◌, ◌^◌, arith, sym, subst}
+use Rattle.std.proofs.Common.{◌≡◌, ℕ, ◌+◌, ◌-◌, ◌*◌, ◌/◌, ◌<◌, ◌^◌, arith, sym, subst}
 use Rattle.vf_spans.specs.Words.{words_below}
 use Rattle.dexel_rays.specs.Sets.{HaveBound}
+use Rattle.job_facts.specs.Counts.{most_count}
 use Rattle.wanted_marks.specs.Rays.{is_possible_at, is_sure_at}
 use Rattle.strip_marks.specs.RayMarks.{Adds, AreWordsMarked}
-use Rattle.strip_marks.proofs.AtWords.{idle_at}
+use Rattle.strip_marks.proofs.AtWords.{asked_of, idle_unasked}
+use Rattle.strip_marks.proofs.Counting.{within_more}
 use Rattle.strip_marks.proofs.Growing.{adds_none, adds_words, room_left}
 use Rattle.strip_marks.proofs.Idle.{idle_words}
 use Rattle.strip_marks.proofs.ray.mark_words.Goals as goal
+
+pub mark_word-requires-clause-asked : goal.mark_word-requires-clause-asked
+mark_word-requires-clause-asked c =
+    let a = c.args in
+    asked_of a.near.now a.marker.now a.ray.now.sets a.first.word a.window.0 a.window.1 a.first.points c.requires.ray c.requires.window c.requires.near
+    c.requires.first.asked
+
+pub mark_word-requires-clause-few : goal.mark_word-requires-clause-few
+mark_word-requires-clause-few c = omega (arith, c.requires.first.inside)
+
+pub mark_word-requires-clause-within : goal.mark_word-requires-clause-within
+mark_word-requires-clause-within c = omega (arith, c.requires.first.inside, c.requires.window.within, c.requires.ray.bound.stock)
+
+pub mark_word-requires-in-loop-word-clause-within : goal.mark_word-requires-in-loop-word-clause-within
+mark_word-requires-in-loop-word-clause-within c =
+    omega (arith, c.div_ceil-word-end.ensures, c.requires.window.within, c.requires.ray.bound.stock)
+
+pub mark_word-requires-clause-room : goal.mark_word-requires-clause-room
+mark_word-requires-clause-room c = within_more (most_count - 2 ^ 33) (most_count - 64) c.args.marked.now.counts (omega arith) c.requires.room
 
 pub loop-word-init : goal.loop-word-init
 loop-word-init c =
@@ -14,13 +35,24 @@ loop-word-init c =
     let r = a.marker.now in
     let d = a.ray.now.sets in
     let lo = a.window.0 / 64 in
-    adds_none a.marked.now (λ added found. AreWordsMarked d (is_sure_at r) (is_possible_at r) a.rapid a.n lo a.first added found)
-    (idle_words d (is_sure_at r) (is_possible_at r) a.rapid c.requires.ray.ordered a.n lo a.first
+    let word = a.first.word in
+    adds_words d (is_sure_at r) (is_possible_at r) a.rapid a.n lo word (word + 1) a.marked.now a.marked.now c.mark_word.new.marked
+    c.requires.first.ahead.from (omega arith)
+    (adds_none a.marked.now (λ added found. AreWordsMarked d (is_sure_at r) (is_possible_at r) a.rapid a.n lo word added found)
+    (idle_words d (is_sure_at r) (is_possible_at r) a.rapid c.requires.ray.ordered a.n lo word
     (subst (λ b. HaveBound b d) (sym c.requires.ray.bound.stock) c.requires.ray.bound)
-    (λ l ge lt within. idle_at r d a.window.0 a.window.1 l c.requires.ray c.requires.window (c.requires.first.none l lt) within))
+    (λ l ge lt within. idle_unasked a.near.now r d a.window.0 a.window.1 l c.requires.ray c.requires.window c.requires.near within
+    (c.requires.first.ahead.none l lt))))
+    c.in_ok-mark_word.ensures
 
-pub mark_word-requires-clause-room : goal.mark_word-requires-clause-room
-mark_word-requires-clause-room c =
+pub mark_word-requires-in-loop-word-clause-asked : goal.mark_word-requires-in-loop-word-clause-asked
+mark_word-requires-in-loop-word-clause-asked c =
+    let a = c.args in
+    asked_of a.near.now a.marker.now a.ray.now.sets c.loop-word.word a.window.0 a.window.1 c.asked_in-points.result c.requires.ray c.requires.window
+    c.requires.near c.asked_in-points.ensures
+
+pub mark_word-requires-in-loop-word-clause-room : goal.mark_word-requires-in-loop-word-clause-room
+mark_word-requires-in-loop-word-clause-room c =
     let a = c.args in
     let r = a.marker.now in
     let few : 64 * c.loop-word.word < 2 ^ 32 = omega (arith, c.div_ceil-word-end.ensures) in
@@ -33,14 +65,14 @@ loop-word-preserved c =
     let r = a.marker.now in
     let word = c.loop-word.word in
     adds_words a.ray.now.sets (is_sure_at r) (is_possible_at r) a.rapid a.n (a.window.0 / 64) word (word + 1) a.marked.now
-    c.loop-word.marked c.mark_word.new.marked (omega (arith, c.requires.first.from)) (omega arith)
-    c.loop-word.invariant c.in_ok-mark_word.ensures
+    c.loop-word.marked c.mark_word-in-loop-word.new.marked (omega (arith, c.requires.first.ahead.from)) (omega arith)
+    c.loop-word.invariant c.in_ok-mark_word-2.ensures
 
 pub returns : goal.returns
 returns c =
     let a = c.args in
     let r = a.marker.now in
-    let e : c.loop-word.word ≡ words_below a.window.1 = omega (arith, c.requires.first.to, c.div_ceil-word-end.ensures) in
+    let e : c.loop-word.word ≡ words_below a.window.1 = omega (arith, c.requires.first.inside, c.div_ceil-word-end.ensures) in
     subst (λ (k : ℕ). Adds a.marked.now c.loop-word.marked (λ added found.
     AreWordsMarked a.ray.now.sets (is_sure_at r) (is_possible_at r) a.rapid a.n (a.window.0 / 64) k added found)) e
     c.loop-word.invariant

@@ -1,14 +1,18 @@
-use Rattle.std.proofs.Common.{◌≡◌, ℕ, ◌+◌, ◌-◌, ◌*◌, ◌<◌, List, length, get_or, arith, ap, sym, subst}
+use Rattle.std.proofs.Common.{◌≡◌, ℕ, ◌+◌, ◌-◌, ◌*◌, ◌<◌, List, [], length, get_or, arith, ap, sym, subst}
 use Rattle.std.proofs.lemmas.List.{get_or_default}
-use Rattle.job_facts.specs.Counts.{most_count}
+use Rattle.job_facts.specs.declared.counts.Counts.{Counts}
+use Rattle.job_facts.specs.Counts.{AreWithin, most_count, no_counts}
+use Rattle.job_model.specs.Tasks.{JobMove, PlanOf}
 use Rattle.ray_grid.specs.declared.ray.Family.{Family}
 use Rattle.ray_words.specs.Rays.{KeptSets}
 use Rattle.wanted_marks.specs.Strips.{StripOf}
+use Rattle.strip_marks.specs.declared.change.WordChange.{WordChange}
 use Rattle.strip_marks.specs.Marks.{kept_of}
 use Rattle.strip_marks.specs.RayMarks.{HasSameSets}
 use Rattle.strip_marks.specs.RowMarks.{AreRaysMarked, AreSetsAt, IsShared}
 use Rattle.strip_marks.proofs.Counting.{within_more}
-use Rattle.strip_marks.proofs.MoreRays.{no_sets, same_again, same_with, sets_at}
+use Rattle.strip_marks.proofs.MoreRays.{no_sets, same_again, same_self, same_with, sets_at}
+use Rattle.strip_marks.proofs.NearRays.{near_of}
 use Rattle.strip_marks.proofs.OneRay.{rays_step, within_next}
 use Rattle.strip_marks.proofs.OnStrips.{marker_of, some_move}
 use Rattle.strip_marks.proofs.strip.mark_rays.Goals as goal
@@ -17,6 +21,25 @@ use Rattle.strip_marks.proofs.strip.mark_rays.Goals as goal
 own_of : (rays : List KeptSets) (n : ℕ) (d ray : KeptSets) → n < length rays → HasSameSets (get_or rays n d) ray
     → HasSameSets (kept_of rays n) ray
 own_of rays n d ray lt h = subst (λ (r : KeptSets). HasSameSets r ray) (get_or_default rays n d no_sets lt) h
+
+-- no changes and no counts are none
+nothing_yet : (plan : PlanOf) (move : JobMove) (strip lo hi : ℕ) (rays : List KeptSets) (changes : List WordChange) (counts : Counts) → changes ≡ [] → counts ≡ no_counts
+    → AreRaysMarked plan move strip rays rays lo hi [] no_counts → AreRaysMarked plan move strip rays rays lo hi changes counts
+nothing_yet plan move strip lo hi rays changes counts e z h =
+    subst (λ (x : List WordChange). AreRaysMarked plan move strip rays rays lo hi x counts) (sym e)
+    (subst (λ (x : Counts). AreRaysMarked plan move strip rays rays lo hi [] x) (sym z) h)
+
+none_within : AreWithin 0 no_counts
+none_within = record {
+  removed = omega arith;
+  possible = omega arith;
+  part_sure = omega arith;
+  part_possible = omega arith;
+  fix_sure = omega arith;
+  fix_possible = omega arith;
+  rapid_sure = omega arith;
+  rapid_possible = omega arith;
+}
 
 pub mark_at-requires-clause-marker : goal.mark_at-requires-clause-marker
 mark_at-requires-clause-marker c =
@@ -76,3 +99,36 @@ returns-clause-marked c = λ move has.
     subst (λ (n : ℕ). AreRaysMarked a.plan.now move a.strip a.rays.now c.loop-n.rays a.window.0 n c.loop-n.marked.changes.items
     c.loop-n.marked.counts)
     e (c.loop-n.invariant.marked move has)
+
+pub first_ray-from-requires-clause-near : goal.first_ray-from-requires-clause-near
+first_ray-from-requires-clause-near c =
+    let a = c.args in
+    near_of a.plan.now a.number a.strip c.new-near.result c.cylinder.result.now c.grid-grid.result.now c.strip_ray-first.result
+    c.new-near.ensures c.grid-grid.ensures c.strip_ray-first.ensures.there c.strip_ray-first.ensures.ray c.cylinder.ensures
+
+pub returns-then-from-window-clause-marked : goal.returns-then-from-window-clause-marked
+returns-then-from-window-clause-marked c = λ move has.
+    let a = c.args in
+    let e : c.first_ray-from.result ≡ a.window.1 = c.if-from-window.true in
+    nothing_yet a.plan.now move a.strip a.window.0 a.window.1 a.rays.now c.new.result.items c.none.result c.new.ensures.items c.none.ensures
+    (subst (λ (n : ℕ). AreRaysMarked a.plan.now move a.strip a.rays.now a.rays.now a.window.0 n [] no_counts) e (c.first_ray-from.ensures.nothing move has))
+
+pub loop-n-init : goal.loop-n-init
+loop-n-init c =
+    let a = c.args in
+    let from = c.first_ray-from.result in
+    record {
+      same = same_self a.rays.now;
+      within =
+          within_more 0 ((from - a.window.0) * 4294967295) c.none.result (omega arith)
+          (subst (λ (n : Counts). AreWithin 0 n) (sym c.none.ensures) none_within);
+      marked = λ move has.
+          nothing_yet a.plan.now move a.strip a.window.0 from a.rays.now c.new.result.items c.none.result c.new.ensures.items c.none.ensures
+          (c.first_ray-from.ensures.nothing move has);
+    }
+
+pub mark_at-requires-clause-near : goal.mark_at-requires-clause-near
+mark_at-requires-clause-near c =
+    let a = c.args in
+    near_of a.plan.now a.number a.strip c.new-near.result c.cylinder.result.now c.grid-grid.result.now c.strip_ray-first.result
+    c.new-near.ensures c.grid-grid.ensures c.strip_ray-first.ensures.there c.strip_ray-first.ensures.ray c.cylinder.ensures

@@ -1,0 +1,7 @@
+pub mod HighestBit
+pub mod Growing
+pub mod Told
+pub mod Taken
+pub mod Leaving
+pub mod Turning
+pub mod Holding

@@ -1,0 +1,307 @@
+-- The points of the rays of a strip against a cylinder: from ray to ray and from point to point their stances grow evenly.
+use Rattle.std.proofs.Common.{◌≡◌, ℕ, ◌*◌, ◌^◌, ◌≤◌, ◌<◌, List, [], ◌∷◌, ℤ, pos, ◌+ℤ◌, ◌*ℤ◌, ◌-ℤ◌, ◌≤ℤ◌, ◌<ℤ◌, unsigned_abs, arith, refl, sym, ap, ap₂, subst, ◌∙◌}
+use Rattle.std.proofs.lemmas.Int.{ints}
+use Rattle.std.proofs.Math.Nat.{mul-le-mul}
+use borrow.Author.Differences.{abs_is as size_is}
+use Rattle.space.specs.Ranges.{IsPoint, IsWithin, metre}
+use Rattle.space.specs.Vectors.{at, dot}
+use Rattle.space.proofs.Solver.{Term, var, num, add, mul, ring}
+use Rattle.space.proofs.Terms.{dots, from, square, sub}
+use Rattle.space.proofs.Naturals.{abs_mul, abs_sub, square_not_negative}
+use Rattle.bern_form.proofs.Sizes.{dot_small}
+use Rattle.ray_grid.specs.Grids.{GridSize}
+use Rattle.ray_grid.specs.declared.ray.Family.{Family}
+use Rattle.ray_grid.specs.declared.ray.Family.TheVariants.{X, Y, Z}
+use Rattle.ray_grid.specs.Families.{first_axis, ray_axis, second_axis}
+use Rattle.ray_grid.specs.Lattice.{node_at, nodes_of, per_node, place_at, point_at, points_of}
+use Rattle.ray_grid.specs.Ranges.{IsGrid}
+use Rattle.ray_grid.proofs.Sizes.{abs_is, axis_of, few_places, node_within, place_within, some_per_node, times_is}
+use Rattle.sweep_boxes.specs.declared.cylinder.BoundingCylinder.{BoundingCylinder}
+use Rattle.sweep_boxes.specs.Limits.{place_limit, side_limit}
+use Rattle.sweep_boxes.specs.Vectors.{cross}
+use Rattle.near_points.specs.declared.hold.Hold.{Hold}
+use Rattle.near_points.specs.declared.stance.Stance.{Stance}
+use Rattle.near_points.specs.declared.step.Step.{Step}
+use Rattle.near_points.specs.Limits.{moment_limit}
+use Rattle.near_points.specs.Lines.{FitsMoved, IsMoved, height_at, second_at, third_at, width_at}
+use Rattle.near_points.specs.Rays.{IsBeside, NearStripOf, near_ray_at}
+use Rattle.near_points.specs.Ready.{IsReadyRay, IsReadyStrip, offset_of}
+use Rattle.near_points.specs.Stances.{IsStance, IsStep, IsStepLike}
+use Rattle.near_points.specs.Turned.{turned, way_across, way_along}
+
+-- the points of a grid
+node_coordinate : (g : GridSize) (axis n : ℕ) → IsGrid g → axis < 3 → n < nodes_of g axis → unsigned_abs (node_at g axis n) ≤ metre
+node_coordinate g axis n h three lt =
+    let ax = axis_of g axis h three in
+    let low = ax.origin_in in
+    let size = size_is (at g.origin axis) in
+    let one : pos 1 ≤ℤ g.pitch = h.pitch_in.from_least in
+    let a = h.step_in.from_least in let b = h.step_in.to_most in
+    let sp = abs_is g.step a in let pp = abs_is g.pitch one in
+    let whole = times_is n g.pitch one in
+    let top = node_within (at g.origin axis) (unsigned_abs g.pitch) (unsigned_abs g.step) (nodes_of g axis) n (omega (arith, ints)) (omega (arith, ints)) h.divides lt ax.last in
+    let there = size_is (node_at g axis n) in
+    omega (arith, ints)
+
+place_coordinate : (g : GridSize) (axis l : ℕ) → IsGrid g → axis < 3 → l < nodes_of g axis * per_node g → unsigned_abs (place_at g axis l) ≤ metre
+place_coordinate g axis l h three lt =
+    let ax = axis_of g axis h three in
+    let low = ax.origin_in in
+    let size = size_is (at g.origin axis) in
+    let whole = times_is l g.step h.step_in.from_least in
+    let top = place_within (at g.origin axis) (unsigned_abs g.step) (nodes_of g axis * per_node g) l lt ax.last in
+    let there = size_is (place_at g axis l) in
+    omega (arith, ints)
+
+point_near : (g : GridSize) (f : Family) (i j l : ℕ) → IsGrid g → i < nodes_of g (first_axis f) → j < nodes_of g (second_axis f) → l < points_of g f → IsPoint (point_at g f i j l)
+point_near g X i j l h first second lt = (place_coordinate g 0 l h (omega arith) lt, node_coordinate g 1 i h (omega arith) first, node_coordinate g 2 j h (omega arith) second)
+point_near g Y i j l h first second lt = (node_coordinate g 0 i h (omega arith) first, place_coordinate g 1 l h (omega arith) lt, node_coordinate g 2 j h (omega arith) second)
+point_near g Z i j l h first second lt = (node_coordinate g 0 i h (omega arith) first, node_coordinate g 1 j h (omega arith) second, place_coordinate g 2 l h (omega arith) lt)
+
+some_points : (g : GridSize) (axis : ℕ) → IsGrid g → axis < 3 → 1 ≤ nodes_of g axis * per_node g
+some_points g axis h three =
+    let ax = axis_of g axis h three in
+    let a = h.step_in.from_least in let b = h.step_in.to_most in
+    let sp = abs_is g.step a in let pp = abs_is g.pitch h.pitch_in.from_least in
+    let per = some_per_node (unsigned_abs g.pitch) (unsigned_abs g.step) (omega (arith, ints)) (omega (arith, ints)) h.divides in
+    mul-le-mul ax.some per.0
+
+axis_below : (f : Family) → ray_axis f < 3
+axis_below X = omega arith
+axis_below Y = omega arith
+axis_below Z = omega arith
+
+second_below : (f : Family) → second_axis f < 3
+second_below X = omega arith
+second_below Y = omega arith
+second_below Z = omega arith
+
+pub has_first : (g : GridSize) (f : Family) → IsGrid g → 0 < points_of g f
+has_first g f h = some_points g (ray_axis f) h (axis_below f)
+
+pub has_second : (g : GridSize) (f : Family) → IsGrid g → 0 < nodes_of g (second_axis f)
+has_second g f h = (axis_of g (second_axis f) h (second_below f)).some
+
+-- the offsets of the points of a strip, turned
+pub record IsMovedOffset (p v e w : List ℤ) (j l : ℤ) : Type 0 where
+  pub first : at p 0 ≡ (at v 0 +ℤ j *ℤ at e 0) +ℤ l *ℤ at w 0
+  pub second : at p 1 ≡ (at v 1 +ℤ j *ℤ at e 1) +ℤ l *ℤ at w 1
+  pub third : at p 2 ≡ (at v 2 +ℤ j *ℤ at e 2) +ℤ l *ℤ at w 2
+
+place_moves : (s o w t j l : ℤ) → s *ℤ (o +ℤ (l *ℤ w)) -ℤ t ≡ ((s *ℤ (o +ℤ (pos 0 *ℤ w)) -ℤ t) +ℤ j *ℤ pos 0) +ℤ l *ℤ (s *ℤ w)
+place_moves s o w t j l =
+    let S = var 0 in let O = var 1 in let W = var 2 in let T = var 3 in let J = var 4 in let L = var 5 in let none = num (pos 0) in
+    ring (s ∷ o ∷ w ∷ t ∷ j ∷ l ∷ []) (sub (mul S (add O (mul L W))) T) (add (add (sub (mul S (add O (mul none W))) T) (mul J none)) (mul L (mul S W))) refl
+
+node_moves : (s o w t j l : ℤ) → s *ℤ (o +ℤ (j *ℤ w)) -ℤ t ≡ ((s *ℤ (o +ℤ (pos 0 *ℤ w)) -ℤ t) +ℤ j *ℤ (s *ℤ w)) +ℤ l *ℤ pos 0
+node_moves s o w t j l =
+    let S = var 0 in let O = var 1 in let W = var 2 in let T = var 3 in let J = var 4 in let L = var 5 in let none = num (pos 0) in
+    ring (s ∷ o ∷ w ∷ t ∷ j ∷ l ∷ []) (sub (mul S (add O (mul J W))) T) (add (add (sub (mul S (add O (mul none W))) T) (mul J (mul S W))) (mul L none)) refl
+
+node_stays : (z j l : ℤ) → z ≡ (z +ℤ j *ℤ pos 0) +ℤ l *ℤ pos 0
+node_stays z j l = let Z = var 0 in let J = var 1 in let L = var 2 in let none = num (pos 0) in ring (z ∷ j ∷ l ∷ []) Z (add (add Z (mul J none)) (mul L none)) refl
+
+abbrev offset_in : BoundingCylinder → GridSize → Family → ℕ → ℕ → ℕ → List ℤ
+offset_in c g f i j l = turned f (offset_of c (point_at g f i j l))
+
+offset_moves : (c : BoundingCylinder) (g : GridSize) (f : Family) (i j l : ℕ)
+    → IsMovedOffset (offset_in c g f i j l) (offset_in c g f i 0 0) (way_across f (pos c.scale *ℤ g.pitch)) (way_along (pos c.scale *ℤ g.step)) (pos j) (pos l)
+offset_moves c g X i j l =
+    let s = pos c.scale in record {
+      first = place_moves s (at g.origin 0) g.step (at c.tip 0) (pos j) (pos l);
+      second = node_stays (s *ℤ node_at g 1 i -ℤ at c.tip 1) (pos j) (pos l);
+      third = node_moves s (at g.origin 2) g.pitch (at c.tip 2) (pos j) (pos l);
+    }
+offset_moves c g Y i j l =
+    let s = pos c.scale in record {
+      first = place_moves s (at g.origin 1) g.step (at c.tip 1) (pos j) (pos l);
+      second = node_moves s (at g.origin 2) g.pitch (at c.tip 2) (pos j) (pos l);
+      third = node_stays (s *ℤ node_at g 0 i -ℤ at c.tip 0) (pos j) (pos l);
+    }
+offset_moves c g Z i j l =
+    let s = pos c.scale in record {
+      first = place_moves s (at g.origin 2) g.step (at c.tip 2) (pos j) (pos l);
+      second = node_stays (s *ℤ node_at g 0 i -ℤ at c.tip 0) (pos j) (pos l);
+      third = node_moves s (at g.origin 1) g.pitch (at c.tip 1) (pos j) (pos l);
+    }
+
+-- moments and heights of offsets that grow evenly
+minor_moves : (p q v1 v2 e1 e2 w1 w2 a1 a2 j l : ℤ) → p ≡ (v1 +ℤ j *ℤ e1) +ℤ l *ℤ w1 → q ≡ (v2 +ℤ j *ℤ e2) +ℤ l *ℤ w2
+    → p *ℤ a2 -ℤ q *ℤ a1 ≡ ((v1 *ℤ a2 -ℤ v2 *ℤ a1) +ℤ j *ℤ (e1 *ℤ a2 -ℤ e2 *ℤ a1)) +ℤ l *ℤ (w1 *ℤ a2 -ℤ w2 *ℤ a1)
+minor_moves p q v1 v2 e1 e2 w1 w2 a1 a2 j l hp hq =
+    let V = from 0 in let E = from 2 in let W = from 4 in let A = from 6 in let J = var 8 in let L = var 9 in
+    let moved = λ (k : ℕ). add (add (V k) (mul J (E k))) (mul L (W k)) in
+    let minor = λ (u : ℕ → Term). sub (mul (u 0) (A 1)) (mul (u 1) (A 0)) in
+    ap₂ (λ x y. x *ℤ a2 -ℤ y *ℤ a1) hp hq
+    ∙ ring (v1 ∷ v2 ∷ e1 ∷ e2 ∷ w1 ∷ w2 ∷ a1 ∷ a2 ∷ j ∷ l ∷ []) (minor moved) (add (add (minor V) (mul J (minor E))) (mul L (minor W))) refl
+
+dot_by : (a : List ℤ) (p q r x y z : ℤ) → p ≡ x → q ≡ y → r ≡ z → (p *ℤ at a 0 +ℤ q *ℤ at a 1) +ℤ r *ℤ at a 2 ≡ (x *ℤ at a 0 +ℤ y *ℤ at a 1) +ℤ z *ℤ at a 2
+dot_by a p q r x y z e f g = ap₂ (λ u v. (u *ℤ at a 0 +ℤ v *ℤ at a 1) +ℤ r *ℤ at a 2) e f ∙ ap (λ u. (x *ℤ at a 0 +ℤ y *ℤ at a 1) +ℤ u *ℤ at a 2) g
+
+dot_moves : (p v e w a : List ℤ) (j l : ℤ) → IsMovedOffset p v e w j l → dot p a ≡ (dot v a +ℤ j *ℤ dot e a) +ℤ l *ℤ dot w a
+dot_moves p v e w a j l h =
+    let V = from 0 in let E = from 3 in let W = from 6 in let A = from 9 in let J = var 12 in let L = var 13 in
+    let moved = λ (k : ℕ). add (add (V k) (mul J (E k))) (mul L (W k)) in
+    dot_by a (at p 0) (at p 1) (at p 2) _ _ _ h.first h.second h.third
+    ∙ ring (at v 0 ∷ at v 1 ∷ at v 2 ∷ at e 0 ∷ at e 1 ∷ at e 2 ∷ at w 0 ∷ at w 1 ∷ at w 2 ∷ at a 0 ∷ at a 1 ∷ at a 2 ∷ j ∷ l ∷ []) (dots moved A) (add (add (dots V A) (mul J (dots E A))) (mul L (dots W A))) refl
+
+combined : (s t u x y z j l r : ℤ) → s ≡ x → t ≡ y → u ≡ z → r ≡ (x +ℤ j *ℤ y) +ℤ l *ℤ z → (s +ℤ j *ℤ t) +ℤ l *ℤ u ≡ r
+combined s t u x y z j l r e f g h = ap₂ (λ a b. (a +ℤ j *ℤ b) +ℤ l *ℤ u) e f ∙ ap (λ a. (x +ℤ j *ℤ y) +ℤ l *ℤ a) g ∙ sym h
+
+-- a step has no moment along the ray
+no_along : (w a : List ℤ) (z : ℤ) → z ≡ pos 0 *ℤ at a 2 -ℤ pos 0 *ℤ at a 1 → z ≡ pos 0
+no_along w a z e = e ∙ ring (at a 1 ∷ at a 2 ∷ []) (sub (mul (num (pos 0)) (var 1)) (mul (num (pos 0)) (var 0))) (num (pos 0)) refl
+
+-- so the stance on the ray
+pub record HasStance (first : Stance) (step : Step) (l : ℤ) (p a : List ℤ) : Type 0 where
+  pub along : first.along ≡ at (cross p a) 0
+  pub second : second_at first step l ≡ at (cross p a) 1
+  pub third : third_at first step l ≡ at (cross p a) 2
+  pub height : height_at first step l ≡ dot p a
+
+stays : (x l y : ℤ) → y ≡ pos 0 → (x +ℤ l *ℤ y) ≡ x
+stays x l y e = ap (λ z. x +ℤ l *ℤ z) e ∙ ring (x ∷ l ∷ []) (add (var 0) (mul (var 1) (num (pos 0)))) (var 0) refl
+
+has_stance : (start across first : Stance) (step : Step) (p v e a : List ℤ) (w j l : ℤ) → IsStance start v a → IsStance across e a → IsStep step (way_along w) a → IsMoved first start across j
+    → IsMovedOffset p v e (way_along w) j l → HasStance first step l p a
+has_stance start across first step p v e a w j l s t u moved o =
+    let none = no_along (way_along w) a (at (cross (way_along w) a) 0) refl in record {
+      along = moved.along ∙ sym (stays (start.along +ℤ j *ℤ across.along) l (at (cross (way_along w) a) 0) none)
+          ∙ combined start.along across.along (at (cross (way_along w) a) 0) _ _ _ j l _ s.along t.along refl (minor_moves (at p 1) (at p 2) (at v 1) (at v 2) (at e 1) (at e 2) (pos 0) (pos 0) (at a 1) (at a 2) j l o.second o.third);
+      second = ap (λ z. z +ℤ l *ℤ step.second) moved.second
+          ∙ combined start.second across.second step.second _ _ _ j l _ s.second t.second u.second (minor_moves (at p 2) (at p 0) (at v 2) (at v 0) (at e 2) (at e 0) (pos 0) w (at a 2) (at a 0) j l o.third o.first);
+      third = ap (λ z. z +ℤ l *ℤ step.third) moved.third
+          ∙ combined start.third across.third step.third _ _ _ j l _ s.third t.third u.third (minor_moves (at p 0) (at p 1) (at v 0) (at v 1) (at e 0) (at e 1) w (pos 0) (at a 0) (at a 1) j l o.first o.second);
+      height = ap (λ z. z +ℤ l *ℤ step.height) moved.height
+          ∙ combined start.height across.height step.height _ _ _ j l _ s.height t.height u.height (dot_moves p v e (way_along w) a j l o);
+    }
+
+-- the first point of a ray
+by_none : (x y r : ℤ) → x +ℤ pos 0 *ℤ y ≡ r → x ≡ r
+by_none x y r e = ring (x ∷ y ∷ []) (var 0) (add (var 0) (mul (num (pos 0)) (var 1))) refl ∙ e
+
+-- how large they are
+turned_within : (f : Family) (m : ℕ) (v : List ℤ) → IsWithin m v → IsWithin m (turned f v)
+turned_within X m v h = (h.0, h.1, h.2)
+turned_within Y m v h = (h.1, h.2, h.0)
+turned_within Z m v h = (h.2, h.0, h.1)
+
+offset_small : (s : ℕ) (x t : ℤ) → s ≤ 128 → unsigned_abs x ≤ metre → unsigned_abs t ≤ 128 * place_limit → unsigned_abs (pos s *ℤ x -ℤ t) ≤ side_limit
+offset_small s x t few hx ht =
+    let a = abs_mul (pos s) x 128 metre (omega arith) hx in let b = abs_sub (pos s *ℤ x) t in omega (arith, a, b, ht)
+
+offset_within : (c : BoundingCylinder) (p : List ℤ) → IsPoint p → IsWithin side_limit (offset_of c p)
+offset_within c p h = (
+  offset_small c.scale (at p 0) (at c.tip 0) c.scaled.1 h.0 c.tip_within.0,
+  offset_small c.scale (at p 1) (at c.tip 1) c.scaled.1 h.1 c.tip_within.1,
+  offset_small c.scale (at p 2) (at c.tip 2) c.scaled.1 h.2 c.tip_within.2,
+)
+
+minor_small : (p q a b : ℤ) → unsigned_abs p ≤ side_limit → unsigned_abs q ≤ side_limit → unsigned_abs a ≤ side_limit → unsigned_abs b ≤ side_limit → unsigned_abs (p *ℤ b -ℤ q *ℤ a) ≤ moment_limit
+minor_small p q a b hp hq ha hb =
+    let x = abs_mul p b side_limit side_limit hp hb in let y = abs_mul q a side_limit side_limit hq ha in let s = abs_sub (p *ℤ b) (q *ℤ a) in omega (arith, x, y, s)
+
+record AreSmall (p a : List ℤ) : Type 0 where
+  along : unsigned_abs (at (cross p a) 0) ≤ moment_limit
+  second : unsigned_abs (at (cross p a) 1) ≤ moment_limit
+  third : unsigned_abs (at (cross p a) 2) ≤ moment_limit
+  height : unsigned_abs (dot p a) ≤ moment_limit
+
+are_small : (p a : List ℤ) → IsWithin side_limit p → IsWithin side_limit a → AreSmall p a
+are_small p a hp ha = record {
+  along = minor_small (at p 1) (at p 2) (at a 1) (at a 2) hp.1 hp.2 ha.1 ha.2;
+  second = minor_small (at p 2) (at p 0) (at a 2) (at a 0) hp.2 hp.0 ha.2 ha.0;
+  third = minor_small (at p 0) (at p 1) (at a 0) (at a 1) hp.0 hp.1 ha.0 ha.1;
+  height = dot_small p a side_limit side_limit hp ha;
+}
+
+small_by : (x y : ℤ) → x ≡ y → unsigned_abs y ≤ moment_limit → unsigned_abs x ≤ moment_limit
+small_by x y e h = subst (λ (z : ℤ). unsigned_abs z ≤ moment_limit) (sym e) h
+
+strip_small : (start across : Stance) (step : Step) (hold : Hold) (s : NearStripOf) (j l : ℕ) → IsReadyStrip start across step hold s → j < nodes_of s.grid (second_axis s.family) → l < points_of s.grid s.family
+    → AreSmall (offset_in s.cylinder s.grid s.family s.i j l) (turned s.family s.cylinder.axis)
+strip_small start across step hold s j l ready there within =
+    let p = point_at s.grid s.family s.i j l in
+    are_small (turned s.family (offset_of s.cylinder p)) (turned s.family s.cylinder.axis)
+    (turned_within s.family side_limit (offset_of s.cylinder p) (offset_within s.cylinder p (point_near s.grid s.family s.i j l ready.sized ready.first there within)))
+    (turned_within s.family side_limit s.cylinder.axis s.cylinder.axis_within)
+
+pub first_fits : (start across : Stance) (step : Step) (hold : Hold) (s : NearStripOf) (j : ℕ) → IsReadyStrip start across step hold s → j < nodes_of s.grid (second_axis s.family) → FitsMoved start across (pos j)
+first_fits start across step hold s j ready there =
+    let c = s.cylinder in let f = s.family in let a = turned f c.axis in let w = pos c.scale *ℤ s.grid.step in
+    let p = offset_in c s.grid f s.i j 0 in let v = offset_in c s.grid f s.i 0 0 in let e = way_across f (pos c.scale *ℤ s.grid.pitch) in
+    let o = offset_moves c s.grid f s.i j 0 in
+    let small = strip_small start across step hold s j 0 ready there (has_first s.grid f ready.sized) in
+    let b = ready.start_is in let t = ready.across_is in record {
+      along = small_by (start.along +ℤ pos j *ℤ across.along) (at (cross p a) 0)
+          (by_none (start.along +ℤ pos j *ℤ across.along) (at (cross (way_along w) a) 0) (at (cross p a) 0)
+          (combined start.along across.along (at (cross (way_along w) a) 0) _ _ _ (pos j) (pos 0) _ b.along t.along refl (minor_moves (at p 1) (at p 2) (at v 1) (at v 2) (at e 1) (at e 2) (pos 0) (pos 0) (at a 1) (at a 2) (pos j) (pos 0) o.second o.third))) small.along;
+      second = small_by (start.second +ℤ pos j *ℤ across.second) (at (cross p a) 1)
+          (by_none (start.second +ℤ pos j *ℤ across.second) (at (cross (way_along w) a) 1) (at (cross p a) 1)
+          (combined start.second across.second (at (cross (way_along w) a) 1) _ _ _ (pos j) (pos 0) _ b.second t.second refl (minor_moves (at p 2) (at p 0) (at v 2) (at v 0) (at e 2) (at e 0) (pos 0) w (at a 2) (at a 0) (pos j) (pos 0) o.third o.first))) small.second;
+      third = small_by (start.third +ℤ pos j *ℤ across.third) (at (cross p a) 2)
+          (by_none (start.third +ℤ pos j *ℤ across.third) (at (cross (way_along w) a) 2) (at (cross p a) 2)
+          (combined start.third across.third (at (cross (way_along w) a) 2) _ _ _ (pos j) (pos 0) _ b.third t.third refl (minor_moves (at p 0) (at p 1) (at v 0) (at v 1) (at e 0) (at e 1) w (pos 0) (at a 0) (at a 1) (pos j) (pos 0) o.first o.second))) small.third;
+      height = small_by (start.height +ℤ pos j *ℤ across.height) (dot p a)
+          (by_none (start.height +ℤ pos j *ℤ across.height) (dot (way_along w) a) (dot p a)
+          (combined start.height across.height (dot (way_along w) a) _ _ _ (pos j) (pos 0) _ b.height t.height refl (dot_moves p v e (way_along w) a (pos j) (pos 0) o))) small.height;
+    }
+
+-- turning changes neither the square of a moment nor a height
+squares_by : (a b c x y z : ℤ) → a ≡ x → b ≡ y → c ≡ z → (a *ℤ a +ℤ b *ℤ b) +ℤ c *ℤ c ≡ (x *ℤ x +ℤ y *ℤ y) +ℤ z *ℤ z
+squares_by a b c x y z e f g = ap₂ (λ u v. (u *ℤ u +ℤ v *ℤ v) +ℤ c *ℤ c) e f ∙ ap (λ u. (x *ℤ x +ℤ y *ℤ y) +ℤ u *ℤ u) g
+
+abbrev squares : Term → Term → Term → Term
+squares x y z = add (add (square x) (square y)) (square z)
+
+width_turned : (f : Family) (v a : List ℤ) → dot (cross (turned f v) (turned f a)) (cross (turned f v) (turned f a)) ≡ dot (cross v a) (cross v a)
+width_turned X v a = refl
+width_turned Y v a = ring (at (cross v a) 0 ∷ at (cross v a) 1 ∷ at (cross v a) 2 ∷ []) (squares (var 1) (var 2) (var 0)) (squares (var 0) (var 1) (var 2)) refl
+width_turned Z v a = ring (at (cross v a) 0 ∷ at (cross v a) 1 ∷ at (cross v a) 2 ∷ []) (squares (var 2) (var 0) (var 1)) (squares (var 0) (var 1) (var 2)) refl
+
+height_turned : (f : Family) (v a : List ℤ) → dot (turned f v) (turned f a) ≡ dot v a
+height_turned X v a = refl
+height_turned Y v a =
+    let V = from 0 in let A = from 3 in
+    ring (at v 0 ∷ at v 1 ∷ at v 2 ∷ at a 0 ∷ at a 1 ∷ at a 2 ∷ []) (add (add (mul (V 1) (A 1)) (mul (V 2) (A 2))) (mul (V 0) (A 0))) (dots V A) refl
+height_turned Z v a =
+    let V = from 0 in let A = from 3 in
+    ring (at v 0 ∷ at v 1 ∷ at v 2 ∷ at a 0 ∷ at a 1 ∷ at a 2 ∷ []) (add (add (mul (V 2) (A 2)) (mul (V 0) (A 0))) (mul (V 1) (A 1))) (dots V A) refl
+
+few_points : (g : GridSize) (f : Family) → IsGrid g → points_of g f < 2 ^ 32
+few_points g f h = let few = few_places g (ray_axis f) h (axis_below f) in omega (arith, few)
+
+pub ready_ray : (start across first : Stance) (step : Step) (hold : Hold) (s : NearStripOf) (j : ℕ) → IsReadyStrip start across step hold s → j < nodes_of s.grid (second_axis s.family) → IsMoved first start across (pos j)
+    → IsReadyRay first step hold (near_ray_at s j)
+ready_ray start across first step hold s j ready there moved =
+    let c = s.cylinder in let f = s.family in let a = turned f c.axis in let w = pos c.scale *ℤ s.grid.step in let e = way_across f (pos c.scale *ℤ s.grid.pitch) in
+    let has = λ (l : ℕ). has_stance start across first step (offset_in c s.grid f s.i j l) (offset_in c s.grid f s.i 0 0) e a w (pos j) (pos l) ready.start_is ready.across_is ready.step_is moved (offset_moves c s.grid f s.i j l) in
+    record {
+      few = few_points s.grid f ready.sized;
+      hold_is = ready.hold_is;
+      fits = λ l within.
+          let small = strip_small start across step hold s j l ready there within in record {
+            second = small_by (second_at first step (pos l)) (at (cross (offset_in c s.grid f s.i j l) a) 1) (has l).second small.second;
+            third = small_by (third_at first step (pos l)) (at (cross (offset_in c s.grid f s.i j l) a) 2) (has l).third small.third;
+            height = small_by (height_at first step (pos l)) (dot (offset_in c s.grid f s.i j l) a) (has l).height small.height;
+          };
+      widths = λ l within.
+          squares_by first.along (second_at first step (pos l)) (third_at first step (pos l)) _ _ _ (has l).along (has l).second (has l).third
+          ∙ width_turned f (offset_of c (point_at s.grid f s.i j l)) c.axis;
+      heights = λ l within. (has l).height ∙ height_turned f (offset_of c (point_at s.grid f s.i j l)) c.axis;
+    }
+
+-- one component of the moment is too long
+too_long : (a p q w x m y : ℤ) → w ≡ (a *ℤ a +ℤ p *ℤ p) +ℤ q *ℤ q → w ≡ x → y <ℤ (a *ℤ a) → x ≤ℤ m → m ≡ y → ⊥
+too_long a p q w x m y e f long held same = omega (arith, ints, e, f, long, held, same, square_not_negative p, square_not_negative q)
+
+pub beside_all : (start across first : Stance) (step : Step) (hold : Hold) (s : NearStripOf) (j : ℕ) → IsReadyStrip start across step hold s → j < nodes_of s.grid (second_axis s.family) → IsMoved first start across (pos j)
+    → hold.square <ℤ (first.along *ℤ first.along) → IsBeside (near_ray_at s j)
+beside_all start across first step hold s j ready there moved long = λ l within held.
+    let ray = ready_ray start across first step hold s j ready there moved in
+    too_long first.along (second_at first step (pos l)) (third_at first step (pos l)) (width_at first step (pos l)) _ (s.cylinder.moment *ℤ s.cylinder.moment) hold.square refl (ray.widths l within) long held.beside
+    (sym (hold.square_is ∙ ap (λ z. z *ℤ z) ready.hold_is.moment))
+
+-- a step by the stance of its way
+pub step_by : (t : Step) (way : Stance) (v a : List ℤ) → IsStepLike t way → IsStance way v a → IsStep t v a
+step_by t way v a like is = record { second = like.second ∙ is.second; third = like.third ∙ is.third; height = like.height ∙ is.height }

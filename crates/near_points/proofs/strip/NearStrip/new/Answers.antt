@@ -1,0 +1,53 @@
+use Rattle.std.proofs.Common.{◌≡◌, ◌*ℤ◌, ℤ, List, pos, FitsSigned, arith, rules, subst, ap, ◌∙◌}
+use Rattle.std.proofs.lemmas.Int.{ints, to_z-of_z}
+use mir.Syntax.{w32, w64}
+use borrow.Author.Differences.{abs_is}
+use Rattle.ray_grid.specs.Lattice.{point_at}
+use Rattle.ray_grid.specs.Ranges.{IsGrid}
+use Rattle.near_points.specs.Ready.{offset_of}
+use Rattle.near_points.specs.Stances.{IsStance}
+use Rattle.near_points.specs.Turned.{turned, way_across, way_along}
+use Rattle.near_points.proofs.Turning.{has_first, step_by}
+use Rattle.near_points.proofs.strip.NearStrip.new.Goals as goal
+
+pub point-point-requires-clause-point : goal.point-point-requires-clause-point
+point-point-requires-clause-point c = has_first c.args.grid.now c.args.family (subst IsGrid c.grid.view_is c.grid.invariant)
+
+pub scaled-requires-clause-place : goal.scaled-requires-clause-place
+scaled-requires-clause-place c =
+    let g = c.grid.inside in let low = c.grid.invariant.pitch_in.from_least in let high = c.grid.invariant.pitch_in.to_most in
+    let f : FitsSigned w32 g.pitch = omega (arith, ints, low, high) in
+    omega (arith, ints, low, high, abs_is g.pitch)
+
+pub scaled-requires-2-clause-place : goal.scaled-requires-2-clause-place
+scaled-requires-2-clause-place c =
+    let g = c.grid.inside in let high = c.grid.invariant.pitch_in.to_most in
+    let from = c.grid.invariant.step_in.from_least in let to = c.grid.invariant.step_in.to_most in
+    let f : FitsSigned w32 g.step = omega (arith, ints, from, to, high) in
+    omega (arith, ints, from, to, high, abs_is g.step)
+
+pub invariant_of-result : goal.invariant_of-result
+invariant_of-result c =
+    let g = c.grid.inside in let n = c.args.grid.now in let cylinder = c.args.cylinder.now in let f = c.args.family in let i = c.args.i in
+    let least = c.grid.invariant.pitch_in.from_least in let high = c.grid.invariant.pitch_in.to_most in
+    let from = c.grid.invariant.step_in.from_least in let to = c.grid.invariant.step_in.to_most in
+    let fp : FitsSigned w32 g.pitch = omega (arith, ints, least, high) in
+    let ft : FitsSigned w32 g.step = omega (arith, ints, from, to, high) in
+    let fx : FitsSigned w64 c.scaled.result = search rules in
+    let fy : FitsSigned w64 c.scaled-2.result = search rules in
+    let axis = c.turned-axis.ensures.value in
+    let first : c.turned.result ≡ turned f (offset_of cylinder (point_at n f i 0 0)) =
+    c.turned.ensures.value ∙ ap (turned f) (c.offset_from-offset.ensures.value ∙ ap (offset_of cylinder) c.point-point.ensures.position) in
+    let pitch : c.scaled.result ≡ pos cylinder.scale *ℤ n.pitch = (simp to_z-of_z at c.scaled.ensures.value) ∙ ap (λ z. pos cylinder.scale *ℤ z.pitch) c.grid.view_is in
+    let step : c.scaled-2.result ≡ pos cylinder.scale *ℤ n.step = (simp to_z-of_z at c.scaled-2.ensures.value) ∙ ap (λ z. pos cylinder.scale *ℤ z.step) c.grid.view_is in
+    let across : c.way_across-across.result ≡ way_across f (pos cylinder.scale *ℤ n.pitch) = (simp to_z-of_z at c.way_across-across.ensures.value) ∙ ap (way_across f) pitch in
+    let along : IsStance c.of_offset-along.result (way_along c.scaled-2.result) c.turned-axis.result = simp to_z-of_z at c.of_offset-along.ensures in
+    record {
+      sized = subst IsGrid c.grid.view_is c.grid.invariant;
+      first = c.requires;
+      start_is = subst (λ (a : List ℤ). IsStance c.of_offset.result (turned f (offset_of cylinder (point_at n f i 0 0))) a) axis (subst (λ (v : List ℤ). IsStance c.of_offset.result v c.turned-axis.result) first c.of_offset.ensures);
+      across_is = subst (λ (a : List ℤ). IsStance c.of_offset-2.result (way_across f (pos cylinder.scale *ℤ n.pitch)) a) axis (subst (λ (v : List ℤ). IsStance c.of_offset-2.result v c.turned-axis.result) across c.of_offset-2.ensures);
+      step_is = step_by c.of_stance.result c.of_offset-along.result (way_along (pos cylinder.scale *ℤ n.step)) (turned f cylinder.axis) c.of_stance.ensures
+          (subst (λ (a : List ℤ). IsStance c.of_offset-along.result (way_along (pos cylinder.scale *ℤ n.step)) a) axis (subst (λ (z : ℤ). IsStance c.of_offset-along.result (way_along z) c.turned-axis.result) step along));
+      hold_is = c.of_cylinder.ensures;
+    }

@@ -1,0 +1,6 @@
+pub mod Limits
+pub mod Turned
+pub mod Stances
+pub mod Lines
+pub mod Rays
+pub mod Ready

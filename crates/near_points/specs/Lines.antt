@@ -1,0 +1,60 @@
+-- The stances of the points of a ray, by that of its first point and by what a step adds, at the point l steps on.
+use Rattle.std.specs.Prelude.{◌≡◌, ◌≤◌, ℤ, pos, ◌+ℤ◌, ◌*ℤ◌, ◌<ℤ◌, ◌⊎◌, ◌&&◌, Bool, int_le, unsigned_abs}
+use Rattle.near_points.specs.declared.hold.Hold.{Hold}
+use Rattle.near_points.specs.declared.stance.Stance.{Stance}
+use Rattle.near_points.specs.declared.step.Step.{Step}
+use Rattle.near_points.specs.Limits.{moment_limit}
+
+abbrev pub second_at : Stance → Step → ℤ → ℤ
+second_at s t l = s.second +ℤ l *ℤ t.second
+
+abbrev pub third_at : Stance → Step → ℤ → ℤ
+third_at s t l = s.third +ℤ l *ℤ t.third
+
+abbrev pub height_at : Stance → Step → ℤ → ℤ
+height_at s t l = s.height +ℤ l *ℤ t.height
+
+-- the square of the moment
+abbrev pub width_at : Stance → Step → ℤ → ℤ
+width_at s t l = (s.along *ℤ s.along +ℤ second_at s t l *ℤ second_at s t l) +ℤ third_at s t l *ℤ third_at s t l
+
+-- the stance r is that of the point l steps on
+pub record IsAfter (r s : Stance) (t : Step) (l : ℤ) : Type 0 where
+  pub along : r.along ≡ s.along
+  pub second : r.second ≡ second_at s t l
+  pub third : r.third ≡ third_at s t l
+  pub height : r.height ≡ height_at s t l
+
+-- its numbers fit
+pub record FitsAfter (s : Stance) (t : Step) (l : ℤ) : Type 0 where
+  pub second : unsigned_abs (second_at s t l) ≤ moment_limit
+  pub third : unsigned_abs (third_at s t l) ≤ moment_limit
+  pub height : unsigned_abs (height_at s t l) ≤ moment_limit
+
+-- the point is held: the square of its moment is at most that of the cylinder, and its height from the least to the most
+abbrev pub is_held_after : Hold → Stance → Step → ℤ → Bool
+is_held_after hold s t l = int_le (width_at s t l) hold.square && (int_le hold.least (height_at s t l) && int_le (height_at s t l) hold.most)
+
+-- two heights are beyond the same end
+abbrev pub AreBeyond : ℤ → ℤ → ℤ → ℤ → Type 0
+AreBeyond least most a b = ((a <ℤ least) × (b <ℤ least)) ⊎ ((most <ℤ a) × (most <ℤ b))
+
+-- of one stance: the square of its moment, and the slope of that for a step
+abbrev pub width_of : Stance → ℤ
+width_of s = (s.along *ℤ s.along +ℤ s.second *ℤ s.second) +ℤ s.third *ℤ s.third
+
+abbrev pub slope_of : Stance → Step → ℤ
+slope_of s t = pos 2 *ℤ (s.second *ℤ t.second +ℤ s.third *ℤ t.third)
+
+-- the stance r is the stance s and n times the stance t; its numbers fit
+pub record IsMoved (r s t : Stance) (n : ℤ) : Type 0 where
+  pub along : r.along ≡ s.along +ℤ n *ℤ t.along
+  pub second : r.second ≡ s.second +ℤ n *ℤ t.second
+  pub third : r.third ≡ s.third +ℤ n *ℤ t.third
+  pub height : r.height ≡ s.height +ℤ n *ℤ t.height
+
+pub record FitsMoved (s t : Stance) (n : ℤ) : Type 0 where
+  pub along : unsigned_abs (s.along +ℤ n *ℤ t.along) ≤ moment_limit
+  pub second : unsigned_abs (s.second +ℤ n *ℤ t.second) ≤ moment_limit
+  pub third : unsigned_abs (s.third +ℤ n *ℤ t.third) ≤ moment_limit
+  pub height : unsigned_abs (s.height +ℤ n *ℤ t.height) ≤ moment_limit

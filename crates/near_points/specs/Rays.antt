@@ -1,0 +1,42 @@
+-- The rays of a grid against a bounding cylinder.
+use Rattle.std.specs.Prelude.{◌≡◌, ℕ, ◌+◌, ◌<◌, true}
+use Rattle.ray_grid.specs.Grids.{GridSize}
+use Rattle.ray_grid.specs.declared.ray.Family.{Family}
+use Rattle.ray_grid.specs.declared.ray.Ray.{Ray}
+use Rattle.ray_grid.specs.Lattice.{point_of, points_of}
+use Rattle.sweep_boxes.specs.declared.cylinder.BoundingCylinder.{BoundingCylinder}
+use Rattle.sweep_boxes.specs.Cylinders.{IsInCylinder}
+use Rattle.vf_spans.specs.Words.{has_bit}
+
+-- a bounding cylinder and the rays of one strip of a grid, those of a family with the node i
+pub record NearStripOf : Type 0 where
+  pub cylinder : BoundingCylinder
+  pub grid : GridSize
+  pub family : Family
+  pub i : ℕ
+
+-- a bounding cylinder and a ray of a grid
+pub record NearRayOf : Type 0 where
+  pub cylinder : BoundingCylinder
+  pub grid : GridSize
+  pub ray : Ray
+
+-- the ray of the strip with the node j
+abbrev pub near_ray_at : NearStripOf → ℕ → NearRayOf
+near_ray_at s j = record { cylinder = s.cylinder; grid = s.grid; ray = record { family = s.family; i = s.i; j = j } }
+
+-- the cylinder holds the point at an index of the ray
+abbrev pub IsHeldAt : NearRayOf → ℕ → Type 0
+IsHeldAt r l = IsInCylinder r.cylinder (point_of r.grid r.ray l)
+
+-- it holds no point of the ray
+abbrev pub IsBeside : NearRayOf → Type 0
+IsBeside r = (l : ℕ) → l < points_of r.grid r.ray.family → IsHeldAt r l → ⊥
+
+-- each bit of the word, the lowest of which is the index `first`, is a point of the ray
+abbrev pub AreOnRay : NearRayOf → ℕ → ℕ → Type 0
+AreOnRay r first wanted = (b : ℕ) → b < 64 → has_bit wanted b ≡ true → first + b < points_of r.grid r.ray.family
+
+-- bit b of the word is set, and the cylinder holds its point
+abbrev pub IsHeldBit : NearRayOf → ℕ → ℕ → ℕ → Type 0
+IsHeldBit r first wanted b = (has_bit wanted b ≡ true) × IsHeldAt r (first + b)

@@ -1,0 +1,56 @@
+ghost use Rattle.std.specs.Prelude.{◌≡◌, ◌*ℤ◌, ◌≤ℤ◌, ◌<ℤ◌, ◌&&◌, IsTrue, int_le, pos};
+
+use sweep_boxes::BoundingCylinder;
+
+/// What holds a point in a cylinder: the least and the most of its height, the moment that its moment is not longer than, and the
+/// square of that.
+#[derive(Drop)]
+pub struct Hold {
+    pub least: i64,
+    pub most: i64,
+    pub moment: i64,
+    pub square: i128,
+    ghost square_is: { square ≡ moment *ℤ moment },
+    ghost moment_some: { pos 0 ≤ℤ moment },
+}
+
+impl Hold {
+    ghost use Rattle.near_points.specs.Ready.{IsHoldOf};
+
+    pub fn of_cylinder(cylinder: &BoundingCylinder) -> Hold
+        ensures { IsHoldOf result cylinder.now }
+    {
+        let moment = i128::from(cylinder.moment);
+        Hold {
+            least: cylinder.least,
+            most: cylinder.most,
+            moment: cylinder.moment,
+            square: moment * moment,
+        }
+    }
+
+    /// Whether one component of a moment is longer than the moment that holds a point.
+    #[inline]
+    pub fn is_exceeded(&self, along: i64) -> bool
+        ensures { IsTrue result → self.now.square <ℤ (along *ℤ along) }
+    {
+        if self.moment < along {
+            return true;
+        }
+        along < -self.moment
+    }
+
+    /// Whether a point with this square of the moment and this height is held.
+    #[inline]
+    pub fn holds(&self, width: i128, height: i64) -> bool
+        ensures { result ≡ (int_le width self.now.square && (int_le self.now.least height && int_le height self.now.most)) }
+    {
+        if self.square < width {
+            return false;
+        }
+        if height < self.least {
+            return false;
+        }
+        height <= self.most
+    }
+}

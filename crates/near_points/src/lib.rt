@@ -1,0 +1,17 @@
+//! Which points of a word of 64 points of a ray a bounding cylinder holds.
+#![tactic(auto)]
+
+mod hold;
+mod offset;
+mod ray;
+mod scan;
+mod stance;
+mod step;
+mod strip;
+mod word;
+
+pub use ray::NearRay;
+pub use strip::NearStrip;
+
+#[cfg(test)]
+mod tests;

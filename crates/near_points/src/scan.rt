@@ -1,0 +1,70 @@
+ghost use Rattle.std.specs.Prelude.{◌≡◌, ℕ, ◌+◌, ◌^◌, ◌<◌, ◌≤◌, ◌<ℤ◌, ◌≤ℤ◌, ◌⊎◌, pos, false, IsTrue};
+ghost use Rattle.vf_spans.specs.Words.{has_bit};
+ghost use Rattle.near_points.specs.declared.stance.Stance.{Stance};
+ghost use Rattle.near_points.specs.Lines.{AreBeyond, FitsAfter, IsAfter, is_held_after};
+
+use crate::hold::Hold;
+use crate::stance::Stance;
+use crate::step::Step;
+use vf_spans::bits::with_bit;
+
+/// Whether two heights are both below the least one that is held, or both above the most.
+#[inline]
+fn are_beyond(hold: &Hold, a: i64, b: i64) -> bool
+    ensures { IsTrue result → AreBeyond hold.now.least hold.now.most a b }
+{
+    a < hold.least && b < hold.least || hold.most < a && hold.most < b
+}
+
+/// Whether a square of a moment is too large, and grows from there.
+#[inline]
+fn is_leaving(hold: &Hold, width: i128, growth: i128) -> bool
+    ensures far { IsTrue result → hold.now.square <ℤ width }
+    ensures growing { IsTrue result → pos 0 ≤ℤ growth }
+{
+    hold.square < width && 0 <= growth
+}
+
+/// Whether no point from one to another is held: the heights at both are beyond the same end, or the moment is too long at one of them
+/// and no shorter at the next point towards the other. Its square is convex, so it only grows from there.
+#[inline]
+pub fn are_left_out(step: &Step, hold: &Hold, from: &Stance, to: &Stance) -> bool
+    ensures { IsTrue result → (first : Stance) (l m : ℕ) → IsAfter from.now first step.now (pos l) → IsAfter to.now first step.now (pos m)
+        → (x : ℕ) → l ≤ x → x ≤ m → is_held_after hold.now first step.now (pos x) ≡ false }
+{
+    if are_beyond(hold, from.height, to.height) {
+        return true;
+    }
+    if is_leaving(hold, from.width(), step.curve + step.slope(from)) {
+        return true;
+    }
+    is_leaving(hold, to.width(), step.curve - step.slope(to))
+}
+
+/// The bits from `lo` to `hi` of the points that are held. Bit b is the point at the index `start + b`.
+#[inline]
+pub fn held_between(first: &Stance, step: &Step, hold: &Hold, start: u32, lo: u32, hi: u32) -> u64
+    requires order { lo ≤ hi }
+    requires within { hi < 64 }
+    requires few { start + hi < 2 ^ 32 }
+    requires fits { (b : ℕ) → lo ≤ b → b ≤ hi → FitsAfter first.now step.now (pos (start + b)) }
+    ensures { (b : ℕ) → lo ≤ b → b ≤ hi → has_bit result b ≡ is_held_after hold.now first.now step.now (pos (start + b)) }
+{
+    let from = step.after(first, start + lo);
+    let bend = 2 * step.curve;
+    let mut width = from.width();
+    let mut growth = step.curve + step.slope(&from);
+    let mut height = from.height;
+    let mut bits = 0u64;
+    let mut b = lo;
+    while b <= hi {
+        if hold.holds(width, height) {
+            bits = with_bit(bits, b);
+        }
+        width += growth;
+        growth += bend;
+        height += step.height;
+        b += 1;
+    }
+    bits
+}

@@ -1,0 +1,124 @@
+ghost use Rattle.std.specs.Prelude.{◌≡◌, ◌*◌, ◌<◌, ◌≤◌, ◌+ℤ◌, ◌*ℤ◌, ◌-ℤ◌, pos, unsigned_abs};
+ghost use Rattle.space.specs.Ranges.{IsWithin};
+ghost use Rattle.space.specs.Vectors.{at, dot};
+ghost use Rattle.sweep_boxes.specs.Limits.{side_limit};
+ghost use Rattle.near_points.specs.Limits.{moment_limit};
+
+/// The product of component `i` of a vector and component `j` of another.
+#[inline]
+fn product(p: &[i64; 3], i: usize, a: &[i64; 3], j: usize) -> i64
+    requires i { i < 3 }
+    requires j { j < 3 }
+    requires p { unsigned_abs (at p.now i) ≤ side_limit }
+    requires a { unsigned_abs (at a.now j) ≤ side_limit }
+    ensures value { result ≡ at p.now i *ℤ at a.now j }
+    ensures small { unsigned_abs result ≤ side_limit * side_limit }
+{
+    p[i] * a[j]
+}
+
+/// The scalar product of two vectors.
+#[inline]
+fn dot(p: &[i64; 3], a: &[i64; 3]) -> i64
+    requires p { IsWithin side_limit p.now }
+    requires a { IsWithin side_limit a.now }
+    ensures value { result ≡ dot p.now a.now }
+    ensures small { unsigned_abs result ≤ moment_limit }
+{
+    product(p, 0, a, 0) + product(p, 1, a, 1) + product(p, 2, a, 2)
+}
+
+/// The component of a cross product that is made of the components `i` and `j`.
+#[inline]
+fn minor(p: &[i64; 3], a: &[i64; 3], i: usize, j: usize) -> i64
+    requires i { i < 3 }
+    requires j { j < 3 }
+    requires pi { unsigned_abs (at p.now i) ≤ side_limit }
+    requires pj { unsigned_abs (at p.now j) ≤ side_limit }
+    requires ai { unsigned_abs (at a.now i) ≤ side_limit }
+    requires aj { unsigned_abs (at a.now j) ≤ side_limit }
+    ensures value { result ≡ at p.now i *ℤ at a.now j -ℤ at p.now j *ℤ at a.now i }
+    ensures small { unsigned_abs result ≤ moment_limit }
+{
+    product(p, i, a, j) - product(p, j, a, i)
+}
+
+/// a + n b
+#[inline]
+pub fn moved(a: i64, n: u32, b: i64) -> i64
+    requires from { unsigned_abs a ≤ moment_limit }
+    requires to { unsigned_abs (a +ℤ pos n *ℤ b) ≤ moment_limit }
+    ensures { result ≡ a +ℤ pos n *ℤ b }
+{
+    a + i64::from(n) * b
+}
+
+/// The product of two numbers of moments.
+#[inline]
+pub fn wide_product(a: i64, b: i64) -> i128
+    requires a { unsigned_abs a ≤ moment_limit }
+    requires b { unsigned_abs b ≤ moment_limit }
+    ensures value { result ≡ a *ℤ b }
+    ensures small { unsigned_abs result ≤ moment_limit * moment_limit }
+{
+    i128::from(a) * i128::from(b)
+}
+
+/// How an offset v stands to an axis a: the component of its moment v x a along the rays of a family, those along the two axes after
+/// theirs, and its height v . a. They are taken times the scale of the cylinder and the length of the axis.
+#[derive(Drop)]
+pub struct Stance {
+    pub along: i64,
+    pub second: i64,
+    pub third: i64,
+    pub height: i64,
+    ghost along_small: { unsigned_abs along ≤ moment_limit },
+    ghost second_small: { unsigned_abs second ≤ moment_limit },
+    ghost third_small: { unsigned_abs third ≤ moment_limit },
+    ghost height_small: { unsigned_abs height ≤ moment_limit },
+}
+
+impl Stance {
+    ghost use Rattle.near_points.specs.Lines.{FitsMoved, IsMoved, width_of};
+    ghost use Rattle.near_points.specs.Stances.{IsStance};
+
+    /// Of an offset and an axis that have the component along the rays first.
+    pub fn of_offset(v: &[i64; 3], a: &[i64; 3]) -> Stance
+        requires v { IsWithin side_limit v.now }
+        requires a { IsWithin side_limit a.now }
+        ensures { IsStance result v.now a.now }
+    {
+        Stance {
+            along: minor(v, a, 1, 2),
+            second: minor(v, a, 2, 0),
+            third: minor(v, a, 0, 1),
+            height: dot(v, a),
+        }
+    }
+
+    /// j times what another adds.
+    #[inline]
+    pub fn moved(&self, by: &Stance, j: u32) -> Stance
+        requires { FitsMoved self.now by.now (pos j) }
+        ensures { IsMoved result self.now by.now (pos j) }
+    {
+        Stance {
+            along: moved(self.along, j, by.along),
+            second: moved(self.second, j, by.second),
+            third: moved(self.third, j, by.third),
+            height: moved(self.height, j, by.height),
+        }
+    }
+
+    /// The square of the moment.
+    #[inline]
+    pub fn width(&self) -> i128
+        ensures value { result ≡ width_of self.now }
+        ensures small { unsigned_abs result ≤ 3 * (moment_limit * moment_limit) }
+    {
+        let along = wide_product(self.along, self.along);
+        let second = wide_product(self.second, self.second);
+        let third = wide_product(self.third, self.third);
+        along + second + third
+    }
+}

@@ -1,0 +1,113 @@
+-- What a move is asked about on the rays of a strip, by its cylinder.
+use Rattle.std.proofs.Common.{◌≡◌, ℕ, ◌+◌, ◌^◌, ◌<◌, ◌≤◌, List, [], Some, length, set, arith, refl, sym, ap, ◌∙◌, subst}
+use Rattle.std.specs.List.{slice_get}
+use Rattle.std.proofs.lemmas.List.{set-get_or}
+use Rattle.sweep_boxes.specs.declared.cylinder.BoundingCylinder.{BoundingCylinder}
+use Rattle.sweep_boxes.specs.Cylinders.{IsInCylinder}
+use Rattle.ray_grid.specs.Grids.{GridSize}
+use Rattle.ray_grid.specs.declared.ray.Family.{Family}
+use Rattle.ray_grid.specs.declared.ray.Ray.{Ray}
+use Rattle.ray_grid.specs.Families.{first_axis, second_axis}
+use Rattle.ray_grid.specs.Lattice.{IsRay, nodes_of, point_of, points_of}
+use Rattle.ray_grid.specs.Strips.{strip_at, strip_of, strips_of}
+use Rattle.vf_spans.specs.Members.{in_range}
+use Rattle.vf_spans.specs.Words.{words_below}
+use Rattle.near_points.specs.Rays.{IsBeside, NearRayOf, NearStripOf, near_ray_at}
+use Rattle.ray_words.specs.Rays.{KeptSets}
+use Rattle.job_facts.specs.Counts.{no_counts}
+use Rattle.dexel_rays.specs.Sets.{Sets}
+use Rattle.job_model.specs.Tasks.{IsPlan, JobMove, PlanOf}
+use Rattle.strip_plan.specs.Plans.{HasNumber}
+use Rattle.strip_plan.specs.Windows.{HoldsMet}
+use Rattle.strip_marks.specs.declared.change.WordChange.{WordChange}
+use Rattle.strip_marks.specs.Marks.{AreRays, kept_of, points_at, possible_there, ray_of, sets_of, sure_there}
+use Rattle.strip_marks.specs.declared.marked.Marked.{Marked}
+use Rattle.strip_marks.specs.RayMarks.{Adds, HasNoneAhead, IsIdle, IsNearOf, IsRayMarked, IsUnasked, IsWindow}
+use Rattle.strip_marks.specs.RowMarks.{AreRaysMarked, AreSetsAt, IsNearStripOf}
+use Rattle.strip_marks.proofs.AtWords.{idle_unasked, in_range_below}
+use Rattle.strip_marks.proofs.Counting.{plus_none}
+use Rattle.strip_marks.proofs.Growing.{adds_none}
+use Rattle.strip_marks.proofs.Idle.{idle_ray}
+use Rattle.strip_marks.proofs.MoreRays.{no_sets, rays_more, same_self}
+use Rattle.strip_marks.proofs.OneRay.{sets_for}
+use Rattle.strip_marks.proofs.OnStrips.{move_on, nodes_enough, on_grid, ray_is, row_of_ray}
+
+-- the cylinder on ray n of the strip is one of the move there
+pub near_on : (plan : PlanOf) (number strip n : ℕ) (move : JobMove) (s : NearStripOf) → IsNearStripOf plan number strip s → HasNumber plan number move
+    → strip < length (strips_of plan.grid) → n < length (strip_at plan.grid strip) → IsNearOf (near_ray_at s n) (move_on plan move strip n)
+near_on plan number strip n move s h has within lt =
+    let ray = ray_is plan.grid strip n s.family s.i h.rays lt in record {
+      grid = h.grid;
+      ray = sym ray;
+      holds = λ l less t.
+          let met =
+          h.holds move has (ray_of plan.grid strip n) l (record { on_grid = on_grid plan.grid strip n within lt; index = less; possible = t }) in
+          subst (λ (x : Ray). IsInCylinder s.cylinder (point_of s.grid x l)) ray
+          (subst (λ (g : GridSize). IsInCylinder s.cylinder (point_of g (ray_of plan.grid strip n) l)) (sym h.grid) met);
+    }
+
+pub near_node : (plan : PlanOf) (number strip n : ℕ) (s : NearStripOf) → IsNearStripOf plan number strip s → n < length (strip_at plan.grid strip)
+    → n < nodes_of s.grid (second_axis s.family)
+near_node plan number strip n s h lt =
+    subst (λ (g : GridSize). n < nodes_of g (second_axis s.family)) (sym h.grid) (nodes_enough plan.grid strip n s.family s.i h.rays lt)
+
+-- the ray has as many points
+pub near_points_of : (plan : PlanOf) (number strip n : ℕ) (s : NearStripOf) → IsNearStripOf plan number strip s → n < length (strip_at plan.grid strip)
+    → points_of s.grid s.family ≡ points_at plan.grid strip n
+near_points_of plan number strip n s h lt =
+    ap (λ (g : GridSize). points_of g s.family) h.grid
+    ∙ ap (λ (x : Ray). points_of plan.grid x.family) (sym (ray_is plan.grid strip n s.family s.i h.rays lt))
+
+-- a cylinder that is made ready for the rays of the strip's first one is that on the strip
+pub near_of : (plan : PlanOf) (number strip : ℕ) (s : NearStripOf) (cylinder : BoundingCylinder) (grid : GridSize) (first : Ray)
+    → s ≡ record { cylinder = cylinder; grid = grid; family = first.family; i = first.i } → grid ≡ plan.grid
+    → slice_get (strip_at grid strip) 0 ≡ Some first → IsRay grid first
+    → ((move : JobMove) → HasNumber plan number move → HoldsMet plan move cylinder) → IsNearStripOf plan number strip s
+near_of plan number strip s cylinder grid first e g there on holds =
+    let rays = row_of_ray plan.grid strip 0 first (subst (λ (x : GridSize). IsRay x first) g on)
+    (subst (λ (x : GridSize). slice_get (strip_at x strip) 0 ≡ Some first) g there) in
+    subst (λ (x : NearStripOf). IsNearStripOf plan number strip x) (sym e) (record { grid = g; rays = rays; holds = holds })
+
+-- where no index of the window is wanted, or the whole ray is beside the cylinder, the move is asked about none
+pub unasked_unwanted : (near : NearRayOf) (d : Sets) (window : ℕ × ℕ) (word : ℕ) → HasNoneAhead d window word → words_below window.1 ≤ word
+    → IsUnasked near d window
+unasked_unwanted near d window word ahead le l at =
+    let below = in_range_below window.0 window.1 l at.in_window in
+    let no = ahead.none l (omega (arith, below, le)) at.in_window in let yes = at.wanted in cc
+
+pub unasked_beside : (near : NearRayOf) (d : Sets) (window : ℕ × ℕ) → IsBeside near → window.1 ≤ points_of near.grid near.ray.family → IsUnasked near d window
+unasked_beside near d window beside on l at =
+    let below = in_range_below window.0 window.1 l at.in_window in beside l (omega (arith, below, on)) at.held
+
+-- a ray that the move is asked about no point of is idle
+pub idle_on : (plan : PlanOf) (number strip n lo hi : ℕ) (move : JobMove) (s : NearStripOf) (ray : KeptSets) → IsNearStripOf plan number strip s
+    → HasNumber plan number move → strip < length (strips_of plan.grid) → n < length (strip_at plan.grid strip) → AreSetsAt plan.grid strip n ray.sets
+    → IsWindow (move_on plan move strip n) lo hi → IsUnasked (near_ray_at s n) ray.sets (lo, hi) → (l : ℕ) → l < length ray.sets.stock
+    → IsIdle ray.sets (sure_there plan move strip n) (possible_there plan move strip n) l
+idle_on plan number strip n lo hi move s ray h has within lt sets w none l less =
+    idle_unasked (near_ray_at s n) (move_on plan move strip n) ray.sets lo hi l (sets_for plan move strip n (move_on plan move strip n) ray refl sets) w
+    (near_on plan number strip n move s h has within lt) less (none l)
+
+-- on one idle ray more nothing is marked
+pub rays_idle : (plan : PlanOf) (move : JobMove) (strip lo n : ℕ) (rays : List KeptSets) → AreRays plan.grid strip rays → lo ≤ n → n < length rays
+    → length (sets_of rays n).stock < 2 ^ 32 → AreRaysMarked plan move strip rays rays lo n [] no_counts
+    → ((l : ℕ) → l < length (sets_of rays n).stock → IsIdle (sets_of rays n) (sure_there plan move strip n) (possible_there plan move strip n) l)
+    → AreRaysMarked plan move strip rays rays lo (n + 1) [] no_counts
+rays_idle plan move strip lo n rays are from lt few h idle =
+    let next = idle_ray (kept_of rays n) (sure_there plan move strip n) (possible_there plan move strip n) move.rapid n (λ l. are.possible n l lt) few idle in
+    subst (λ (xs : List KeptSets). AreRaysMarked plan move strip rays xs lo (n + 1) [] no_counts) (set-get_or rays n no_sets)
+    (rays_more plan move strip lo n rays rays (kept_of rays n) [] [] no_counts no_counts are (same_self rays) (record { sets = refl; kept = λ k kept. kept }) from lt h
+    next no_counts [] (sym (plus_none no_counts)) refl)
+
+-- on a ray that the move is asked about no point of it changes nothing
+pub untouched : (plan : PlanOf) (number strip n lo hi : ℕ) (move : JobMove) (s : NearStripOf) (ray : KeptSets) (marked : Marked)
+    → IsNearStripOf plan number strip s → HasNumber plan number move → strip < length (strips_of plan.grid) → n < length (strip_at plan.grid strip)
+    → AreSetsAt plan.grid strip n ray.sets → IsWindow (move_on plan move strip n) lo hi → IsUnasked (near_ray_at s n) ray.sets (lo, hi)
+    → length ray.sets.stock < 2 ^ 32
+    → Adds marked marked (λ added found. IsRayMarked ray (sure_there plan move strip n)
+    (possible_there plan move strip n) move.rapid n added found)
+untouched plan number strip n lo hi move s ray marked near has within lt h w none few =
+    adds_none marked
+    (λ added found. IsRayMarked ray (sure_there plan move strip n) (possible_there plan move strip n) move.rapid n added found)
+    (idle_ray ray (sure_there plan move strip n) (possible_there plan move strip n) move.rapid n h.ordered few
+    (idle_on plan number strip n lo hi move s ray near has within lt h w none))
