@@ -7,3 +7,4 @@ pub mod FirstRays
 pub mod Boxed
 pub mod Windowed
 pub mod Rows
+pub mod Passed

@@ -4,3 +4,4 @@ pub mod Windows
 pub mod Ranges
 pub mod IndexBoxes
 pub mod Boxed
+pub mod Passing

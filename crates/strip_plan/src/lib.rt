@@ -6,6 +6,7 @@ mod boxes;
 mod cutters;
 mod index_box;
 mod indexed;
+mod passing;
 mod plan;
 mod plan_move;
 mod ranges;
