@@ -64,16 +64,42 @@ take_joined straight at rest =
     ∙ take-append-add (range_with_len 0 straight) rest (at - straight)
     ∙ ap (λ n. joined n (take (at - straight) rest)) (sym all))
 
+-- the first of its straight part are their own numbers
+pub first_straight : (straight at : ℕ) (rest : List ℕ) → at ≤ straight → take at (joined straight rest) ≡ range_with_len 0 at
+first_straight straight at rest low =
+    let size = length-range_with_len 0 straight in
+    take-append-le at (range_with_len 0 straight) rest (omega (arith, low, size)) ∙ take_range 0 at straight low
+
 -- an edit that goes on straight is one number more
 pub goes_straight : (straight at : ℕ) (rest : List ℕ) → at ≤ straight → joined (at + 1) [] ≡ take at (joined straight rest) ++ at ∷ []
 goes_straight straight at rest low =
-    let size = length-range_with_len 0 straight in
     let more : at + 1 ≡ suc at = omega arith in
     append-nil (range_with_len 0 (at + 1))
     ∙ ap (λ n. range_with_len 0 n) more
     ∙ range_more 0 at at (omega arith)
-    ∙ ap (λ (l : List ℕ). l ++ at ∷ [])
-    (sym (take-append-le at (range_with_len 0 straight) rest (omega (arith, low, size)) ∙ take_range 0 at straight low))
+    ∙ ap (λ (l : List ℕ). l ++ at ∷ []) (sym (first_straight straight at rest low))
+
+-- numbers from one on, in two parts
+range_split : (a n m : ℕ) → range_with_len a (n + m) ≡ range_with_len a n ++ range_with_len (a + n) m
+range_split a zero m =
+    let none : zero + m ≡ m = omega arith in
+    let same : a ≡ a + zero = omega arith in
+    ap (range_with_len a) none ∙ ap (λ b. range_with_len b m) same
+range_split a (suc n) m =
+    let more : suc n + m ≡ suc (n + m) = omega arith in
+    let same : a + 1 + n ≡ a + suc n = omega arith in
+    ap (range_with_len a) more
+    ∙ ap (λ (l : List ℕ). a ∷ l) (range_split (a + 1) n m)
+    ∙ ap (λ b. a ∷ (range_with_len (a + 1) n ++ range_with_len b m)) same
+
+-- so many edits that go on straight are as many numbers more
+pub goes_straight_by : (at count : ℕ) (line : List ℕ) → take at line ≡ range_with_len 0 at
+    → joined (at + count) [] ≡ take at line ++ range_with_len at count
+goes_straight_by at count line first =
+    let same : 0 + at ≡ at = omega arith in
+    append-nil (range_with_len 0 (at + count))
+    ∙ range_split 0 at count
+    ∙ (λ i. sym first i ++ range_with_len (same i) count)
 
 -- any other is added to the rest
 pub goes_on : (straight at edit : ℕ) (rest : List ℕ)

@@ -38,3 +38,4 @@ pub mod FreshJournal
 pub mod ToldNext
 pub mod Sent
 pub mod Unentered
+pub mod StoodBy

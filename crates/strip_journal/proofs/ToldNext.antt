@@ -1,5 +1,5 @@
 -- What callers see of a strip after an edit.
-use Rattle.std.proofs.Common.{◌≡◌, ℕ, ◌+◌, ◌<◌, length, sym, ap, ◌∙◌, subst}
+use Rattle.std.proofs.Common.{◌≡◌, ℕ, ◌+◌, ◌<◌, ◌≤◌, length, sym, ap, ◌∙◌, subst}
 use Rattle.std.specs.Prelude.{Result, Ok, Err, OnOk, OnErr}
 use Rattle.job_model.specs.Tasks.{PlanOf}
 use Rattle.strip_journal.specs.declared.journal.Journal.{Journal}
@@ -19,15 +19,23 @@ plan_told j s plan is same = ap (λ (t : StripOf). t.job.plan) is ∙ same
 pub next_told : (j : Journal) (s : StripOf) (plan : PlanOf) → strip_of j ≡ s → s.done < length plan.edits → j.done < length plan.edits
 next_told j s plan is low = subst (λ (t : StripOf). t.done < length plan.edits) (sym is) low
 
+pub run_told : (j : Journal) (s : StripOf) (plan : PlanOf) (most : ℕ) → strip_of j ≡ s → s.done + most ≤ length plan.edits
+    → j.done + most ≤ length plan.edits
+run_told j s plan most is low = subst (λ (t : StripOf). t.done + most ≤ length plan.edits) (sym is) low
+
 -- the strip of a journal that stands after so many edits
 seen_at : (j k : Journal) (done : ℕ) → IsAt j k done → strip_of k ≡ record { job = job_of j; number = j.number; done = done }
 seen_at j k done at = λ i. record { job = at.job i; number = at.number i; done = at.done_is i }
 
--- after an edit, and after want of memory
+-- after so many edits, after one, and after want of memory
+pub passed_told : (j k : Journal) (s : StripOf) (count : ℕ) → strip_of j ≡ s → IsAt j k (j.done + count)
+    → strip_of k ≡ record { job = s.job; number = s.number; done = s.done + count }
+passed_told j k s count is at =
+    seen_at j k (j.done + count) at ∙ ap (λ (t : StripOf). record { job = t.job; number = t.number; done = t.done + count }) is
+
 pub done_told : (j k : Journal) (s : StripOf) → strip_of j ≡ s → IsAt j k (j.done + 1)
     → strip_of k ≡ record { job = s.job; number = s.number; done = s.done + 1 }
-done_told j k s is at =
-    seen_at j k (j.done + 1) at ∙ ap (λ (t : StripOf). record { job = t.job; number = t.number; done = t.done + 1 }) is
+done_told j k s is at = passed_told j k s 1 is at
 
 pub same_told : (j k : Journal) (s : StripOf) → strip_of j ≡ s → IsAt j k j.done → strip_of k ≡ s
 same_told j k s is at = seen_at j k j.done at ∙ is

@@ -1,5 +1,6 @@
 -- What one edit makes of what a strip keeps.
 use Rattle.std.specs.Prelude.{◌≡◌, ℕ, ◌+◌, ◌-◌, ◌^◌, ◌<◌, ◌≤◌, ◌&&◌, ◌==◌, not, Bool, false, if◌then◌else◌, List, [], ◌∷◌, ◌++◌, length, take, vec_capacity, vec_len}
+use Rattle.std.specs.List.{range_with_len}
 use Rattle.vf_spans.specs.Members.{has}
 use Rattle.edit_plan.specs.Limits.{most_edits}
 use Rattle.job_facts.specs.declared.counts.Counts.{Counts}
@@ -98,6 +99,16 @@ pub record IsStood (j k : Journal) : Type 0 where
   pub line : k.line ≡ take j.at j.line ++ j.done ∷ []
   pub at : k.at ≡ j.at + 1
   pub done : k.done ≡ j.done + 1
+
+-- a journal after so many edits from this one on were added to those that are left
+pub record IsStoodBy (j k : Journal) (count : ℕ) : Type 0 where
+  pub strip : IsSameStrip j k
+  pub rays : k.rays.items ≡ j.rays.items
+  pub changes : k.changes.items ≡ j.changes.items
+  pub entries : k.entries.items ≡ j.entries.items
+  pub line : k.line ≡ take j.at j.line ++ range_with_len j.done count
+  pub at : k.at ≡ j.at + count
+  pub done : k.done ≡ j.done + count
 
 -- a journal after the changes and counts of an edit's move were entered
 pub record IsEntered (j k : Journal) (edit : ℕ) (changes : List WordChange) (counts : Counts) : Type 0 where

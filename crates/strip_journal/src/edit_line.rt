@@ -1,4 +1,4 @@
-ghost use Rattle.std.specs.Prelude.{◌≡◌, ℕ, ◌+◌, ◌-◌, ◌<◌, ◌≤◌, ◌^◌, [], ◌∷◌, ◌++◌, List, MatchOption, OnErr, OnOk, length, slice_index, take};
+ghost use Rattle.std.specs.Prelude.{◌≡◌, ℕ, ◌+◌, ◌-◌, ◌<◌, ◌≤◌, ◌^◌, [], ◌∷◌, ◌++◌, List, IsTrue, MatchOption, OnErr, OnOk, length, slice_index, take};
 ghost use Rattle.std.specs.List.{range_with_len};
 ghost use Rattle.vf_spans.specs.Edges.{Ascends};
 
@@ -76,6 +76,23 @@ impl EditLine {
         self.straight = self.straight.min(at);
         let _put = self.rest.push(edit);
         Ok(())
+    }
+
+    /// Whether the first `at` edits are seen to stand at their own numbers.
+    pub fn is_straight(&self, at: u32) -> bool
+        ensures { IsTrue result → take at self.now ≡ range_with_len 0 at }
+    {
+        at <= self.straight
+    }
+
+    /// Cuts off what stands from a place on, and adds so many edits there, each at its own number. It takes no memory.
+    pub fn put_straight(&mut self, at: u32, count: u32)
+        requires fits { at + count < 2 ^ 32 }
+        requires straight { take at self.old ≡ range_with_len 0 at }
+        ensures { self.new ≡ take at self.old ++ range_with_len at count }
+    {
+        self.straight = at + count;
+        self.rest.clear();
     }
 
     /// The place of an edit among those ahead of `at`, if it is one of them.

@@ -7,6 +7,7 @@ mod entry;
 mod finding;
 mod fresh;
 mod journal;
+mod passing;
 mod rays;
 mod strip;
 mod turning;

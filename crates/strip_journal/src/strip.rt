@@ -121,6 +121,17 @@ impl Strip {
         self.journal.advance(plan)
     }
 
+    /// Passes over the edits that come next and leave the strip alone, at most so many, and tells how many. It takes no memory; it may
+    /// pass over fewer than there are.
+    pub fn pass_over(&mut self, plan: &Plan, most: u32) -> u32
+        requires plan { self.old.job.plan ≡ plan.now }
+        requires next { self.old.done + most ≤ length plan.now.edits }
+        ensures most { result ≤ most }
+        ensures passed { self.new ≡ record self.old { done = self.old.done + result } }
+    {
+        self.journal.pass_over(plan, most)
+    }
+
     /// The state of point l of ray n at a version, in at most one step for each edit since.
     pub fn mark_at<L: Ledger>(
         &self,

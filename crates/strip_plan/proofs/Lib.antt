@@ -8,3 +8,4 @@ pub mod Boxed
 pub mod Windowed
 pub mod Rows
 pub mod Cylindered
+pub mod Passed

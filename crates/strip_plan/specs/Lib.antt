@@ -5,3 +5,4 @@ pub mod Ranges
 pub mod IndexBoxes
 pub mod Boxed
 pub mod Cylinders
+pub mod Passing

@@ -7,6 +7,7 @@ mod cutters;
 mod cylinders;
 mod index_box;
 mod indexed;
+mod passing;
 mod plan;
 mod plan_move;
 mod ranges;

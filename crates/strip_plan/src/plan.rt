@@ -1,16 +1,18 @@
-ghost use Rattle.std.specs.Prelude.{◌≡◌, ◌<◌, ◌≤◌, All, Some, IfOk, length, slice_get};
+ghost use Rattle.std.specs.Prelude.{◌≡◌, ◌+◌, ◌<◌, ◌≤◌, All, Some, IfOk, length, slice_get};
 ghost use Rattle.std.specs.Option.{IfSome};
 ghost use Rattle.edit_plan.specs.Edits.{AppliesBelow};
 ghost use Rattle.edit_plan.specs.Limits.{most_edits, most_script_moves};
 ghost use Rattle.ray_grid.specs.Lattice.{IsRay, points_of};
 ghost use Rattle.ray_grid.specs.Strips.{strip_at, strips_of};
 ghost use Rattle.job_model.specs.Tasks.{IsPlan, JobMove};
+ghost use Rattle.strip_plan.specs.Passing.{ArePassed};
 ghost use Rattle.strip_plan.specs.Plans.{HasNumber, move_in};
 ghost use Rattle.strip_plan.specs.Windows.{HoldsEntered, HoldsMet, HoldsPossible, IsCommonWindow};
 
 use crate::boxes::{Boxes, boxes_of};
 use crate::cutters::{Cutters, cutters_of};
 use crate::cylinders::cylinders_of;
+use crate::passing::count_alone;
 use crate::plan_move::PlanMove;
 use crate::windows::{boxes_ray_window, boxes_strip_window, row};
 use edit_plan::{Edit, Edits};
@@ -214,5 +216,18 @@ impl Plan {
             return window;
         }
         boxes_strip_window(&self.boxes.boxes, start, end, family, i)
+    }
+
+    /// How many of the edits from a version on, one after the other and at most `most`, apply a move whose boxes leave a strip alone.
+    pub fn left_alone(&self, version: u32, most: u32, strip: u32) -> u32
+        requires edits { version + most ≤ length self.now.edits }
+        requires strip { strip < length (strips_of self.now.grid) }
+        ensures most { result ≤ most }
+        ensures alone { ArePassed self.now strip version result }
+    {
+        let (family, i) = row(&self.grid, strip);
+        let from = version as usize;
+        let edits = &self.edits.as_slice()[from..from + most as usize];
+        count_alone(&self.boxes.hulls, edits, family, i) as u32
     }
 }

@@ -16,7 +16,10 @@ pub fn raise(strip: &mut Strip, plan: &Plan, version: u32) -> Result<(), NoMemor
     ensures err { OnErr result (IsStopped strip.old strip.new version) }
 {
     while strip.done() < version {
-        strip.advance(plan)?;
+        let left = version - strip.done();
+        if strip.pass_over(plan, left) < left {
+            strip.advance(plan)?;
+        }
     }
     Ok(())
 }

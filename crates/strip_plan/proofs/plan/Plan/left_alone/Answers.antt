@@ -1,0 +1,34 @@
+use Rattle.std.proofs.Common.{◌≡◌, ◌∙◌, ◌+◌, ◌-◌, ◌≤◌, List, ap, arith, drop, length, subst}
+use Rattle.std.specs.Prelude.{All}
+use Rattle.std.specs.List.{AllWithin, slice_range}
+use Rattle.std.proofs.lemmas.List.{length-take}
+use Rattle.ray_grid.specs.Grids.{GridSize}
+use Rattle.ray_grid.specs.Strips.{strip_at, strip_of}
+use Rattle.edit_plan.specs.declared.edit.Edit.{Edit}
+use Rattle.edit_plan.specs.Edits.{AppliesBelow}
+use Rattle.job_model.specs.Tasks.{PlanOf}
+use Rattle.strip_plan.specs.declared.index_box.IndexBox.{IndexBox}
+use Rattle.strip_plan.specs.Boxed.{HasBoxes}
+use Rattle.strip_plan.specs.Passing.{AppliesNone}
+use Rattle.strip_plan.proofs.Passed.{passed_from}
+use Rattle.strip_plan.proofs.plan.Plan.left_alone.Goals as goal
+
+pub returns-clause-alone : goal.returns-clause-alone
+returns-clause-alone c =
+    let plan = c.args.self.now in
+    let own = c.self.inside.boxes in
+    let has = subst (λ (p : PlanOf). HasBoxes p.grid p.slabs p.depth p.moves own.hulls.items own.boxes.items own.starts.items (length p.moves)) c.self.view_is c.self.invariant.5 in
+    let named = subst (λ (p : PlanOf). All (AppliesBelow (length p.moves)) p.edits) c.self.view_is c.self.invariant.3 in
+    let family = c.row-family.result.0 in
+    let i = c.row-family.result.1 in
+    let row = subst (λ (g : GridSize). strip_at g c.args.strip ≡ strip_of g family i) (ap (λ (p : PlanOf). p.grid) c.self.view_is) c.row-family.ensures in
+    let from = c.args.version in
+    let to = c.args.version + c.args.most in
+    let edits = c.as_slice.ensures ∙ ap (λ (p : PlanOf). p.edits) c.self.view_is in
+    let own_hulls = subst (λ (hulls : List IndexBox). AllWithin (AppliesNone hulls family i) (slice_range c.as_slice.result.now from to) 0 c.count_alone.result)
+    c.deref.ensures.value c.count_alone.ensures.alone in
+    let none = subst (λ (all : List Edit). AllWithin (AppliesNone own.hulls.items family i) (slice_range all from to) 0 c.count_alone.result) edits own_hulls in
+    let low = c.count_alone.ensures.within in
+    let within : c.count_alone.result ≤ c.args.most = omega (arith, low, length-take (to - from) (drop from c.as_slice.result.now)) in
+    passed_from plan own.hulls.items own.boxes.items own.starts.items c.args.strip family i has row from c.args.most c.count_alone.result
+    c.requires.edits within named none
