@@ -12,7 +12,9 @@ use Rattle.cutter_slabs.specs.Stacks.{reach_of}
 use Rattle.box_bisect.specs.SlabTests.{TurnsAt}
 use Rattle.box_bisect.proofs.Marking.{far_mark, mark_is}
 use Rattle.box_bisect.proofs.Searching.{some_cells}
+use Rattle.width_bisect.specs.Early.{lows_of}
 use Rattle.width_bisect.proofs.Closing.{clear_is, forms_at, forms_kept, forms_small, marked_by, whole_dropped}
+use Rattle.width_bisect.proofs.Lows.{stacks_begin_alike}
 use Rattle.width_bisect.proofs.Searching.{left_is_by, test_as, width_by}
 use Rattle.width_bisect.proofs.point.mark_ahead.Goals as goal
 
@@ -65,14 +67,24 @@ mark_of_whole-requires-clause-high c =
     let outer = c.outer-outer.result.now in let reached = c.reached_on_whole-reached.result in
     subst (λ (t : SlabSize → Bool). TurnsAt t outer reached) (test_as S l.scale l.raised l.height w.u w.n e.scale e.raised e.height) c.reached_on_whole-reached.ensures
 
+pub mark_of_whole-requires-clause-lows : goal.mark_of_whole-requires-clause-lows
+mark_of_whole-requires-clause-lows c =
+    let s = c.args.stacks.now in
+    ap lows_of c.inner-inner.ensures.stack ∙ stacks_begin_alike s.cutter s.slabs ∙ ap lows_of (sym c.outer-outer.ensures.stack)
+
 pub returns : goal.returns
 returns c =
     let a = c.args in let f = a.forms.now in let m = a.sweep.now in let p = a.point in let S = c.cells_of-scale.result in let cells = c.cells_of-scale.ensures.cells in
     let w = c.whole-whole.result in let kept = c.whole-whole.ensures in
     let inner = c.inner-inner.result.now in let outer = c.outer-outer.result.now in let cutter = a.stacks.now.cutter in let n = a.stacks.now.slabs in
+    let l = c.of_stretch-lists.result in let e = c.of_stretch-lists.ensures in let reached = c.reached_on_whole-reached.result in
     let forms = forms_kept w.u w.n w.width f.u.c f.n.c f.width.c m p S kept.u kept.n kept.width (forms_at f.u.c f.n.c f.width.c m p S (2 ^ a.depth) cells c.requires.forms) in
+    let positive = ap all_positive (sym e.raised) ∙ sym c.is_open.ensures ∙ c.if-not-is_open.false in
+    let turns = subst (λ (t : SlabSize → Bool). TurnsAt t outer reached) (test_as S l.scale l.raised l.height w.u w.n e.scale e.raised e.height) c.reached_on_whole-reached.ensures in
+    let left = left_is_by outer c.leaves_some.result S l.scale reached l.raised l.height w.width w.u w.n (d_between m p 0 S S) c.outer-outer.ensures.rising e.scale (ap all_negative kept.u ∙ c.requires.ahead) e.raised e.height
+    (width_by w.u w.n w.width m p 0 S S forms) positive turns c.leaves_some.ensures in
     let enclosed = λ (i : ℕ) (h : some_holds inner m p i S ≡ true). subst (λ (l : List SlabSize). some_holds l m p i S ≡ true) (sym c.outer-outer.ensures.stack) (c.inner-inner.ensures.enclosed m p i S h) in
     let fits : FitsSigned w32 c.reach-reach.result = search rules in
     let found = (simp to_z-of_z at c.in_reach.ensures) ∙ ap (λ z. is_in_reach z m.from m.to p) c.reach-reach.ensures.value in
     marked_by c.mark_of_whole.result cutter n inner outer m p S (2 ^ a.depth) c.inner-inner.ensures.stack c.outer-outer.ensures.stack cells
-    (mark_is c.mark_of_whole.result inner outer (pos (reach_of cutter)) m p S (sym found ∙ c.if-not-in_reach.false) (c.mark_of_whole.ensures m p forms enclosed))
+    (mark_is c.mark_of_whole.result inner outer (pos (reach_of cutter)) m p S (sym found ∙ c.if-not-in_reach.false) (c.mark_of_whole.ensures m p forms enclosed (sym left ∙ c.if-not-leaves_some.false)))
