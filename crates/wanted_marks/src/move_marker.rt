@@ -10,7 +10,7 @@ use box_bisect::mark_point_uncounted;
 use cutter_slabs::Stacks;
 use ray_grid::{Family, Grid, Ray};
 use std::marker::Model;
-use width_bisect::{Sample, WholeForms, mark_by_forms};
+use width_bisect::{Asked, Sample, WholeForms, mark_by_forms};
 
 /// A move of a cutter, ready to mark points of rays. It keeps what is the same for all of them: how the axis turns, and the
 /// limits beyond which a point is beside every outer slab throughout the move.
@@ -96,21 +96,36 @@ impl<'a> MoveMarker<'a> {
         mark_point_uncounted(self.sweep, self.stacks, point, self.depth)
     }
 
-    /// The mark of the point l steps on along a line, by the forms that the line has there. `near` is the number of a slab to look
-    /// from.
-    pub(crate) fn mark_on(&self, line: &Line, l: u32, point: [i32; 3], near: usize) -> Mark
+    /// What is asked of the point l steps on along a line, by the forms that the line has there. `near` is the number of a slab to look
+    /// from. Where it is only asked whether the point is sure, that is all that the mark tells.
+    pub(crate) fn mark_on(
+        &self,
+        line: &Line,
+        l: u32,
+        point: [i32; 3],
+        near: usize,
+        asked: Asked,
+    ) -> Mark
         requires point { IsPoint point }
         requires fits { FitsAt line.now (pos l) }
         requires forms { HasFormsIn line.now (pos l) self.now point }
         ensures sure { tells_sure result ≡ is_sure_in self.now point }
-        ensures possible { tells_possible result ≡ is_possible_in self.now point }
+        ensures possible { asked ≡ Asked.Whole → tells_possible result ≡ is_possible_in self.now point }
     {
         let forms = WholeForms {
             u: heights_on(line, l),
             n: self.turn.n,
             width: width_on(line, l),
         };
-        mark_by_forms(self.sweep, self.stacks, point, &forms, self.depth, near)
+        mark_by_forms(
+            self.sweep,
+            self.stacks,
+            point,
+            &forms,
+            self.depth,
+            near,
+            asked,
+        )
     }
 
     /// The line through the points of a ray, where it has two or more.

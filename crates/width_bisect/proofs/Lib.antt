@@ -8,3 +8,4 @@ pub mod Lows
 pub mod Early
 pub mod Beginning
 pub mod Closing
+pub mod Answering
