@@ -1,6 +1,7 @@
 use crate::hull::{are_behind, are_beside};
 use crate::limits::{greatest_diameter, limits_of};
 use crate::line::Line;
+use crate::near::Near;
 use crate::ray_marker::RayMarker;
 use crate::sheet::{Sheet, heights_on, width_on};
 use crate::strip_marker::StripMarker;
@@ -44,8 +45,9 @@ impl<'a> MoveMarker<'a> {
     ghost use Rattle.ray_grid.specs.Lattice.{IsRay, nodes_of};
     ghost use Rattle.bern_form.specs.Forms.{IsSmall};
     ghost use Rattle.space.specs.Vectors.{at};
-    ghost use Rattle.wanted_marks.specs.Lasts.{IsLastOf};
+    ghost use Rattle.wanted_marks.specs.Lasts.{IsAtLast, IsLastOf};
     ghost use Rattle.wanted_marks.specs.Lines.{FitsAt, HasFormsIn, IsLineOf, bend_over, height_at, width_at};
+    ghost use Rattle.wanted_marks.specs.Nears.{IsNear};
     ghost use Rattle.wanted_marks.specs.Rays.{IsClearOf, IsRemovedBy, is_possible_in, is_sure_in, move_of};
     ghost use Rattle.wanted_marks.specs.Strips.{IsSheetOf};
     ghost use Rattle.wanted_marks.specs.Told.{tells_possible, tells_sure};
@@ -185,6 +187,7 @@ impl<'a> MoveMarker<'a> {
         requires { FitsAt line.now (pos l) }
         ensures u { result.u ≡ height_at line.now 2 (pos l) }
         ensures width { result.width ≡ at (width_at line.now (pos l)) 4 }
+        ensures at_last { IsAtLast result self.now }
         ensures last { (p : List ℤ) → HasFormsIn line.now (pos l) self.now p → IsLastOf result self.now p }
     {
         Sample {
@@ -229,18 +232,39 @@ impl<'a> MoveMarker<'a> {
         are_beside(line, l, m, limits)
     }
 
-    /// Whether some inner slab holds a point at its last sample. It is then sure. The slab at its height is looked for from the number
-    /// `near` on, in whose place comes that of the one found.
+    /// Looks for the inner slab at a point's height, where the one that was looked for last isn't there.
     #[inline]
-    pub(crate) fn is_held_last(&self, last: &Sample, near: &mut usize) -> bool
-        ensures { IsTrue result → (p : List ℤ) → IsLastOf last.now self.now p → IsRemovedBy self.now p }
+    fn look_near(&self, last: &Sample, near: &mut Near)
+        requires last { IsAtLast last.now self.now }
+        requires near { IsNear near.old self.now }
+        ensures { IsNear near.new self.now }
     {
+        if near.bounds.is_between(last) {
+            return;
+        }
+        let inner = self.stacks.inner();
+        let reached = last.reached(inner, near.reached);
+        *near = Near {
+            reached,
+            bounds: last.bounds(inner, reached),
+        };
+    }
+
+    /// Whether some inner slab holds a point at its last sample. It is then sure. The slab at its height is looked for near the one
+    /// that was looked for last, in whose place it comes.
+    #[inline]
+    pub(crate) fn is_held_last(&self, last: &Sample, near: &mut Near) -> bool
+        requires last { IsAtLast last.now self.now }
+        requires near { IsNear near.old self.now }
+        ensures near { IsNear near.new self.now }
+        ensures held { IsTrue result → (p : List ℤ) → IsLastOf last.now self.now p → IsRemovedBy self.now p }
+    {
+        // A move is valid by its type, which is known where a field of it is seen.
+        let _valid = &self.depth;
         if last.u < 0 {
             return false;
         }
-        let inner = self.stacks.inner();
-        let reached = last.reached(inner, *near);
-        *near = reached;
-        last.holds(inner, reached)
+        self.look_near(last, near);
+        near.bounds.holds(last)
     }
 }

@@ -1,5 +1,6 @@
 use crate::line::Line;
 use crate::move_marker::MoveMarker;
+use crate::near::Near;
 use crate::word::{WordMarks, asked_at, chosen_bits, highest_bit, without_bit};
 use axis_cells::Mark;
 use ray_grid::{Grid, Ray};
@@ -33,6 +34,7 @@ impl<'a> RayMarker<'a> {
     ghost use Rattle.ray_grid.specs.Lattice.{IsRay, point_of, points_of};
     ghost use Rattle.vf_spans.specs.Words.{has_bit};
     ghost use Rattle.wanted_marks.specs.Lines.{IsLineOf};
+    ghost use Rattle.wanted_marks.specs.Nears.{IsNear};
     ghost use Rattle.wanted_marks.specs.Rays.{AreOnRay, IsClearOf};
     ghost use Rattle.wanted_marks.specs.Rays.{is_possible_at, is_possible_bit, is_sure_at, is_sure_bit, is_told_bit};
     ghost use Rattle.wanted_marks.specs.Told.{tells_possible, tells_sure};
@@ -94,11 +96,13 @@ impl<'a> RayMarker<'a> {
         self.are_apart(first + lowest_bit(bits), first + highest_bit(bits))
     }
 
-    /// What is asked of the point at an index, by the line through the points. `near` is the number of the slab to look from, in whose place
-    /// comes that of the slab at the point's height, where it is looked for.
-    fn mark_along(&self, line: &Line, l: u32, near: &mut usize, asked: Asked) -> Mark
+    /// What is asked of the point at an index, by the line through the points. `near` is the slab that was looked for last, in
+    /// whose place comes that at the point's height, where it is looked for.
+    fn mark_along(&self, line: &Line, l: u32, near: &mut Near, asked: Asked) -> Mark
         requires within { l < points_of self.now.grid self.now.ray.family }
         requires line { IsLineOf line.now self.now }
+        requires near { IsNear near.old self.now.sweep }
+        ensures near { IsNear near.new self.now.sweep }
         ensures sure { tells_sure result ≡ is_sure_at self.now l }
         ensures possible { asked ≡ Asked.Whole → tells_possible result ≡ is_possible_at self.now l }
     {
@@ -110,12 +114,14 @@ impl<'a> RayMarker<'a> {
             return Mark::Removed;
         }
         let point = self.grid.point(&self.ray, l);
-        self.mover.mark_on(line, l, point, *near, asked)
+        self.mover.mark_on(line, l, point, near.reached, asked)
     }
 
     /// What is asked of the point at an index.
-    fn mark_at(&self, l: u32, near: &mut usize, asked: Asked) -> Mark
-        requires { l < points_of self.now.grid self.now.ray.family }
+    fn mark_at(&self, l: u32, near: &mut Near, asked: Asked) -> Mark
+        requires within { l < points_of self.now.grid self.now.ray.family }
+        requires near { IsNear near.old self.now.sweep }
+        ensures near { IsNear near.new self.now.sweep }
         ensures sure { tells_sure result ≡ is_sure_at self.now l }
         ensures possible { asked ≡ Asked.Whole → tells_possible result ≡ is_possible_at self.now l }
     {
@@ -138,8 +144,7 @@ impl<'a> RayMarker<'a> {
             sure: 0,
             possible: 0,
         };
-        // Points beside each other mostly reach the same slab. The first one looks from the last slab down, the tallest of most stacks.
-        let mut near = usize::MAX;
+        let mut near = Near::nowhere();
         let mut rest = wanted;
         while rest != 0 {
             let b = lowest_bit(rest);

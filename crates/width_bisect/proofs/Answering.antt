@@ -14,7 +14,6 @@ use Rattle.width_bisect.specs.Asked.{IsAnswer, slabs_for}
 use Rattle.width_bisect.specs.declared.asked.Asked.{Asked}
 use Rattle.width_bisect.specs.declared.asked.Asked.TheVariants.{Sure, Whole}
 use Rattle.width_bisect.specs.Early.{lows_of}
-use Rattle.width_bisect.proofs.Closing.{marked_by}
 use Rattle.width_bisect.proofs.Lows.{stacks_begin_alike}
 
 -- the mark itself answers whatever is asked

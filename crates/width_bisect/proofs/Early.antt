@@ -1,5 +1,5 @@
 -- The early half of a stretch, excluded by the inner slabs where the late one is Possible.
-use Rattle.std.proofs.Common.{◌≡◌, not, ℕ, ◌+◌, ◌^◌, ◌≤◌, ◌<◌, List, length, get_or, ℤ, arith, refl, subst, sym, ap, ◌∙◌}
+use Rattle.std.proofs.Common.{◌≡◌, not, ℕ, ◌+◌, ◌^◌, ◌≤◌, ◌<◌, List, length, ℤ, arith, refl, subst, sym, ap, ◌∙◌}
 use Rattle.space.specs.Motion.{Motion}
 use Rattle.bern_form.specs.Cells.{scaled_square}
 use Rattle.bern_form.specs.Forms.{all_negative, difference4, lifted, product22, scaled4}
@@ -8,7 +8,7 @@ use Rattle.axis_cells.specs.declared.mark.Mark.{Mark}
 use Rattle.axis_cells.specs.declared.mark.Mark.TheVariants.{Clear, Possible, Removed}
 use Rattle.cutter_slabs.specs.Rising.{IsRising}
 use Rattle.box_bisect.specs.Between.{IsMarkBetween, joined_mark}
-use Rattle.box_bisect.specs.SlabTests.{TurnsBetween, no_slab}
+use Rattle.box_bisect.specs.SlabTests.{TurnsBetween}
 use Rattle.box_bisect.proofs.Searching.{free_both, halved, held_early, join_marks, left_late}
 use Rattle.width_bisect.specs.Early.{early_slabs, lows_of}
 use Rattle.width_bisect.specs.Searches.{IsWidthSearch, is_not_below}

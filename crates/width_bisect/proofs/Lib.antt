@@ -9,3 +9,4 @@ pub mod Early
 pub mod Beginning
 pub mod Closing
 pub mod Answering
+pub mod Bounding

@@ -2,6 +2,7 @@
 #![tactic(auto)]
 
 mod asked;
+mod bounds;
 mod compare;
 mod forms;
 mod halves;
@@ -15,6 +16,7 @@ mod turn;
 mod whole;
 
 pub use asked::Asked;
+pub use bounds::Bounds;
 pub use forms::WholeForms;
 pub use length::{product, scaled_square};
 pub use point::mark_by_forms;

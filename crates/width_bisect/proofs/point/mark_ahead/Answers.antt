@@ -1,11 +1,11 @@
-use Rattle.std.proofs.Common.{◌≡◌, Bool, FitsSigned, rules, true, ℕ, ◌^◌, List, pos, refl, sym, ap, subst, ◌∙◌}
+use Rattle.std.proofs.Common.{◌≡◌, Bool, FitsSigned, rules, true, ℕ, ◌^◌, pos, refl, sym, ap, subst, ◌∙◌}
 use Rattle.std.proofs.lemmas.Int.{to_z-of_z}
 use mir.Syntax.{w32}
 use Rattle.space.specs.Motion.{IsSweep}
 use Rattle.space.specs.Reach.{is_in_reach}
 use Rattle.bern_form.specs.Between.{d_between}
 use Rattle.bern_form.specs.Forms.{all_negative, all_positive}
-use Rattle.bern_form.specs.Marks.{held_at_sample, is_possible, some_holds}
+use Rattle.bern_form.specs.Marks.{some_holds}
 use Rattle.bern_form.specs.Slab.{SlabSize}
 use Rattle.axis_cells.specs.declared.mark.Mark.TheVariants.{Clear}
 use Rattle.cutter_slabs.specs.Stacks.{outer_stack, reach_of}

@@ -1,4 +1,4 @@
-use Rattle.std.proofs.Common.{◌≡◌, ◌^◌, refl, subst, ◌∙◌}
+use Rattle.std.proofs.Common.{◌^◌, refl, subst, ◌∙◌}
 use Rattle.cutter_marks.specs.MarkBy.{mark_by}
 use Rattle.width_bisect.specs.Asked.{IsAnswer}
 use Rattle.wanted_marks.specs.Rays.{MoveOf}

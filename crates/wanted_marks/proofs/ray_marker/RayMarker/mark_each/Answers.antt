@@ -9,6 +9,7 @@ use Rattle.wanted_marks.proofs.ray_marker.RayMarker.mark_each.Goals as goal
 pub loop-rest-init : goal.loop-rest-init
 loop-rest-init c =
     let r = c.args.self.now in record {
+      near = c.nowhere-near.ensures r.sweep;
       wanted = λ k below set. set;
       sure = λ k below. none_taken (has_bit 0 k) (has_bit c.args.wanted k) (is_sure_at r (c.args.first + k)) (has_bit-zero k);
       possible = λ k below whole. none_taken (has_bit 0 k) (has_bit c.args.wanted k) (is_possible_at r (c.args.first + k)) (has_bit-zero k);
@@ -23,6 +24,7 @@ pub loop-rest-preserved : goal.loop-rest-preserved
 loop-rest-preserved c =
     let r = c.args.self.now in let l = c.loop-rest in let b = c.lowest_bit-b.result in let marks = c.with_mark-marks in let rest = c.without_bit-rest in
     let is_wanted = l.invariant.wanted b c.lowest_bit-b.ensures.within c.lowest_bit-b.ensures.set in record {
+      near = c.mark_at.ensures.near;
       wanted = λ k below set. still_wanted c.args.wanted l.rest rest.result b k (l.invariant.wanted k below) (rest.ensures.bits k below) set;
       sure = λ k below. taken_bit l.marks.sure c.args.wanted l.rest rest.result (is_sure_at r) c.args.first b k _ marks.result.sure (l.invariant.sure k below) (marks.ensures.sure k below) (λ same. c.mark_at.ensures.sure) (rest.ensures.bits k below) is_wanted;
       possible = λ k below whole. taken_bit l.marks.possible c.args.wanted l.rest rest.result (is_possible_at r) c.args.first b k _ marks.result.possible (l.invariant.possible k below whole) (marks.ensures.possible k below)
