@@ -22,13 +22,13 @@ same_at false t u h = refl
 
 pub taken_bit : (word wanted left rest : ℕ) (test : ℕ → Bool) (first b k : ℕ) (told : Bool) (marks : ℕ)
     → has_bit word k ≡ ((has_bit wanted k && not (has_bit left k)) && test (first + k))
-    → has_bit marks k ≡ (has_bit word k || (eqb k b && told)) → told ≡ test (first + b)
+    → has_bit marks k ≡ (has_bit word k || (eqb k b && told)) → (k ≡ b → told ≡ test (first + b))
     → has_bit rest k ≡ (has_bit left k && not (eqb k b)) → has_bit wanted b ≡ true
     → has_bit marks k ≡ ((has_bit wanted k && not (has_bit rest k)) && test (first + k))
 taken_bit word wanted left rest test first b k told marks before now is_told done is_wanted =
     now ∙ ap (λ x. x || (eqb k b && told)) before
     ∙ ap (λ x. ((has_bit wanted k && not (has_bit left k)) && test (first + k)) || x)
-    (same_at (eqb k b) told (test (first + k)) (λ e. is_told ∙ ap (λ i. test (first + i)) (sym (eqb-true k b e))))
+    (same_at (eqb k b) told (test (first + k)) (λ e. is_told (eqb-true k b e) ∙ ap (λ i. test (first + i)) (sym (eqb-true k b e))))
     ∙ taken (has_bit wanted k) (has_bit left k) (eqb k b) (test (first + k)) (λ e. ap (has_bit wanted) (eqb-true k b e) ∙ is_wanted)
     ∙ ap (λ x. (has_bit wanted k && not x) && test (first + k)) (sym done)
 
@@ -49,12 +49,9 @@ all_done false t = refl
 pub all_taken : (word w r t : Bool) → word ≡ ((w && not r) && t) → r ≡ false → word ≡ (w && t)
 all_taken word w r t e done = e ∙ ap (λ x. (w && not x) && t) done ∙ all_done w t
 
-told_is : (o w s p : Bool) → (if o then (w && s) else (w && p)) ≡ (w && (if o then s else p))
-told_is true w s p = refl
-told_is false w s p = refl
-
-pub told_of : (told o s p w sure possible : Bool) → told ≡ (if o then s else p) → s ≡ (w && sure) → p ≡ (w && possible) → told ≡ (w && (if o then sure else possible))
-told_of told o s p w sure possible e es ep = e ∙ ap (λ x. if o then x else p) es ∙ ap (λ x. if o then (w && sure) else x) ep ∙ told_is o w sure possible
+pub told_of : (told o s p w sure possible : Bool) → told ≡ (if o then s else p) → s ≡ (w && sure) → (o ≡ false → p ≡ (w && possible)) → told ≡ (w && (if o then sure else possible))
+told_of told true s p w sure possible e es ep = e ∙ es
+told_of told false s p w sure possible e es ep = e ∙ ep refl
 
 -- where no wanted point is told
 pub none_told : (none w t : Bool) → none ≡ false → (w ≡ true → t ≡ false) → none ≡ (w && t)

@@ -1,11 +1,15 @@
 -- What a mark tells of a point is what the definitions say of it.
-use Rattle.std.proofs.Common.{◌≡◌, ℕ, Bool, true, false, List, ℤ, if◌then◌else◌, refl, ap, ◌∙◌}
+use Rattle.std.proofs.Common.{◌≡◌, ℕ, Bool, true, false, List, ℤ, if◌then◌else◌, refl, sym, ap, ◌∙◌}
 use Rattle.space.specs.Motion.{Motion}
 use Rattle.axis_cells.specs.declared.mark.Mark.{Mark}
 use Rattle.axis_cells.specs.declared.mark.Mark.TheVariants.{Clear, Possible, Removed}
 use Rattle.cutter_slabs.specs.Cutter.{CutterSize}
 use Rattle.cutter_marks.specs.MarkBy.{is_possible_by, is_sure_by, mark_by}
-use Rattle.wanted_marks.specs.Told.{tells_possible, tells_sure}
+use Rattle.box_bisect.specs.Between.{is_removed_mark}
+use Rattle.width_bisect.specs.Asked.{IsAnswer}
+use Rattle.width_bisect.specs.declared.asked.Asked.{Asked}
+use Rattle.width_bisect.specs.declared.asked.Asked.TheVariants.{Sure, Whole}
+use Rattle.wanted_marks.specs.Told.{asked_at, tells_possible, tells_sure}
 
 told_sure : (h q : Bool) → tells_sure (if h then Removed else (if q then Possible else Clear)) ≡ h
 told_sure true q = refl
@@ -26,3 +30,22 @@ pub tells_possible_by : (mark : Mark) (c : CutterSize) (n : ℕ) (m : Motion) (p
     → mark ≡ mark_by c n m p S → tells_possible mark ≡ is_possible_by c n m p S
 unfolding mark_by is_sure_by is_possible_by
 tells_possible_by mark c n m p S both e = ap tells_possible e ∙ told_possible (is_sure_by c n m p S) (is_possible_by c n m p S) both
+
+-- an answer to what is asked tells whether the point is sure, and a whole one whether it is possible
+removed_is_sure : (mark : Mark) → is_removed_mark mark ≡ tells_sure mark
+removed_is_sure Removed = refl
+removed_is_sure Possible = refl
+removed_is_sure Clear = refl
+
+pub answer_tells_sure : (asked : Asked) (given mark : Mark) → IsAnswer asked given mark → tells_sure given ≡ tells_sure mark
+answer_tells_sure Whole given mark e = ap tells_sure e
+answer_tells_sure Sure given mark e = sym (removed_is_sure given) ∙ e ∙ removed_is_sure mark
+
+pub whole_answer : (asked : Asked) (given mark : Mark) → asked ≡ Whole → IsAnswer asked given mark → given ≡ mark
+whole_answer Whole given mark is e = e
+whole_answer Sure given mark is e = cc
+
+-- of a point that is not in the set the whole mark is asked
+pub asks_whole : (asked : Asked) (o : Bool) → asked ≡ asked_at o → o ≡ false → asked ≡ Whole
+asks_whole asked true e is = cc
+asks_whole asked false e is = e

@@ -12,3 +12,8 @@ pub record IsLastOf (sample : Sample) (v : MoveOf) (p : List ℤ) : Type 0 where
   pub u_is : sample.u ≡ at (u_between v.motion p 0 (2 ^ v.depth) (2 ^ v.depth)) 2
   pub n_is : sample.n ≡ at (n_between v.motion 0 (2 ^ v.depth) (2 ^ v.depth)) 2
   pub width_is : sample.width ≡ at (whole_width v.motion p (2 ^ v.depth)) 4
+
+-- it is the last one of the move for some point
+pub record IsAtLast (sample : Sample) (v : MoveOf) : Type 0 where
+  pub scale_is : sample.scale ≡ 2 ^ v.depth
+  pub n_is : sample.n ≡ at (n_between v.motion 0 (2 ^ v.depth) (2 ^ v.depth)) 2

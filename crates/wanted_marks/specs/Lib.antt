@@ -4,6 +4,7 @@ pub mod Ways
 pub mod Widths
 pub mod Lines
 pub mod Lasts
+pub mod Nears
 pub mod Starts
 pub mod Sheets
 pub mod Limits

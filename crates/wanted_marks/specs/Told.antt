@@ -2,6 +2,8 @@
 use Rattle.std.specs.Prelude.{ℕ, Bool, true, false, ◌&&◌, ◌||◌, nat_eq}
 use Rattle.axis_cells.specs.declared.mark.Mark.{Mark}
 use Rattle.axis_cells.specs.declared.mark.Mark.TheVariants.{Clear, Possible, Removed}
+use Rattle.width_bisect.specs.declared.asked.Asked.{Asked}
+use Rattle.width_bisect.specs.declared.asked.Asked.TheVariants.{Sure, Whole}
 use Rattle.vf_spans.specs.Words.{has_bit}
 
 -- the point is sure to be cut
@@ -19,3 +21,8 @@ tells_possible Clear = false
 -- bit k of the word, where a fact is told of bit b
 abbrev pub with_told : ℕ → ℕ → Bool → ℕ → Bool
 with_told word b told k = has_bit word k || (nat_eq k b && told)
+
+-- what is asked of a point of which it may be asked only whether it is sure
+abbrev pub asked_at : Bool → Asked
+asked_at true = Sure
+asked_at false = Whole

@@ -6,6 +6,7 @@ mod limits;
 mod line;
 mod move_marker;
 mod narrow;
+mod near;
 mod ray_marker;
 mod scaled;
 mod sets;

@@ -1,6 +1,7 @@
 use crate::hull::{are_behind, are_beside};
 use crate::limits::{greatest_diameter, limits_of};
 use crate::line::Line;
+use crate::near::Near;
 use crate::ray_marker::RayMarker;
 use crate::sheet::{Sheet, heights_on, width_on};
 use crate::strip_marker::StripMarker;
@@ -10,7 +11,7 @@ use box_bisect::mark_point_uncounted;
 use cutter_slabs::Stacks;
 use ray_grid::{Family, Grid, Ray};
 use std::marker::Model;
-use width_bisect::{Sample, WholeForms, mark_by_forms};
+use width_bisect::{Asked, Sample, WholeForms, mark_by_forms};
 
 /// A move of a cutter, ready to mark points of rays. It keeps what is the same for all of them: how the axis turns, and the
 /// limits beyond which a point is beside every outer slab throughout the move.
@@ -44,8 +45,9 @@ impl<'a> MoveMarker<'a> {
     ghost use Rattle.ray_grid.specs.Lattice.{IsRay, nodes_of};
     ghost use Rattle.bern_form.specs.Forms.{IsSmall};
     ghost use Rattle.space.specs.Vectors.{at};
-    ghost use Rattle.wanted_marks.specs.Lasts.{IsLastOf};
+    ghost use Rattle.wanted_marks.specs.Lasts.{IsAtLast, IsLastOf};
     ghost use Rattle.wanted_marks.specs.Lines.{FitsAt, HasFormsIn, IsLineOf, bend_over, height_at, width_at};
+    ghost use Rattle.wanted_marks.specs.Nears.{IsNear};
     ghost use Rattle.wanted_marks.specs.Rays.{IsClearOf, IsRemovedBy, is_possible_in, is_sure_in, move_of};
     ghost use Rattle.wanted_marks.specs.Strips.{IsSheetOf};
     ghost use Rattle.wanted_marks.specs.Told.{tells_possible, tells_sure};
@@ -96,21 +98,36 @@ impl<'a> MoveMarker<'a> {
         mark_point_uncounted(self.sweep, self.stacks, point, self.depth)
     }
 
-    /// The mark of the point l steps on along a line, by the forms that the line has there. `near` is the number of a slab to look
-    /// from.
-    pub(crate) fn mark_on(&self, line: &Line, l: u32, point: [i32; 3], near: usize) -> Mark
+    /// What is asked of the point l steps on along a line, by the forms that the line has there. `near` is the number of a slab to look
+    /// from. Where it is only asked whether the point is sure, that is all that the mark tells.
+    pub(crate) fn mark_on(
+        &self,
+        line: &Line,
+        l: u32,
+        point: [i32; 3],
+        near: usize,
+        asked: Asked,
+    ) -> Mark
         requires point { IsPoint point }
         requires fits { FitsAt line.now (pos l) }
         requires forms { HasFormsIn line.now (pos l) self.now point }
         ensures sure { tells_sure result ≡ is_sure_in self.now point }
-        ensures possible { tells_possible result ≡ is_possible_in self.now point }
+        ensures possible { asked ≡ Asked.Whole → tells_possible result ≡ is_possible_in self.now point }
     {
         let forms = WholeForms {
             u: heights_on(line, l),
             n: self.turn.n,
             width: width_on(line, l),
         };
-        mark_by_forms(self.sweep, self.stacks, point, &forms, self.depth, near)
+        mark_by_forms(
+            self.sweep,
+            self.stacks,
+            point,
+            &forms,
+            self.depth,
+            near,
+            asked,
+        )
     }
 
     /// The line through the points of a ray, where it has two or more.
@@ -170,6 +187,7 @@ impl<'a> MoveMarker<'a> {
         requires { FitsAt line.now (pos l) }
         ensures u { result.u ≡ height_at line.now 2 (pos l) }
         ensures width { result.width ≡ at (width_at line.now (pos l)) 4 }
+        ensures at_last { IsAtLast result self.now }
         ensures last { (p : List ℤ) → HasFormsIn line.now (pos l) self.now p → IsLastOf result self.now p }
     {
         Sample {
@@ -214,18 +232,39 @@ impl<'a> MoveMarker<'a> {
         are_beside(line, l, m, limits)
     }
 
-    /// Whether some inner slab holds a point at its last sample. It is then sure. The slab at its height is looked for from the number
-    /// `near` on, in whose place comes that of the one found.
+    /// Looks for the inner slab at a point's height, where the one that was looked for last isn't there.
     #[inline]
-    pub(crate) fn is_held_last(&self, last: &Sample, near: &mut usize) -> bool
-        ensures { IsTrue result → (p : List ℤ) → IsLastOf last.now self.now p → IsRemovedBy self.now p }
+    fn look_near(&self, last: &Sample, near: &mut Near)
+        requires last { IsAtLast last.now self.now }
+        requires near { IsNear near.old self.now }
+        ensures { IsNear near.new self.now }
     {
+        if near.bounds.is_between(last) {
+            return;
+        }
+        let inner = self.stacks.inner();
+        let reached = last.reached(inner, near.reached);
+        *near = Near {
+            reached,
+            bounds: last.bounds(inner, reached),
+        };
+    }
+
+    /// Whether some inner slab holds a point at its last sample. It is then sure. The slab at its height is looked for near the one
+    /// that was looked for last, in whose place it comes.
+    #[inline]
+    pub(crate) fn is_held_last(&self, last: &Sample, near: &mut Near) -> bool
+        requires last { IsAtLast last.now self.now }
+        requires near { IsNear near.old self.now }
+        ensures near { IsNear near.new self.now }
+        ensures held { IsTrue result → (p : List ℤ) → IsLastOf last.now self.now p → IsRemovedBy self.now p }
+    {
+        // A move is valid by its type, which is known where a field of it is seen.
+        let _valid = &self.depth;
         if last.u < 0 {
             return false;
         }
-        let inner = self.stacks.inner();
-        let reached = last.reached(inner, *near);
-        *near = reached;
-        last.holds(inner, reached)
+        self.look_near(last, near);
+        near.bounds.holds(last)
     }
 }

@@ -1,10 +1,12 @@
 use crate::line::Line;
 use crate::move_marker::MoveMarker;
-use crate::word::{WordMarks, chosen_bits, highest_bit, without_bit};
+use crate::near::Near;
+use crate::word::{WordMarks, asked_at, chosen_bits, highest_bit, without_bit};
 use axis_cells::Mark;
 use ray_grid::{Grid, Ray};
 use std::marker::Model;
 use vf_spans::bits::lowest_bit;
+use width_bisect::Asked;
 
 /// A move of a cutter, ready to mark points of one ray.
 #[derive(Drop)]
@@ -27,11 +29,12 @@ impl<'a> Model for RayMarker<'a> {
 }
 
 impl<'a> RayMarker<'a> {
-    ghost use Rattle.std.specs.Prelude.{◌≡◌, ℕ, ◌+◌, ◌-◌, ◌<◌, ◌≤◌, true, IsTrue};
+    ghost use Rattle.std.specs.Prelude.{◌≡◌, ℕ, ◌+◌, ◌-◌, ◌<◌, ◌≤◌, true, false, IsTrue};
     ghost use Rattle.std.specs.Option.{IfSome};
     ghost use Rattle.ray_grid.specs.Lattice.{IsRay, point_of, points_of};
     ghost use Rattle.vf_spans.specs.Words.{has_bit};
     ghost use Rattle.wanted_marks.specs.Lines.{IsLineOf};
+    ghost use Rattle.wanted_marks.specs.Nears.{IsNear};
     ghost use Rattle.wanted_marks.specs.Rays.{AreOnRay, IsClearOf};
     ghost use Rattle.wanted_marks.specs.Rays.{is_possible_at, is_possible_bit, is_sure_at, is_sure_bit, is_told_bit};
     ghost use Rattle.wanted_marks.specs.Told.{tells_possible, tells_sure};
@@ -93,13 +96,15 @@ impl<'a> RayMarker<'a> {
         self.are_apart(first + lowest_bit(bits), first + highest_bit(bits))
     }
 
-    /// The mark of the point at an index, by the line through the points. `near` is the number of the slab to look from, in whose place
-    /// comes that of the slab at the point's height, where it is looked for.
-    fn mark_along(&self, line: &Line, l: u32, near: &mut usize) -> Mark
+    /// What is asked of the point at an index, by the line through the points. `near` is the slab that was looked for last, in
+    /// whose place comes that at the point's height, where it is looked for.
+    fn mark_along(&self, line: &Line, l: u32, near: &mut Near, asked: Asked) -> Mark
         requires within { l < points_of self.now.grid self.now.ray.family }
         requires line { IsLineOf line.now self.now }
+        requires near { IsNear near.old self.now.sweep }
+        ensures near { IsNear near.new self.now.sweep }
         ensures sure { tells_sure result ≡ is_sure_at self.now l }
-        ensures possible { tells_possible result ≡ is_possible_at self.now l }
+        ensures possible { asked ≡ Asked.Whole → tells_possible result ≡ is_possible_at self.now l }
     {
         let last = self.mover.last_sample(line, l);
         if self.mover.is_apart(line, l, &last) {
@@ -109,26 +114,29 @@ impl<'a> RayMarker<'a> {
             return Mark::Removed;
         }
         let point = self.grid.point(&self.ray, l);
-        self.mover.mark_on(line, l, point, *near)
+        self.mover.mark_on(line, l, point, near.reached, asked)
     }
 
-    /// The mark of the point at an index.
-    fn mark_at(&self, l: u32, near: &mut usize) -> Mark
-        requires { l < points_of self.now.grid self.now.ray.family }
+    /// What is asked of the point at an index.
+    fn mark_at(&self, l: u32, near: &mut Near, asked: Asked) -> Mark
+        requires within { l < points_of self.now.grid self.now.ray.family }
+        requires near { IsNear near.old self.now.sweep }
+        ensures near { IsNear near.new self.now.sweep }
         ensures sure { tells_sure result ≡ is_sure_at self.now l }
-        ensures possible { tells_possible result ≡ is_possible_at self.now l }
+        ensures possible { asked ≡ Asked.Whole → tells_possible result ≡ is_possible_at self.now l }
     {
         match &self.line {
             None => self.mover.mark_point(self.grid.point(&self.ray, l)),
-            Some(line) => self.mark_along(line, l, near),
+            Some(line) => self.mark_along(line, l, near, asked),
         }
     }
 
-    /// Which of the wanted points are sure, and which are possible.
-    fn mark_each(&self, first: u32, wanted: u64) -> WordMarks
+    /// Which of the wanted points are sure, and which of those that are not in `sure_only` are possible.
+    fn mark_each(&self, first: u32, wanted: u64, sure_only: u64) -> WordMarks
         requires { AreOnRay self.now first wanted }
         ensures sure { (b : ℕ) → b < 64 → has_bit result.sure b ≡ is_sure_bit self.now first wanted b }
-        ensures possible { (b : ℕ) → b < 64 → has_bit result.possible b ≡ is_possible_bit self.now first wanted b }
+        ensures possible { (b : ℕ) → b < 64 → has_bit sure_only b ≡ false
+            → has_bit result.possible b ≡ is_possible_bit self.now first wanted b }
     {
         // The points are few by the type, which is known where a field is seen.
         let _few = &self.ray;
@@ -136,12 +144,12 @@ impl<'a> RayMarker<'a> {
             sure: 0,
             possible: 0,
         };
-        // Points beside each other mostly reach the same slab. The first one looks from the last slab down, the tallest of most stacks.
-        let mut near = usize::MAX;
+        let mut near = Near::nowhere();
         let mut rest = wanted;
         while rest != 0 {
             let b = lowest_bit(rest);
-            marks = marks.with_mark(b, self.mark_at(first + b, &mut near));
+            let asked = asked_at(sure_only, b);
+            marks = marks.with_mark(b, self.mark_at(first + b, &mut near, asked));
             rest = without_bit(rest, b);
         }
         marks
@@ -160,7 +168,7 @@ impl<'a> RayMarker<'a> {
                 possible: 0,
             };
         }
-        let marks = self.mark_each(first, wanted);
+        let marks = self.mark_each(first, wanted, sure_only);
         WordMarks {
             sure: marks.sure,
             possible: chosen_bits(marks.possible, marks.sure, sure_only),

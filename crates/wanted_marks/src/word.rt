@@ -1,9 +1,10 @@
 ghost use Rattle.std.specs.Prelude.{◌≡◌, ℕ, ◌<◌, ◌&&◌, not, nat_eq, true, false, if◌then◌else◌};
 ghost use Rattle.vf_spans.specs.Words.{has_bit};
-ghost use Rattle.wanted_marks.specs.Told.{tells_possible, tells_sure, with_told};
+ghost use Rattle.wanted_marks.specs.Told.{asked_at, tells_possible, tells_sure, with_told};
 
 use axis_cells::Mark;
-use vf_spans::bits::with_bit;
+use vf_spans::bits::{has_bit, with_bit};
+use width_bisect::Asked;
 
 /// The word with one bit not set.
 #[inline]
@@ -32,6 +33,19 @@ pub fn chosen_bits(elsewhere: u64, there: u64, places: u64) -> u64
     ensures { (k : ℕ) → k < 64 → has_bit result k ≡ (if has_bit places k then has_bit there k else has_bit elsewhere k) }
 {
     elsewhere & !places | there & places
+}
+
+/// What is asked of the point at bit b, where of those with a bit in `sure_only` it is only asked whether they are sure.
+#[inline]
+pub fn asked_at(sure_only: u64, b: u32) -> Asked
+    requires { b < 64 }
+    ensures { result ≡ asked_at (has_bit sure_only b) }
+{
+    if has_bit(sure_only, b) {
+        Asked::Sure
+    } else {
+        Asked::Whole
+    }
 }
 
 /// The marks of a word of 64 points: a bit for each that is sure to be cut, and for each that may be met.

@@ -4,13 +4,14 @@ use Rattle.std.proofs.lemmas.Int.{ints}
 use Rattle.space.specs.Motion.{Motion}
 use Rattle.space.specs.Vectors.{at}
 use Rattle.space.proofs.Tests.{decides_le}
+use Rattle.bern_form.specs.Between.{d_between}
 use Rattle.bern_form.specs.Cells.{scaled_square}
 use Rattle.bern_form.specs.Forms.{all_positive, lifted, product22}
 use Rattle.bern_form.specs.Marks.{some_holds}
 use Rattle.bern_form.specs.Slab.{SlabSize}
 use Rattle.axis_cells.specs.declared.mark.Mark.TheVariants.{Removed}
 use Rattle.box_bisect.specs.Between.{IsMarkBetween}
-use Rattle.box_bisect.specs.SlabTests.{TurnsAt, is_below_by, is_reached, no_slab}
+use Rattle.box_bisect.specs.SlabTests.{TurnsAt, is_below_by, is_left_with, is_reached, no_slab}
 use Rattle.box_bisect.proofs.Raised.{not_under}
 use Rattle.box_bisect.proofs.Searching.{some_cells}
 use Rattle.width_bisect.specs.Forms.{AreWidthForms}
@@ -56,6 +57,11 @@ search_of_whole inner outer u n width m p S high depth e forms enclosed above tu
       is_open = above;
       turns = record { within = turns.within; before = λ i e. absurd (omega (arith, e)); after = turns.after };
     }
+
+pub left_on_whole : (slabs : List SlabSize) (u n : List ℤ) (m : Motion) (p : List ℤ) (S depth : ℕ) → S ≡ 2 ^ depth → is_left_with slabs S u n (d_between m p 0 S S) ≡ true
+    → is_left_with slabs S u n (d_between m p 0 (0 + 2 ^ depth) S) ≡ true
+left_on_whole slabs u n m p S depth e left =
+    let end : S ≡ 0 + 2 ^ depth = omega (arith, e) in subst (λ k. is_left_with slabs S u n (d_between m p 0 k S) ≡ true) end left
 
 pub last_is_held : (inner outer : List SlabSize) (m : Motion) (p : List ℤ) (S : ℕ) → some_holds inner m p S S ≡ true → IsMarkBetween Removed inner outer m p 0 S S
 last_is_held inner outer m p S held = record { sample = S; after = omega arith; before = omega arith; held = held }

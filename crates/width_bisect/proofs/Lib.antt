@@ -4,5 +4,9 @@ pub mod Halving
 pub mod Fitting
 pub mod Sampling
 pub mod Searching
+pub mod Lows
+pub mod Early
 pub mod Beginning
 pub mod Closing
+pub mod Answering
+pub mod Bounding

@@ -89,6 +89,16 @@ pub covers_last : (slabs : List SlabSize) (u n width : List ℤ) (m : Motion) (p
     → some_covers (pos S) (at u 2) (at n 2) (spread_at 2 u n (d_between m p j k S)) slabs ≡ some_holds slabs m p k S
 covers_last slabs u n width m p j k S f = held_last slabs u n (d_between m p j k S) m p j k S (forms_by u n width m p j k S f)
 
+-- where a walk downwards stops, the same search starts
+pub stopped_at : (inner outer : List SlabSize) (u n width : List ℤ) (m : Motion) (p : List ℤ) (S high reached levels j : ℕ) → TurnsAt (is_not_below S u n) outer reached
+    → IsWidthSearch inner outer u n width m p S high levels j → IsWidthSearch inner outer u n width m p S reached levels j
+stopped_at inner outer u n width m p S high reached levels j turns s = record {
+  searched = s.searched;
+  width_is = s.width_is;
+  is_open = s.is_open;
+  turns = record { within = turns.within; before = λ i e. absurd (omega (arith, e)); after = turns.after };
+}
+
 -- the halves of a stretch
 pub first_forms : (inner outer : List SlabSize) (u n width : List ℤ) (m : Motion) (p : List ℤ) (S high levels k j : ℕ) → levels ≡ k + 1 → IsWidthSearch inner outer u n width m p S high levels j
     → AreWidthForms (first2 u) (first2 n) (first4 width) m p j (j + 2 ^ k) S
@@ -108,16 +118,16 @@ no_longer true b h e = ap not (h refl)
 no_longer false b h e = cc
 
 turns_on : (slabs : List SlabSize) (S reached : ℕ) (u n g h : List ℤ) → ((s : SlabSize) → is_below_by S (lifted n) (product22 u u) s ≡ true → is_below_by S (lifted h) (product22 g g) s ≡ true)
-    → TurnsAt (is_not_below S u n) slabs reached → TurnsBetween (is_not_below S g h) slabs 0 reached
+    → TurnsBetween (is_not_below S u n) slabs 0 reached → TurnsBetween (is_not_below S g h) slabs 0 reached
 turns_on slabs S reached u n g h still turns = record {
   within = turns.within;
   before = λ i e. absurd (omega (arith, e));
   after = λ l. let s = get_or slabs reached no_slab in no_longer (is_below_by S (lifted n) (product22 u u) s) (is_below_by S (lifted h) (product22 g g) s) (still s) (turns.after l);
 }
 
-pub search_first : (inner outer : List SlabSize) (u n width : List ℤ) (m : Motion) (p : List ℤ) (S high reached levels k j : ℕ) → levels ≡ k + 1 → IsWidthSearch inner outer u n width m p S high levels j
-    → TurnsAt (is_not_below S u n) outer reached → some_holds inner m p (j + 2 ^ k) S ≡ false → IsWidthSearch inner outer (first2 u) (first2 n) (first4 width) m p S reached k j
-search_first inner outer u n width m p S high reached levels k j e s turns free =
+pub search_first : (inner outer : List SlabSize) (u n width : List ℤ) (m : Motion) (p : List ℤ) (S high levels k j : ℕ) → levels ≡ k + 1 → IsWidthSearch inner outer u n width m p S high levels j
+    → some_holds inner m p (j + 2 ^ k) S ≡ false → IsWidthSearch inner outer (first2 u) (first2 n) (first4 width) m p S high k j
+search_first inner outer u n width m p S high levels k j e s free =
     let i = j + 2 ^ k in let h = (halved levels k j e).middle in let f = first_forms inner outer u n width m p S high levels k j e s in
     let uw : u ≡ whole_of_first (first2 u) = s.searched.forms.u_is ∙ u_of_first m p j i (j + 2 ^ levels) S h ∙ ap whole_of_first (sym f.u_is) in
     let nw : n ≡ whole_of_first (first2 n) = s.searched.forms.n_is ∙ n_of_first m j i (j + 2 ^ levels) S h ∙ ap whole_of_first (sym f.n_is) in record {
@@ -130,12 +140,12 @@ search_first inner outer u n width m p S high reached levels k j e s turns free 
       };
       width_is = f.width_is;
       is_open = open_first n (first2 n) nw s.is_open;
-      turns = turns_on outer S reached u n (first2 u) (first2 n) (λ t. below_first S u n (first2 u) (first2 n) t uw nw) turns;
+      turns = turns_on outer S high u n (first2 u) (first2 n) (λ t. below_first S u n (first2 u) (first2 n) t uw nw) s.turns;
     }
 
-pub search_last : (inner outer : List SlabSize) (u n width : List ℤ) (m : Motion) (p : List ℤ) (S high reached levels k j : ℕ) → levels ≡ k + 1 → IsWidthSearch inner outer u n width m p S high levels j
-    → TurnsAt (is_not_below S u n) outer reached → some_holds inner m p (j + 2 ^ k) S ≡ false → IsWidthSearch inner outer (last2 u) (last2 n) (last4 width) m p S reached k (j + 2 ^ k)
-search_last inner outer u n width m p S high reached levels k j e s turns free =
+pub search_last : (inner outer : List SlabSize) (u n width : List ℤ) (m : Motion) (p : List ℤ) (S high levels k j : ℕ) → levels ≡ k + 1 → IsWidthSearch inner outer u n width m p S high levels j
+    → some_holds inner m p (j + 2 ^ k) S ≡ false → IsWidthSearch inner outer (last2 u) (last2 n) (last4 width) m p S high k (j + 2 ^ k)
+search_last inner outer u n width m p S high levels k j e s free =
     let i = j + 2 ^ k in let h = (halved levels k j e).middle in let end = (halved levels k j e).end in let f = last_forms inner outer u n width m p S high levels k j e s in
     let whole = forms_of_last u n width m p j i (j + 2 ^ levels) S h (search_forms inner outer u n width m p S high levels j s) in
     let uw : u ≡ whole_of_last (last2 u) = s.searched.forms.u_is ∙ u_of_last m p j i (j + 2 ^ levels) S h ∙ ap whole_of_last (sym whole.u_is) in
@@ -149,7 +159,7 @@ search_last inner outer u n width m p S high reached levels k j e s turns free =
       };
       width_is = f.width_is;
       is_open = open_last n (last2 n) nw s.is_open;
-      turns = turns_on outer S reached u n (last2 u) (last2 n) (λ t. below_last S u n (last2 u) (last2 n) t uw nw) turns;
+      turns = turns_on outer S high u n (last2 u) (last2 n) (λ t. below_last S u n (last2 u) (last2 n) t uw nw) s.turns;
     }
 
 -- where an inner slab holds the point at the sample in the middle

@@ -1,6 +1,8 @@
 //! The mark of a point from its forms on a whole move, by halving its time, with nothing counted.
 #![tactic(auto)]
 
+mod asked;
+mod bounds;
 mod compare;
 mod forms;
 mod halves;
@@ -13,6 +15,8 @@ mod stretch;
 mod turn;
 mod whole;
 
+pub use asked::Asked;
+pub use bounds::Bounds;
 pub use forms::WholeForms;
 pub use length::{product, scaled_square};
 pub use point::mark_by_forms;

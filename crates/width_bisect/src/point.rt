@@ -2,8 +2,10 @@ ghost use Rattle.std.specs.Prelude.{◌≡◌, ◌^◌, ◌≤◌, false};
 ghost use Rattle.space.specs.Ranges.{IsPoint};
 ghost use Rattle.bern_form.specs.Forms.{all_negative};
 ghost use Rattle.cutter_marks.specs.MarkBy.{mark_by};
+ghost use Rattle.width_bisect.specs.Asked.{IsAnswer};
 ghost use Rattle.width_bisect.specs.Forms.{AreWidthForms};
 
+use crate::asked::{Asked, slabs_for};
 use crate::forms::WholeForms;
 use crate::lists::Lists;
 use crate::stretch::Stretch;
@@ -12,7 +14,7 @@ use axis_cells::{Mark, Sweep, cells_of, in_reach};
 use box_bisect::mark_point_uncounted;
 use cutter_slabs::Stacks;
 
-/// The mark of a point that is not behind the tip throughout.
+/// What is asked of a point that is not behind the tip throughout.
 fn mark_ahead(
     sweep: &Sweep,
     stacks: &Stacks,
@@ -20,12 +22,13 @@ fn mark_ahead(
     forms: &WholeForms,
     depth: u32,
     near: usize,
+    asked: Asked,
 ) -> Mark
     requires point { IsPoint point }
     requires depth { depth ≤ 10 }
     requires forms { AreWidthForms forms.now.u.c forms.now.n.c forms.now.width.c sweep.now point 0 (2 ^ depth) (2 ^ depth) }
     requires ahead { all_negative forms.now.u.c ≡ false }
-    ensures { result ≡ mark_by stacks.now.cutter stacks.now.slabs sweep.now point (2 ^ depth) }
+    ensures { IsAnswer asked result (mark_by stacks.now.cutter stacks.now.slabs sweep.now point (2 ^ depth)) }
 {
     // A sweep is valid by its type, which is known where a field of it is seen.
     let _valid = &sweep.from;
@@ -36,20 +39,21 @@ fn mark_ahead(
         return mark_point_uncounted(sweep, stacks, point, depth);
     }
     let inner = stacks.inner();
-    let outer = stacks.outer();
-    let reached = reached_on_whole(&whole, &lists, outer, near);
-    if !lists.leaves_some(outer, reached, &whole.width) {
+    let slabs = slabs_for(stacks, asked);
+    let reached = reached_on_whole(&whole, &lists, slabs, near);
+    if !lists.leaves_some(slabs, reached, &whole.width) {
         return Mark::Clear;
     }
     let reach = stacks.reach();
     if !in_reach(sweep, reach, point) {
         return Mark::Clear;
     }
-    mark_of_whole(&whole, inner, outer, scale, reached, depth)
+    mark_of_whole(&whole, inner, slabs, scale, reached, depth)
 }
 
 /// The mark of a point by the stacks and the reach of a cutter, at the samples and on the cells of a depth, from its forms on the
-/// whole move: that of `mark_point_uncounted`, with less work. A point that is behind the tip throughout, as most are that stand
+/// whole move: that of `mark_point_uncounted`, with less work. Where it is only asked whether the point is sure, a mark that is Removed
+/// exactly where that one is. A point that is behind the tip throughout, as most are that stand
 /// below a tool's way, costs next to nothing. `near` is the number from which the slab at the point's height is looked for: any is
 /// right, best that of a point beside it.
 pub fn mark_by_forms(
@@ -59,14 +63,15 @@ pub fn mark_by_forms(
     forms: &WholeForms,
     depth: u32,
     near: usize,
+    asked: Asked,
 ) -> Mark
     requires point { IsPoint point }
     requires depth { depth ≤ 10 }
     requires forms { AreWidthForms forms.now.u.c forms.now.n.c forms.now.width.c sweep.now point 0 (2 ^ depth) (2 ^ depth) }
-    ensures { result ≡ mark_by stacks.now.cutter stacks.now.slabs sweep.now point (2 ^ depth) }
+    ensures { IsAnswer asked result (mark_by stacks.now.cutter stacks.now.slabs sweep.now point (2 ^ depth)) }
 {
     if forms.u.all_negative() {
         return Mark::Clear;
     }
-    mark_ahead(sweep, stacks, point, forms, depth, near)
+    mark_ahead(sweep, stacks, point, forms, depth, near, asked)
 }

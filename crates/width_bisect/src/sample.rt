@@ -1,10 +1,12 @@
-ghost use Rattle.std.specs.Prelude.{◌≡◌, ◌≤◌, ◌&&◌, ◌*ℤ◌, ◌≤ℤ◌, ℤ, pos, int_le, unsigned_abs};
+ghost use Rattle.std.specs.Prelude.{◌≡◌, ◌≤◌, ◌+◌, ◌&&◌, ℕ, length, get_or, ◌*ℤ◌, ◌≤ℤ◌, ℤ, pos, int_le, unsigned_abs};
 ghost use Rattle.space.specs.Vectors.{at};
 ghost use Rattle.bern_form.specs.Cells.{scaled_square};
 ghost use Rattle.bern_form.specs.Sizes.{scale_limit};
 ghost use Rattle.cutter_slabs.specs.Rising.{IsRising};
-ghost use Rattle.box_bisect.specs.SlabTests.{TurnsAt, is_reached, some_covers};
+ghost use Rattle.box_bisect.specs.SlabTests.{TurnsAt, is_reached, no_slab, some_covers};
+ghost use Rattle.width_bisect.specs.Bounds.{HoldsBy, bounds_of, no_bounds};
 
+use crate::bounds::Bounds;
 use crate::length::{product, scaled_square};
 use crate::stretch::Stretch;
 use crate::turn::{Reaches, walk_down, walk_up};
@@ -76,7 +78,7 @@ impl Sample {
 
     /// u^2.
     #[inline]
-    fn height(&self) -> i128
+    pub(crate) fn height(&self) -> i128
         ensures { result ≡ self.now.u *ℤ self.now.u }
     {
         product(self.u, self.u)
@@ -116,6 +118,32 @@ impl Sample {
         ensures { let at = self.now in TurnsAt (is_reached (pos at.scale) at.u at.n) slabs.now result }
     {
         walk_up(self, slabs, walk_down(self, slabs, near.min(slabs.len())))
+    }
+
+    /// What a slab asks of the points at this sample.
+    #[inline]
+    fn bounds_of(&self, slab: &Slab) -> Bounds
+        ensures { result ≡ bounds_of self.now.scale self.now.n slab.now }
+    {
+        Bounds {
+            low: self.squared(slab.lo),
+            high: self.squared(slab.hi),
+            width: self.squared(slab.dia),
+        }
+    }
+
+    /// What the slab that lies below the number `reached` asks of the points at this sample: what no point meets, where there is none.
+    #[inline]
+    pub fn bounds(&self, slabs: &[Slab], reached: usize) -> Bounds
+        requires { reached ≤ length slabs.now }
+        ensures none { reached ≡ 0 → result ≡ no_bounds }
+        ensures slab { (i : ℕ) → reached ≡ i + 1 → result ≡ bounds_of self.now.scale self.now.n (get_or slabs.now i no_slab) }
+        ensures held { HoldsBy result self.now.scale self.now.n slabs.now }
+    {
+        if reached == 0 {
+            return Bounds::nowhere();
+        }
+        self.bounds_of(&slabs[reached - 1])
     }
 
     /// Whether some of the slabs holds the point that is ahead of the tip: the highest that it reaches decides.

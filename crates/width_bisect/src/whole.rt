@@ -1,16 +1,18 @@
 ghost use Rattle.std.specs.Prelude.{◌≡◌, ℕ, ℤ, List, ◌^◌, ◌≤◌, length, not, true};
 ghost use Rattle.space.specs.Motion.{Motion};
+ghost use Rattle.bern_form.specs.Between.{d_between};
 ghost use Rattle.bern_form.specs.Forms.{all_positive, lifted, product22};
 ghost use Rattle.bern_form.specs.Marks.{some_holds};
 ghost use Rattle.bern_form.specs.Sizes.{scale_limit};
 ghost use Rattle.cutter_slabs.specs.Rising.{IsRising};
 ghost use Rattle.box_bisect.specs.Between.{IsMarkBetween};
-ghost use Rattle.box_bisect.specs.SlabTests.{TurnsAt, is_below_by};
+ghost use Rattle.box_bisect.specs.SlabTests.{TurnsAt, is_below_by, is_left_with};
+ghost use Rattle.width_bisect.specs.Early.{lows_of};
 ghost use Rattle.width_bisect.specs.Forms.{AreWidthForms};
 
 use crate::lists::Lists;
 use crate::sample::Sample;
-use crate::search::mark_between;
+use crate::search::mark_by_halves;
 use crate::stretch::Stretch;
 use crate::turn::walk_up;
 use axis_cells::Mark;
@@ -28,9 +30,9 @@ pub fn reached_on_whole(whole: &Stretch, lists: &Lists, slabs: &[Slab], near: us
     walk_up(lists, slabs, last.reached(slabs, near))
 }
 
-/// The mark of the point whose forms these are on a whole move of 2^`depth` cells: both ends are tried, and then what is between
-/// them. n raised to degree 4 is above 0, and the point is below the outer slab with the number `high` throughout, where there is
-/// one.
+/// The mark of the point whose forms these are on a whole move of 2^`depth` cells, on which some outer slab is not excluded: both ends
+/// are tried, and then what is between them. n raised to degree 4 is above 0, and the point is below the outer slab with the number
+/// `high` throughout, where there is one.
 pub fn mark_of_whole(
     whole: &Stretch,
     inner: &[Slab],
@@ -43,10 +45,12 @@ pub fn mark_of_whole(
     requires cells { scale ≡ 2 ^ depth }
     requires inner { IsRising inner.now }
     requires outer { IsRising outer.now }
+    requires lows { lows_of inner.now ≡ lows_of outer.now }
     requires positive { all_positive (lifted whole.now.n) ≡ true }
     requires high { TurnsAt (λ s. not (is_below_by scale (lifted whole.now.n) (product22 whole.now.u whole.now.u) s)) outer.now high }
     ensures { (m : Motion) (p : List ℤ) → AreWidthForms whole.now.u whole.now.n whole.now.width m p 0 scale scale
         → ((i : ℕ) → some_holds inner.now m p i scale ≡ true → some_holds outer.now m p i scale ≡ true)
+        → is_left_with outer.now scale whole.now.u whole.now.n (d_between m p 0 scale scale) ≡ true
         → IsMarkBetween result inner.now outer.now m p 0 scale scale }
 {
     if Sample::last_of(whole, scale).is_held(inner, high) {
@@ -55,5 +59,5 @@ pub fn mark_of_whole(
     if Sample::first_of(whole, scale).is_held(inner, high) {
         return Mark::Removed;
     }
-    mark_between(whole, inner, outer, scale, high, depth)
+    mark_by_halves(whole, inner, outer, scale, high, depth)
 }

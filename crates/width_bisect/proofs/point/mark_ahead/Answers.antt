@@ -1,17 +1,21 @@
-use Rattle.std.proofs.Common.{◌≡◌, Bool, FitsSigned, rules, true, ℕ, ◌^◌, List, pos, refl, sym, ap, subst, ◌∙◌}
+use Rattle.std.proofs.Common.{◌≡◌, Bool, FitsSigned, rules, true, ℕ, ◌^◌, pos, refl, sym, ap, subst, ◌∙◌}
 use Rattle.std.proofs.lemmas.Int.{to_z-of_z}
 use mir.Syntax.{w32}
 use Rattle.space.specs.Motion.{IsSweep}
 use Rattle.space.specs.Reach.{is_in_reach}
 use Rattle.bern_form.specs.Between.{d_between}
 use Rattle.bern_form.specs.Forms.{all_negative, all_positive}
-use Rattle.bern_form.specs.Marks.{held_at_sample, is_possible, some_holds}
+use Rattle.bern_form.specs.Marks.{some_holds}
 use Rattle.bern_form.specs.Slab.{SlabSize}
 use Rattle.axis_cells.specs.declared.mark.Mark.TheVariants.{Clear}
-use Rattle.cutter_slabs.specs.Stacks.{reach_of}
+use Rattle.cutter_slabs.specs.Stacks.{outer_stack, reach_of}
+use Rattle.cutter_marks.specs.MarkBy.{mark_by}
 use Rattle.box_bisect.specs.SlabTests.{TurnsAt}
 use Rattle.box_bisect.proofs.Marking.{far_mark, mark_is}
 use Rattle.box_bisect.proofs.Searching.{some_cells}
+use Rattle.width_bisect.specs.Asked.{slabs_for}
+use Rattle.width_bisect.specs.Early.{lows_of}
+use Rattle.width_bisect.proofs.Answering.{answered_by, answers, begin_alike, encloses}
 use Rattle.width_bisect.proofs.Closing.{clear_is, forms_at, forms_kept, forms_small, marked_by, whole_dropped}
 use Rattle.width_bisect.proofs.Searching.{left_is_by, test_as, width_by}
 use Rattle.width_bisect.proofs.point.mark_ahead.Goals as goal
@@ -34,45 +38,64 @@ whole-whole-requires-clause-width c =
     (forms_small f.u.c f.n.c f.width.c a.sweep.now a.point S (subst IsSweep c.sweep.view_is c.sweep.invariant) c.requires.point e.few
     (forms_at f.u.c f.n.c f.width.c a.sweep.now a.point S (2 ^ a.depth) e.cells c.requires.forms)).width_small
 
+pub returns-then-not-is_open : goal.returns-then-not-is_open
+returns-then-not-is_open c =
+    let a = c.args in
+    answers a.asked c.mark_point_uncounted.result (mark_by a.stacks.now.cutter a.stacks.now.slabs a.sweep.now a.point (2 ^ a.depth)) c.mark_point_uncounted.ensures.value
+
 pub returns-then-not-leaves_some : goal.returns-then-not-leaves_some
 returns-then-not-leaves_some c =
     let a = c.args in let f = a.forms.now in let m = a.sweep.now in let p = a.point in let S = c.cells_of-scale.result in let cells = c.cells_of-scale.ensures.cells in
     let w = c.whole-whole.result in let kept = c.whole-whole.ensures in let l = c.of_stretch-lists.result in let e = c.of_stretch-lists.ensures in
-    let inner = c.inner-inner.result.now in let outer = c.outer-outer.result.now in let cutter = a.stacks.now.cutter in let n = a.stacks.now.slabs in let reached = c.reached_on_whole-reached.result in
+    let inner = c.inner-inner.result.now in let slabs = c.slabs_for-slabs.result.now in let cutter = a.stacks.now.cutter in let n = a.stacks.now.slabs in let reached = c.reached_on_whole-reached.result in
     let forms = forms_kept w.u w.n w.width f.u.c f.n.c f.width.c m p S kept.u kept.n kept.width (forms_at f.u.c f.n.c f.width.c m p S (2 ^ a.depth) cells c.requires.forms) in
     let positive = ap all_positive (sym e.raised) ∙ sym c.is_open.ensures ∙ c.if-not-is_open.false in
-    let turns = subst (λ (t : SlabSize → Bool). TurnsAt t outer reached) (test_as S l.scale l.raised l.height w.u w.n e.scale e.raised e.height) c.reached_on_whole-reached.ensures in
-    let left = left_is_by outer c.leaves_some.result S l.scale reached l.raised l.height w.width w.u w.n (d_between m p 0 S S) c.outer-outer.ensures.rising e.scale (ap all_negative kept.u ∙ c.requires.ahead) e.raised e.height
+    let turns = subst (λ (t : SlabSize → Bool). TurnsAt t slabs reached) (test_as S l.scale l.raised l.height w.u w.n e.scale e.raised e.height) c.reached_on_whole-reached.ensures in
+    let left = left_is_by slabs c.leaves_some.result S l.scale reached l.raised l.height w.width w.u w.n (d_between m p 0 S S) c.slabs_for-slabs.ensures.rising e.scale (ap all_negative kept.u ∙ c.requires.ahead) e.raised e.height
     (width_by w.u w.n w.width m p 0 S S forms) positive turns c.leaves_some.ensures in
-    let enclosed = λ (i : ℕ) (h : some_holds inner m p i S ≡ true). subst (λ (l : List SlabSize). some_holds l m p i S ≡ true) (sym c.outer-outer.ensures.stack) (c.inner-inner.ensures.enclosed m p i S h) in
-    marked_by Clear cutter n inner outer m p S (2 ^ a.depth) c.inner-inner.ensures.stack c.outer-outer.ensures.stack cells
-    (clear_is inner outer (pos (reach_of cutter)) m p S (whole_dropped inner outer w.u w.n w.width m p S a.depth cells forms enclosed (sym left ∙ c.if-not-leaves_some.true)))
+    let stack = c.inner-inner.ensures.stack in
+    let from_stack = ap (λ l. slabs_for a.asked l (outer_stack cutter n)) (sym stack) in
+    let enclosed = λ (i : ℕ) (h : some_holds inner m p i S ≡ true). encloses a.asked inner (outer_stack cutter n) slabs m p i S (c.slabs_for-slabs.ensures.stack ∙ from_stack) (c.inner-inner.ensures.enclosed m p i S) h in
+    answered_by a.asked Clear cutter n inner slabs m p S (2 ^ a.depth) c.inner-inner.ensures.stack c.slabs_for-slabs.ensures.stack cells
+    (clear_is inner slabs (pos (reach_of cutter)) m p S (whole_dropped inner slabs w.u w.n w.width m p S a.depth cells forms enclosed (sym left ∙ c.if-not-leaves_some.true)))
 
 pub returns-then-not-in_reach : goal.returns-then-not-in_reach
 returns-then-not-in_reach c =
     let a = c.args in let m = a.sweep.now in let p = a.point in let S = 2 ^ a.depth in
-    let inner = c.inner-inner.result.now in let outer = c.outer-outer.result.now in let cutter = a.stacks.now.cutter in let n = a.stacks.now.slabs in
+    let inner = c.inner-inner.result.now in let cutter = a.stacks.now.cutter in let n = a.stacks.now.slabs in let outer = outer_stack cutter n in
     let fits : FitsSigned w32 c.reach-reach.result = search rules in
     let found = (simp to_z-of_z at c.in_reach.ensures) ∙ ap (λ z. is_in_reach z m.from m.to p) c.reach-reach.ensures.value in
     let sweep = subst IsSweep c.sweep.view_is c.sweep.invariant in
-    let both = λ (h : held_at_sample inner m p S ≡ true). subst (λ (l : List SlabSize). is_possible l (pos (reach_of cutter)) m p S ≡ true) (sym c.outer-outer.ensures.stack) (c.inner-inner.ensures.possible m p S (some_cells a.depth) sweep h) in
-    marked_by Clear cutter n inner outer m p S S c.inner-inner.ensures.stack c.outer-outer.ensures.stack refl
-    (far_mark inner outer (pos (reach_of cutter)) m p S (sym found ∙ c.if-not-in_reach.true) both)
+    answers a.asked Clear (mark_by cutter n m p S)
+    (marked_by Clear cutter n inner outer m p S S c.inner-inner.ensures.stack refl refl
+    (far_mark inner outer (pos (reach_of cutter)) m p S (sym found ∙ c.if-not-in_reach.true) (c.inner-inner.ensures.possible m p S (some_cells a.depth) sweep)))
 
 pub mark_of_whole-requires-clause-high : goal.mark_of_whole-requires-clause-high
 mark_of_whole-requires-clause-high c =
     let S = c.cells_of-scale.result in let w = c.whole-whole.result in let l = c.of_stretch-lists.result in let e = c.of_stretch-lists.ensures in
-    let outer = c.outer-outer.result.now in let reached = c.reached_on_whole-reached.result in
-    subst (λ (t : SlabSize → Bool). TurnsAt t outer reached) (test_as S l.scale l.raised l.height w.u w.n e.scale e.raised e.height) c.reached_on_whole-reached.ensures
+    let slabs = c.slabs_for-slabs.result.now in let reached = c.reached_on_whole-reached.result in
+    subst (λ (t : SlabSize → Bool). TurnsAt t slabs reached) (test_as S l.scale l.raised l.height w.u w.n e.scale e.raised e.height) c.reached_on_whole-reached.ensures
+
+pub mark_of_whole-requires-clause-lows : goal.mark_of_whole-requires-clause-lows
+mark_of_whole-requires-clause-lows c =
+    let s = c.args.stacks.now in
+    ap lows_of c.inner-inner.ensures.stack ∙ begin_alike c.args.asked s.cutter s.slabs ∙ ap lows_of (sym c.slabs_for-slabs.ensures.stack)
 
 pub returns : goal.returns
 returns c =
     let a = c.args in let f = a.forms.now in let m = a.sweep.now in let p = a.point in let S = c.cells_of-scale.result in let cells = c.cells_of-scale.ensures.cells in
     let w = c.whole-whole.result in let kept = c.whole-whole.ensures in
-    let inner = c.inner-inner.result.now in let outer = c.outer-outer.result.now in let cutter = a.stacks.now.cutter in let n = a.stacks.now.slabs in
+    let inner = c.inner-inner.result.now in let slabs = c.slabs_for-slabs.result.now in let cutter = a.stacks.now.cutter in let n = a.stacks.now.slabs in
+    let l = c.of_stretch-lists.result in let e = c.of_stretch-lists.ensures in let reached = c.reached_on_whole-reached.result in
     let forms = forms_kept w.u w.n w.width f.u.c f.n.c f.width.c m p S kept.u kept.n kept.width (forms_at f.u.c f.n.c f.width.c m p S (2 ^ a.depth) cells c.requires.forms) in
-    let enclosed = λ (i : ℕ) (h : some_holds inner m p i S ≡ true). subst (λ (l : List SlabSize). some_holds l m p i S ≡ true) (sym c.outer-outer.ensures.stack) (c.inner-inner.ensures.enclosed m p i S h) in
+    let positive = ap all_positive (sym e.raised) ∙ sym c.is_open.ensures ∙ c.if-not-is_open.false in
+    let turns = subst (λ (t : SlabSize → Bool). TurnsAt t slabs reached) (test_as S l.scale l.raised l.height w.u w.n e.scale e.raised e.height) c.reached_on_whole-reached.ensures in
+    let left = left_is_by slabs c.leaves_some.result S l.scale reached l.raised l.height w.width w.u w.n (d_between m p 0 S S) c.slabs_for-slabs.ensures.rising e.scale (ap all_negative kept.u ∙ c.requires.ahead) e.raised e.height
+    (width_by w.u w.n w.width m p 0 S S forms) positive turns c.leaves_some.ensures in
+    let stack = c.inner-inner.ensures.stack in
+    let from_stack = ap (λ l. slabs_for a.asked l (outer_stack cutter n)) (sym stack) in
+    let enclosed = λ (i : ℕ) (h : some_holds inner m p i S ≡ true). encloses a.asked inner (outer_stack cutter n) slabs m p i S (c.slabs_for-slabs.ensures.stack ∙ from_stack) (c.inner-inner.ensures.enclosed m p i S) h in
     let fits : FitsSigned w32 c.reach-reach.result = search rules in
     let found = (simp to_z-of_z at c.in_reach.ensures) ∙ ap (λ z. is_in_reach z m.from m.to p) c.reach-reach.ensures.value in
-    marked_by c.mark_of_whole.result cutter n inner outer m p S (2 ^ a.depth) c.inner-inner.ensures.stack c.outer-outer.ensures.stack cells
-    (mark_is c.mark_of_whole.result inner outer (pos (reach_of cutter)) m p S (sym found ∙ c.if-not-in_reach.false) (c.mark_of_whole.ensures m p forms enclosed))
+    answered_by a.asked c.mark_of_whole.result cutter n inner slabs m p S (2 ^ a.depth) c.inner-inner.ensures.stack c.slabs_for-slabs.ensures.stack cells
+    (mark_is c.mark_of_whole.result inner slabs (pos (reach_of cutter)) m p S (sym found ∙ c.if-not-in_reach.false) (c.mark_of_whole.ensures m p forms enclosed (sym left ∙ c.if-not-leaves_some.false)))

@@ -1,19 +1,19 @@
-use Rattle.std.proofs.Common.{pos, ◌^◌, ap, subst, sym, ◌∙◌}
+use Rattle.std.proofs.Common.{◌^◌, ◌≤ℤ◌, pos, arith, refl, ap, subst, sym, ◌∙◌}
+use Rattle.std.proofs.lemmas.Int.{ints}
 use Rattle.space.specs.Motion.{axis_at, offset_at}
-use Rattle.space.specs.Vectors.{spread}
+use Rattle.space.specs.Vectors.{at, spread}
+use Rattle.bern_form.specs.Between.{n_between}
 use Rattle.cutter_slabs.specs.Stacks.{inner_stack}
-use Rattle.box_bisect.specs.SlabTests.{some_covers}
-use Rattle.wanted_marks.specs.Rays.{MoveOf}
+use Rattle.width_bisect.specs.Bounds.{meets}
 use Rattle.wanted_marks.specs.Ready.{IsReadyMove}
 use Rattle.wanted_marks.proofs.Holding.{is_removed, last_width_is}
 use Rattle.wanted_marks.proofs.move_marker.MoveMarker.is_held_last.Goals as goal
 
-pub returns : goal.returns
-returns c = λ yes p last.
-    let s = c.self.inside in let v = c.args.self.now in let S = 2 ^ v.depth in let x = c.args.last.now in
+pub returns-clause-held : goal.returns-clause-held
+returns-clause-held c = λ yes p last.
+    let s = c.self.inside in let v = c.args.self.now in let S = 2 ^ v.depth in let x = c.args.last.now in let near = c.look_near.new.near in
     let ready = subst (IsReadyMove s.scale s.turn.first s.turn.last s.turn.n.c s.limits) c.self.view_is c.self.invariant in
-    let stack = c.inner-inner.ensures.stack ∙ ap (λ (x : MoveOf). inner_stack x.cutter x.slabs) c.self.view_is in
     let w = spread (offset_at v.motion p (pos S) (pos S)) (axis_at v.motion (pos S) (pos S)) in
-    let held = sym (c.holds.ensures w (last.width_is ∙ last_width_is v.motion p S)) ∙ yes in
-    is_removed v p c.inner-inner.result.now x.u x.n stack (ready.both p) last.u_is last.n_is
-    (ap (λ k. some_covers (pos k) x.u x.n w c.inner-inner.result.now) (sym last.scale_is) ∙ held)
+    let ahead : pos 0 ≤ℤ x.u = omega (arith, ints) in
+    let met = ap (meets near.bounds x.u) (sym (last.width_is ∙ last_width_is v.motion p S)) ∙ sym c.holds.ensures ∙ yes in
+    is_removed v p (inner_stack v.cutter v.slabs) x.u (at (n_between v.motion 0 S S) 2) refl (ready.both p) last.u_is refl (c.look_near.ensures.held x.u w ahead met)

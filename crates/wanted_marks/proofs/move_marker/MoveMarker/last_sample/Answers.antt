@@ -19,3 +19,13 @@ returns-clause-last c = λ p forms.
       n_is = to_z-of_z w64 c.last_square.result f1 ∙ c.last_square.ensures ∙ ap (λ l. at l 2) ready.turn.n_is ∙ ap (λ k. at (n_between v.motion 0 k k) 2) ready.scale_is;
       width_is = to_z-of_z w128 c.last_width.result f2 ∙ c.last_width.ensures ∙ ap (λ l. at l 4) forms.width;
     }
+
+pub returns-clause-at_last : goal.returns-clause-at_last
+returns-clause-at_last c =
+    let s = c.self.inside in let v = c.args.self.now in
+    let ready = subst (IsReadyMove s.scale s.turn.first s.turn.last s.turn.n.c s.limits) c.self.view_is c.self.invariant in
+    let f1 : FitsSigned w64 c.last_square.result = search rules in
+    record {
+      scale_is = ready.scale_is;
+      n_is = to_z-of_z w64 c.last_square.result f1 ∙ c.last_square.ensures ∙ ap (λ l. at l 2) ready.turn.n_is ∙ ap (λ k. at (n_between v.motion 0 k k) 2) ready.scale_is;
+    }

@@ -1,0 +1,16 @@
+use Rattle.std.proofs.Common.{ℕ, ℤ, List, ◌^◌, ap, subst, ◌∙◌}
+use Rattle.space.specs.Vectors.{at}
+use Rattle.bern_form.specs.Between.{n_between}
+use Rattle.bern_form.specs.Slab.{SlabSize}
+use Rattle.cutter_slabs.specs.Stacks.{inner_stack}
+use Rattle.width_bisect.specs.Bounds.{HoldsBy}
+use Rattle.wanted_marks.specs.Rays.{MoveOf}
+use Rattle.wanted_marks.proofs.move_marker.MoveMarker.look_near.Goals as goal
+
+pub returns : goal.returns
+returns c =
+    let v = c.args.self.now in let S = 2 ^ v.depth in let x = c.args.last.now in let b = c.bounds.result in
+    let stack = c.inner-inner.ensures.stack ∙ ap (λ (y : MoveOf). inner_stack y.cutter y.slabs) c.self.view_is in
+    subst (λ (l : List SlabSize). HoldsBy b S (at (n_between v.motion 0 S S) 2) l) stack
+    (subst (λ (n : ℤ). HoldsBy b S n c.inner-inner.result.now) c.requires.last.n_is
+    (subst (λ (k : ℕ). HoldsBy b k x.n c.inner-inner.result.now) c.requires.last.scale_is c.bounds.ensures.held))

@@ -1,0 +1,24 @@
+ghost use Rattle.wanted_marks.specs.Nears.{IsNear};
+ghost use Rattle.wanted_marks.specs.Rays.{MoveOf};
+
+use width_bisect::Bounds;
+
+/// The inner slab that was looked for last, at the last sample of a move: the number above its own, and what it asks of a point. Points
+/// beside each other mostly reach the same slab, which is then not looked for again.
+#[derive(Clone, Copy, Debug, PartialEq, Eq)]
+pub struct Near {
+    pub reached: usize,
+    pub bounds: Bounds,
+}
+
+impl Near {
+    /// Where none was looked for yet. The first point looks from the last slab down, the tallest of most stacks.
+    pub fn nowhere() -> Near
+        ensures { (v : MoveOf) → IsNear result v }
+    {
+        Near {
+            reached: usize::MAX,
+            bounds: Bounds::nowhere(),
+        }
+    }
+}
