@@ -38,6 +38,7 @@ impl<'a> NearStrip<'a> {
     ghost use Rattle.ray_grid.specs.Lattice.{nodes_of};
     ghost use Rattle.near_points.specs.Rays.{IsBeside, near_ray_at};
 
+    /// For the rays of a family with the node i.
     pub fn new(
         cylinder: &'a BoundingCylinder,
         grid: &'a Grid,
@@ -66,8 +67,8 @@ impl<'a> NearStrip<'a> {
         }
     }
 
-    /// For the points of the ray with the node j. None where the whole ray is beside the cylinder: the component of the moment along
-    /// the ray, which is that of all of its points, is too long.
+    /// For the points of the ray with the node j. None only where the whole ray is beside the cylinder, which is told by the component of
+    /// the moment along the ray, the same at all of its points.
     #[inline]
     pub fn on_ray(&'a self, j: u32) -> Option<NearRay<'a>>
         requires { j < nodes_of self.now.grid (second_axis self.now.family) }
