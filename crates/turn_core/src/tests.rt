@@ -1,3 +1,4 @@
 mod long_ray;
 mod orders;
+mod passing;
 mod views;

@@ -1,0 +1,27 @@
+use sample_job::{edits, plan, stock, strips};
+use std::alloc::Global;
+use std::test::Fail;
+use strip_plan::Plan;
+use vf_io::NoMemory;
+
+/// How many edits a strip of the job passes over before its first turn.
+fn passed(alloc: Global, plan: &Plan, number: usize) -> Result<u32, NoMemory> {
+    let mut strips = strips(alloc, plan, &stock(alloc)?)?;
+    if number >= strips.len() {
+        return Ok(u32::MAX);
+    }
+    let left = plan.edits() - strips[number].done();
+    Ok(strips[number].pass_over(plan, left))
+}
+
+/// The first move leaves each third strip alone, which the next one enters, and enters the one two ahead of it.
+#[test]
+fn what_leaves_a_strip_alone_is_passed_over(rt: HostRuntime) -> Result<(), Fail> {
+    let alloc = rt.alloc();
+    let plan = plan(alloc, edits(alloc, 1)?)?;
+    assert_eq!(rt; passed(alloc, &plan, 2)?, 1);
+    assert_eq!(rt; passed(alloc, &plan, 8)?, 1);
+    assert_eq!(rt; passed(alloc, &plan, 0)?, 0);
+    assert_eq!(rt; passed(alloc, &plan, 6)?, 0);
+    Ok(())
+}
