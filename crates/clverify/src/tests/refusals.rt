@@ -1,5 +1,7 @@
 use super::{CLEAN, FLAT, STOCK, answer_over, stock_with};
+use std::alloc::Global;
 use std::test::Fail;
+use vf_io::NoMemory;
 
 /// The words of the calls: `list` of a program, `verify` of one over a setup, and with a script.
 const LIST: &[&str] = &["list", "A"];
@@ -45,12 +47,17 @@ fn programs_that_are_cut_off_or_damaged(rt: HostRuntime) -> Result<(), Fail> {
     Ok(())
 }
 
+/// A text of so many blanks.
+fn blanks(alloc: Global, count: usize) -> Result<String, NoMemory> {
+    Ok(" ".repeat(alloc, count)?)
+}
+
 #[test]
 fn setups_that_are_damaged(rt: HostRuntime) -> Result<(), Fail> {
     let alloc = rt.alloc();
     let high = stock_with(alloc, "[3, 3, 2]", "[3, 3, 401]")?;
     let keyed = stock_with(alloc, "1500]\n", "1500]\nspeed = 1\n")?;
-    let blank = " ".repeat(alloc, 1_048_577)?;
+    let blank = blanks(alloc, 1_048_577)?;
     let rows: [(&[u8], &str); 4] = [
         (b"\xff", "refused: setup: SetupSyntax\n"),
         (
