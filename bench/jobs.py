@@ -10,6 +10,12 @@ way. Two clamps hold the block at its ends. 1,000, 5,000 and 20,000 moves.
 fine and limit have one short cut on a grid with 1,000 points for each node, the most that a setup may ask for; limit has the most
 nodes too.
 
+The others are what a verifier finds hard. deep is large with 64 slabs and 1,024 cells a move, dense is medium with a hundredth of the
+pitch for a step, and everywhere is medium with part and fixture at each point of the block. In turning the axis of a ball cutter leans
+to another side with each move, by up to nine degrees, with 64 slabs and 1,024 cells. wide faces the block with a cutter of 100 mm.
+links goes up, across the block in rapid motion, and down at each place, with a long cut now and then. along cuts from end to end,
+along rays of a fine grid, with 1,024 cells a move.
+
 The same name gives the same bytes each time.
 """
 
@@ -30,6 +36,10 @@ class Job(NamedTuple):
     layers: int  # of the roughing
     rounds: int  # along the walls
     tools: tuple  # diameter and corner radius of the cutter that roughs, the one for the walls, and the ball
+    path: str = "pocket"  # what is cut
+    slabs: int = 16
+    halvings: int = 4  # of a move's time into cells
+    filled: bool = False  # whether part and fixture are at each point of the block
 
 
 MEDIUM = Job((100, 100, 30), 4, 1_000, (19, 16), 6, 3, 1, ((8, 1.5), (6, 0.5), (4, 2)))
@@ -41,11 +51,19 @@ JOBS = {
     "huge": HUGE,
     "fine": LARGE._replace(points=1_000, moves=1),
     "limit": HUGE._replace(nodes=(400, 400, 400), points=1_000, moves=1),
+    "deep": LARGE._replace(slabs=64, halvings=10),
+    "dense": MEDIUM._replace(points=100),
+    "everywhere": MEDIUM._replace(filled=True),
+    "turning": MEDIUM._replace(path="turning", slabs=64, halvings=10, tools=((12, 6),)),
+    "wide": LARGE._replace(path="wide", moves=500, tools=((100, 5),)),
+    "links": LARGE._replace(path="links", moves=2_000, tools=((12, 2),)),
+    "along": MEDIUM._replace(path="along", points=100, moves=40, halvings=10, tools=((8, 1),)),
 }
 LEAN = 1 / 8  # of the walls: a millimetre outwards for eight upwards, some seven degrees
 
 # ---------------------------------------------------------------- the path
 
+TALLEST = 300  # height of a cutter, in millimetres
 SHARES = (0.5, 0.25, 0.25)  # of the moves, for the three cutters
 TILT, LEAD = math.tan(math.radians(3)), math.tan(math.radians(9))  # of the axis to each side, in roughing and on the floor
 CLEAR = 15  # height of the rapid links, above the clamps
@@ -83,7 +101,7 @@ class Path:
         self.cutter = diameter, radius = cutter
         self.tools += 1
         self.texts.append("$$ -----\n$$ %s\nLOADTL/%d\n" % (what, self.tools))
-        self.texts.append("CUTTER/%.4f,%.4f,%.4f,%.4f,0,0,%.4f\n" % (diameter, radius, diameter / 2 - radius, radius, 4 * diameter))
+        self.texts.append("CUTTER/%.4f,%.4f,%.4f,%.4f,0,0,%.4f\n" % (diameter, radius, diameter / 2 - radius, radius, min(4 * diameter, TALLEST)))
         self.texts.append("SPINDL/RPM,%d,CLW\nCOOLNT/ON\n" % self.random.randrange(6_000, 18_000, 500))
 
     def go(self, place, axis, feed):
@@ -167,6 +185,57 @@ def floor(job, cutter):
     yield from run(passes, lambda place: (LEAD * math.cos(place[0] / 17), LEAD * math.sin(place[1] / 23), 1))
 
 
+def pocket(job, path):
+    """Roughing, the walls, and the floor."""
+    for operation, share, cutter in zip((roughing, walls, floor), SHARES, job.tools):
+        path.change(cutter, operation.__name__)
+        path.follow(list(operation(job, cutter)), round(share * job.moves))
+
+
+def turning(job, path):
+    """Short cuts all over the pocket's place, the axis leaning to another side with each."""
+    path.change(job.tools[0], "turning axis")
+    x, y = (half - job.tools[0][0] / 2 for half in job.floor)
+    path.go((0, 0, 0), (0, 0, 1), DOWN)
+    for n in range(1, job.moves):
+        angle, lean = path.random.uniform(0, math.tau), path.random.uniform(0, LEAD)
+        place = [min(half, max(-half, at + path.random.uniform(-2, 2))) for half, at in zip((x, y), path.at)]
+        path.go((*place, -job.depth * n / job.moves), (lean * math.cos(angle), lean * math.sin(angle), 1), CUT)
+
+
+def wide(job, path):
+    """Passes over the whole block, each a little lower."""
+    path.change(job.tools[0], "facing")
+    half_x, half_y = job.nodes[0] / 2 + 60, job.nodes[1] / 2
+    passes = [(x, y, z) for z in (-1, -2) for x, y, _ in to_and_fro(half_x, half_y, z, 60)]
+    legs = [(CUT, place, lambda place: (0, 0, 1)) for place in passes]
+    path.follow([(RAPID, passes[0][:2] + (CLEAR,), legs[0][2]), *legs], job.moves)
+
+
+def links(job, path):
+    """Holes in any order, with a rapid move over the block from each to the next, and each tenth time a cut across it."""
+    path.change(job.tools[0], "links")
+    half_x, half_y = (half - 10 for half in job.floor)
+    upright = (0, 0, 1)
+    for n in range(job.moves // 4):
+        x, y = path.random.uniform(-half_x, half_x), path.random.uniform(-half_y, half_y)
+        path.go((x, y, CLEAR), upright, RAPID)
+        path.go((x, y, -job.depth * path.random.random()), upright, DOWN)
+        if n % 10 == 0:
+            x, y = -x, -y
+        path.go((x, y, path.at[2]), upright, CUT)
+        path.go((x, y, CLEAR), upright, RAPID)
+
+
+def along(job, path):
+    """From end to end of the block along x, line by line."""
+    path.change(job.tools[0], "along rays")
+    half_x, half_y = job.nodes[0] / 2, job.floor[1]
+    for n, (x, y, z) in enumerate(to_and_fro(half_x, half_y, -1, 4 * half_y / job.moves)):
+        if n < job.moves:
+            path.go((x, y, z), (0, TILT, 1), CUT)
+
+
 def path_of(name):
     """The cutter location file of a job."""
     job = JOBS[name]
@@ -176,9 +245,7 @@ def path_of(name):
         path.go((1, 0.5, -1), (TILT, TILT, 1), CUT)
     else:
         path = Path(name, (0, 0, 100))
-        for operation, share, cutter in zip((roughing, walls, floor), SHARES, job.tools):
-            path.change(cutter, operation.__name__)
-            path.follow(list(operation(job, cutter)), round(share * job.moves))
+        {"pocket": pocket, "turning": turning, "wide": wide, "links": links, "along": along}[job.path](job, path)
     return "".join(path.texts) + "COOLNT/OFF\nSPINDL/OFF\nEND\nFINI\n"
 
 
@@ -189,7 +256,7 @@ ABOVE = 5_000  # what the grid reaches above the block, so that the clamps are s
 CLAMP = 8_000  # height of the clamps
 TOLERANCE = 250  # more than what 16 slabs add to the largest ball
 
-CHECK = "[check]\ntolerance = %d\nclearance = 1000\nslabs = 16\ndepth = 4\n" % TOLERANCE
+CHECK = "[check]\ntolerance = %d\nclearance = 1000\nslabs = %d\ndepth = %d\n"
 TOOL = "[tool]\ndiameter = 10000\nradius = 0\nheight = 40000\n"
 
 
@@ -201,7 +268,9 @@ def setup_of(name):
     # A node stands in the middle of its cell, so that no layer of the pocket lies in a plane of rays.
     texts = ["[grid]\norigin = %s\n" % [n + PITCH // 2 for n in low]]
     texts.append("pitch = %d\nstep = %d\ncounts = %s\n" % (PITCH, PITCH // job.points, list(job.nodes)))
-    texts += [CHECK, TOOL, "[[stock]]\nbox = %s\n" % (low + high)]
+    texts += [CHECK % (TOLERANCE, job.slabs, job.halvings), TOOL, "[[stock]]\nbox = %s\n" % (low + high)]
+    if job.filled:
+        return "".join(texts + ["[[%s]]\nbox = %s\n" % (kind, low + high) for kind in ("part", "fixture")])
     texts.append("[[part]]\nbox = %s\n" % (low + high[:2] + [-1_000 * job.depth]))
     block = [[1, 0, 0, high[0]], [-1, 0, 0, -low[0]], [0, 1, 0, high[1]], [0, -1, 0, -low[1]], [0, 0, 1, high[2]], [0, 0, -1, -low[2]]]
     # Behind a wall at x = half + (depth + z) * LEAN lies where z - x / LEAN is at most -(half / LEAN + depth).
