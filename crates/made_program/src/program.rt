@@ -30,7 +30,15 @@ pub fn made_program(alloc: Global, number: u32) -> Result<Program, NoMemory>
 
 /// The move from one place to another, on this line.
 fn cutting_move(line: u32, from: Place, to: Place) -> Move
-    ensures { result ≡ record { line = line; rapid = false; from = from.tip; to = to.tip; axis_from = from.axis; axis_to = to.axis; cutter = None } }
+    ensures { result ≡ record {
+      line = line;
+      rapid = false;
+      from = from.tip;
+      to = to.tip;
+      axis_from = from.axis;
+      axis_to = to.axis;
+      cutter = None;
+    } }
 {
     let Place {
         tip: from_tip,

@@ -1,4 +1,3 @@
-pub mod HighestBit
 pub mod Growing
 pub mod Told
 pub mod Taken

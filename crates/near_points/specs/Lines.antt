@@ -33,7 +33,8 @@ pub record FitsAfter (s : Stance) (t : Step) (l : ℤ) : Type 0 where
 
 -- the point is held: the square of its moment is at most that of the cylinder, and its height from the least to the most
 abbrev pub is_held_after : Hold → Stance → Step → ℤ → Bool
-is_held_after hold s t l = int_le (width_at s t l) hold.square && (int_le hold.least (height_at s t l) && int_le (height_at s t l) hold.most)
+is_held_after hold s t l =
+    int_le (width_at s t l) hold.square && (int_le hold.least (height_at s t l) && int_le (height_at s t l) hold.most)
 
 -- two heights are beyond the same end
 abbrev pub AreBeyond : ℤ → ℤ → ℤ → ℤ → Type 0

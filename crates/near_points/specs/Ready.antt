@@ -29,8 +29,10 @@ pub record IsHoldOf (hold : Hold) (c : BoundingCylinder) : Type 0 where
 pub record IsReadyStrip (start across : Stance) (step : Step) (hold : Hold) (s : NearStripOf) : Type 0 where
   pub sized : IsGrid s.grid
   pub first : s.i < nodes_of s.grid (first_axis s.family)
-  pub start_is : IsStance start (turned s.family (offset_of s.cylinder (point_at s.grid s.family s.i 0 0))) (turned s.family s.cylinder.axis)
-  pub across_is : IsStance across (way_across s.family (pos s.cylinder.scale *ℤ s.grid.pitch)) (turned s.family s.cylinder.axis)
+  pub start_is :
+      IsStance start (turned s.family (offset_of s.cylinder (point_at s.grid s.family s.i 0 0))) (turned s.family s.cylinder.axis)
+  pub across_is :
+      IsStance across (way_across s.family (pos s.cylinder.scale *ℤ s.grid.pitch)) (turned s.family s.cylinder.axis)
   pub step_is : IsStep step (way_along (pos s.cylinder.scale *ℤ s.grid.step)) (turned s.family s.cylinder.axis)
   pub hold_is : IsHoldOf hold s.cylinder
 
@@ -40,5 +42,8 @@ pub record IsReadyRay (first : Stance) (step : Step) (hold : Hold) (r : NearRayO
   pub hold_is : IsHoldOf hold r.cylinder
   pub fits : (l : ℕ) → l < points_of r.grid r.ray.family → FitsAfter first step (pos l)
   pub widths : (l : ℕ) → l < points_of r.grid r.ray.family
-      → width_at first step (pos l) ≡ dot (cross (offset_of r.cylinder (point_of r.grid r.ray l)) r.cylinder.axis) (cross (offset_of r.cylinder (point_of r.grid r.ray l)) r.cylinder.axis)
-  pub heights : (l : ℕ) → l < points_of r.grid r.ray.family → height_at first step (pos l) ≡ dot (offset_of r.cylinder (point_of r.grid r.ray l)) r.cylinder.axis
+      → width_at first step (pos l)
+      ≡ dot (cross (offset_of r.cylinder (point_of r.grid r.ray l)) r.cylinder.axis)
+      (cross (offset_of r.cylinder (point_of r.grid r.ray l)) r.cylinder.axis)
+  pub heights : (l : ℕ) → l < points_of r.grid r.ray.family
+      → height_at first step (pos l) ≡ dot (offset_of r.cylinder (point_of r.grid r.ray l)) r.cylinder.axis

@@ -8,7 +8,6 @@ mod scan;
 mod stance;
 mod step;
 mod strip;
-mod word;
 
 pub use ray::NearRay;
 pub use strip::NearStrip;

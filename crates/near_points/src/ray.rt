@@ -2,11 +2,10 @@ use crate::hold::Hold;
 use crate::scan::{are_left_out, held_between};
 use crate::stance::Stance;
 use crate::step::Step;
-use crate::word::highest_bit;
 use ray_grid::{Grid, Ray};
 use std::marker::Model;
 use sweep_boxes::BoundingCylinder;
-use vf_spans::bits::lowest_bit;
+use vf_spans::bits::{highest_bit, lowest_bit};
 
 /// A bounding cylinder, ready for the points of one ray of a grid.
 #[derive(Drop)]

@@ -59,7 +59,8 @@ impl Shelf for CutShelf {
         ensures closed { OnErr result (is_some (unread_bytes self.new.shelf) ≡ false) }
         ensures failed { is_err result ≡ (fails_next self.old.shelf || is_absent (file_list self.old.shelf) name.now) }
         ensures files { told_files self.new.shelf ≡ told_files self.old.shelf }
-        ensures kept { (file_list self.new.shelf ≡ file_list self.old.shelf) × (failing_calls self.new.shelf ≡ failing_calls self.old.shelf) }
+        ensures kept { (file_list self.new.shelf ≡ file_list self.old.shelf)
+            × (failing_calls self.new.shelf ≡ failing_calls self.old.shelf) }
         ensures piece { self.new.piece ≡ self.old.piece }
         ensures counted { call_count self.new.shelf ≡ raised (call_count self.old.shelf) }
         ensures fault { fault_count self.new.shelf ≡ faults_behind (is_err result) (fault_count self.old.shelf) }
@@ -86,7 +87,8 @@ impl Shelf for CutShelf {
         ensures closed { OnErr result (is_some (unread_bytes self.new.shelf) ≡ false) }
         ensures failed { is_err result ≡ fails_next self.old.shelf }
         ensures files { told_files self.new.shelf ≡ told_files self.old.shelf }
-        ensures kept { (file_list self.new.shelf ≡ file_list self.old.shelf) × (failing_calls self.new.shelf ≡ failing_calls self.old.shelf) }
+        ensures kept { (file_list self.new.shelf ≡ file_list self.old.shelf)
+            × (failing_calls self.new.shelf ≡ failing_calls self.old.shelf) }
         ensures piece { self.new.piece ≡ self.old.piece }
         ensures counted { call_count self.new.shelf ≡ raised (call_count self.old.shelf) }
         ensures fault { fault_count self.new.shelf ≡ faults_behind (is_err result) (fault_count self.old.shelf) }

@@ -12,3 +12,4 @@ pub mod Same
 pub mod InRanges
 pub mod Tally
 pub mod Below
+pub mod HighestBit

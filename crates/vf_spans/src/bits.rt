@@ -62,3 +62,14 @@ pub fn lowest_bit(word: u64) -> u32
 {
     word.trailing_zeros()
 }
+
+/// The highest bit that is set.
+#[inline]
+pub fn highest_bit(word: u64) -> u32
+    requires { 0 < word }
+    ensures within { result < 64 }
+    ensures set { has_bit word result ≡ true }
+    ensures highest { (k : ℕ) → result < k → has_bit word k ≡ false }
+{
+    63 - word.leading_zeros()
+}

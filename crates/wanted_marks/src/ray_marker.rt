@@ -1,11 +1,11 @@
 use crate::line::Line;
 use crate::move_marker::MoveMarker;
 use crate::near::Near;
-use crate::word::{WordMarks, asked_at, chosen_bits, highest_bit, without_bit};
+use crate::word::{WordMarks, asked_at, chosen_bits, without_bit};
 use axis_cells::Mark;
 use ray_grid::{Grid, Ray};
 use std::marker::Model;
-use vf_spans::bits::lowest_bit;
+use vf_spans::bits::{highest_bit, lowest_bit};
 use width_bisect::Asked;
 
 /// A move of a cutter, ready to mark points of one ray.

@@ -16,17 +16,6 @@ pub fn without_bit(word: u64, b: u32) -> u64
     word & !(1 << b)
 }
 
-/// The highest bit that is set.
-#[inline]
-pub fn highest_bit(word: u64) -> u32
-    requires { 0 < word }
-    ensures within { result < 64 }
-    ensures set { has_bit word result ≡ true }
-    ensures highest { (k : ℕ) → result < k → has_bit word k ≡ false }
-{
-    63 - word.leading_zeros()
-}
-
 /// The bits of the second word in these places, and elsewhere those of the first.
 #[inline]
 pub fn chosen_bits(elsewhere: u64, there: u64, places: u64) -> u64

@@ -104,7 +104,8 @@ impl Sample {
     #[inline]
     fn is_within(&self, slab: &Slab) -> bool
         ensures { let at = self.now in result
-            ≡ (int_le (at.u *ℤ at.u) (scaled_square at.scale slab.now.hi *ℤ at.n) && int_le at.width (scaled_square at.scale slab.now.dia *ℤ at.n)) }
+            ≡ (int_le (at.u *ℤ at.u) (scaled_square at.scale slab.now.hi *ℤ at.n)
+            && int_le at.width (scaled_square at.scale slab.now.dia *ℤ at.n)) }
     {
         if !self.is_near(slab) {
             return false;

@@ -3,7 +3,7 @@ use Rattle.std.proofs.lemmas.Bool.{and_parts}
 use Rattle.vf_spans.specs.Words.{has_bit}
 use Rattle.vf_spans.proofs.WordBits.{has_bit-and, has_bit-zero}
 use Rattle.near_points.specs.Ready.{IsReadyRay}
-use Rattle.near_points.proofs.HighestBit.{at_least, at_most}
+use Rattle.vf_spans.proofs.HighestBit.{at_least, at_most}
 use Rattle.near_points.proofs.Holding.{holds_point, point_holds}
 use Rattle.near_points.proofs.Told.{both_true}
 use Rattle.near_points.proofs.ray.NearRay.near.Goals as goal

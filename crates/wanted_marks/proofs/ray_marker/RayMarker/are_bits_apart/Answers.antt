@@ -1,7 +1,7 @@
 use Rattle.std.proofs.Common.{◌+◌, arith, ap, ◌∙◌}
 use Rattle.vf_spans.specs.Words.{has_bit}
 use Rattle.vf_spans.proofs.WordBits.{has_bit-zero}
-use Rattle.wanted_marks.proofs.BitLemmas.{at_least, at_most}
+use Rattle.vf_spans.proofs.HighestBit.{at_least, at_most}
 use Rattle.wanted_marks.proofs.ray_marker.RayMarker.are_bits_apart.Goals as goal
 
 pub returns-then-bits-eq0 : goal.returns-then-bits-eq0
