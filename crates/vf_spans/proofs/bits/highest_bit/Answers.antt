@@ -1,6 +1,6 @@
 use Rattle.std.proofs.Common.{rules}
 use Rattle.vf_spans.proofs.HighestBit.{has_bit-highest_set}
-use Rattle.vf_spans.proofs.word.highest_bit.Goals as goal
+use Rattle.vf_spans.proofs.bits.highest_bit.Goals as goal
 
 pub returns-clause-set : goal.returns-clause-set
 returns-clause-set c = (has_bit-highest_set c.args.word c.requires (search rules)).0
