@@ -7,7 +7,7 @@ use Rattle.report_text.specs.declared.fault.Fault.{Fault}
 use Rattle.clverify.specs.Answer.{Due, IsVerdict, refused, usage_due}
 use Rattle.clverify.specs.Commands.{Command, list_moves, mark_moves, self_test, verify_moves}
 use Rattle.clverify.specs.Due.{command_due}
-use Rattle.clverify.specs.Inputs.{is_read_fault}
+use Rattle.job_inputs.specs.Inputs.{is_read_fault}
 use Rattle.clverify.specs.Headline.{Answers, Hands, IsComplete, IsDue}
 use Rattle.clverify.specs.Outside.{WritesAnswer}
 use Rattle.clverify.specs.Settled.{IsReport, MayEnd, Settles, answer_seen}
@@ -15,8 +15,8 @@ use Rattle.clverify.specs.Truth.{IsTrueText, TellsTruth}
 use Rattle.clverify.specs.declared.answer.Answer.{Answer}
 use Rattle.clverify.specs.declared.status.Status.{Status}
 use Rattle.clverify.specs.declared.status.Status.TheVariants as ends
-use Rattle.clverify.specs.declared.stopped.Stopped.{Stopped}
-use Rattle.clverify.specs.declared.stopped.Stopped.TheVariants.{Refused, ReadFault, NoMemory}
+use Rattle.job_inputs.specs.declared.stopped.Stopped.{Stopped}
+use Rattle.job_inputs.specs.declared.stopped.Stopped.TheVariants.{Refused, ReadFault, NoMemory}
 
 -- where it isn't known what is due, less is said of an answer
 unknown_answer : (status : Status) (d : Due) (old new : Option (List ℕ)) → Answers status (Some d) old new → Answers status None old new

@@ -1,9 +1,5 @@
 pub mod Done
 pub mod Made
 pub mod Endings
-pub mod Programs
-pub mod Scripts
 pub mod Shapes
-pub mod Sizes
-pub mod Truths
 pub mod Unread

@@ -3,10 +3,10 @@ use Rattle.std.proofs.Common.{◌≡◌, ℕ, Bool, true, false, Option, Some, N
 use Rattle.vf_io.specs.Files.{Files}
 use Rattle.clverify.specs.Commands.{self_test}
 use Rattle.clverify.specs.Commands.Selftest.{IsTrueSelftest}
-use Rattle.clverify.specs.Outside.{ReadsOnce}
+use Rattle.job_inputs.specs.Reads.{ReadsOnce}
 use Rattle.clverify.specs.Truth.{IsTrueText}
 use Rattle.clverify.specs.declared.answer.Answer.{Answer}
-use Rattle.clverify.specs.declared.stopped.Stopped.{Stopped}
+use Rattle.job_inputs.specs.declared.stopped.Stopped.{Stopped}
 
 -- what is true of the summary of a made task is true whatever the files are
 pub true_over_all : (files : Option Files) (report : Result Answer Stopped) (number : ℕ)

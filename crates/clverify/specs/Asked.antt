@@ -1,9 +1,9 @@
 -- A command as the code has it, and as the words ask for it.
 use Rattle.std.specs.Prelude.{ℕ, ◌≤◌}
 use Rattle.clverify.specs.Commands as words
-use Rattle.clverify.specs.Commands.Questions.{IsQuestion}
 use Rattle.clverify.specs.declared.commands.Command.{Command}
 use Rattle.clverify.specs.declared.commands.Command.TheVariants.{List, Point, Selftest, Verify}
+use Rattle.point_marks.specs.Questions.{IsQuestion}
 use Rattle.verify_words.specs.Call.{most_workers}
 use Rattle.verify_words.specs.Seen.{call_seen}
 

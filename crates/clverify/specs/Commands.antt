@@ -10,7 +10,7 @@ use Rattle.clverify.specs.Commands.Selftest.{selftest_name, selftest_words}
 use Rattle.clverify.specs.Commands.Verify.{names_of, verify_name}
 use Rattle.verify_words.specs.Call.{VerifyCall, call_of}
 use Rattle.verify_words.specs.Words.{Word, Words}
-use Rattle.clverify.specs.declared.commands.question.Question.{Question}
+use Rattle.point_marks.specs.declared.question.Question.{Question}
 pub mod List
 pub mod Point
 pub mod Questions

@@ -2,14 +2,9 @@ pub mod Answer
 pub mod Asked
 pub mod Codes
 pub mod Commands
-pub mod Cutters
 pub mod Due
 pub mod Headline
-pub mod Inputs
-pub mod Marks
 pub mod Outside
-pub mod Ready
 pub mod Settled
-pub mod Tasks
 pub mod Truth
 pub mod Verdict

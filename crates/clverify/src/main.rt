@@ -4,12 +4,8 @@
 mod answer;
 mod arguments;
 mod commands;
-mod cutters;
-mod input;
-mod marks;
+mod job;
 mod status;
-mod stopped;
-mod task;
 #[cfg(test)]
 mod tests;
 mod top;

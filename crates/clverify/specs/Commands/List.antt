@@ -4,7 +4,7 @@ use Rattle.cl_moves.specs.declared.program.Program.{Program}
 use Rattle.report_text.specs.Listing.{list_of}
 use Rattle.vf_io.specs.Files.{Files, bytes_of}
 use Rattle.clverify.specs.Answer.{Due, answer_of}
-use Rattle.clverify.specs.Inputs.{read_of}
+use Rattle.job_inputs.specs.Inputs.{read_of}
 use Rattle.verify_words.specs.Words.{Word, Words, is_name}
 use Rattle.clverify.specs.declared.status.Status.TheVariants.{Clean}
 

@@ -9,12 +9,12 @@ use Rattle.report_text.specs.declared.fault.Fault.TheVariants.{CutterHeight}
 use Rattle.vf_io.specs.Files.{Files, bytes_of}
 use Rattle.clverify.specs.Answer.{Due, answer_of, refused}
 use Rattle.clverify.specs.Commands.Questions.{question_of}
-use Rattle.clverify.specs.Cutters.{first_low}
-use Rattle.clverify.specs.Inputs.{read_of}
-use Rattle.clverify.specs.Marks.{AreTrueMarks, marks_for}
+use Rattle.point_marks.specs.Cutters.{first_low}
+use Rattle.job_inputs.specs.Inputs.{read_of}
+use Rattle.point_marks.specs.Marks.{AreTrueMarks, marks_for}
 use Rattle.verify_words.specs.Words.{Word, Words, is_name}
-use Rattle.clverify.specs.declared.commands.question.Question.{Question}
-use Rattle.clverify.specs.declared.cutters.Usual.{Usual}
+use Rattle.point_marks.specs.declared.question.Question.{Question}
+use Rattle.point_marks.specs.declared.cutters.Usual.{Usual}
 use Rattle.clverify.specs.declared.status.Status.TheVariants.{Clean}
 
 -- its first word

@@ -1,35 +1,22 @@
--- What `point` is asked: a point in micrometres, the depth of the time cells, and the number of slabs that a cutter is cut into.
-use Rattle.std.specs.Prelude.{ℕ, ◌≤◌, ℤ, pos, neg_ℤ, List, [], ◌∷◌, Option, Some, None, codes, if◌then◌else◌}
+-- What `point` is asked, by the words behind the file's name.
+use Rattle.std.specs.Prelude.{ℕ, ℤ, pos, neg_ℤ, List, [], ◌∷◌, Option, Some, None, codes, if◌then◌else◌}
 use Rattle.std.specs.Result.{result_ok}
 use Rattle.std.specs.Str.{bytes_eq}
-use Rattle.space.specs.Ranges.{IsPoint, metre}
+use Rattle.space.specs.Ranges.{metre}
 use Rattle.vf_text.specs.Digits.{number_spelt}
 use Rattle.cl_lines.specs.Numbers.{length_of}
 use Rattle.cl_lines.specs.declared.number.Unit.TheVariants.{Mm}
 use Rattle.verify_words.specs.Words.{Word, Words, within}
-use Rattle.clverify.specs.declared.commands.question.Question.{Question}
+use Rattle.point_marks.specs.Questions.{deepest, most_slabs}
+use Rattle.point_marks.specs.declared.question.Question.{Question}
 
--- the greatest depth
-abbrev pub deepest : ℕ
-deepest = 10
-
--- the most slabs, and how many there are where no words ask for another number
-abbrev pub most_slabs : ℕ
-most_slabs = 256
-
+-- how many slabs there are where no words ask for another number
 abbrev pub usual_slabs : ℕ
 usual_slabs = 16
 
 -- the most digits of a depth and of a number of slabs
 abbrev pub most_places : ℕ
 most_places = 3
-
--- a point within a metre of the origin, a depth that isn't too great, and at least one slab and not too many
-pub record IsQuestion (question : Question) : Type 0 where
-  pub near : IsPoint question.point
-  pub shallow : question.depth ≤ deepest
-  pub some : 1 ≤ question.slabs
-  pub few : question.slabs ≤ most_slabs
 
 abbrev pub depth_of : Word → Word → Option ℕ
 depth_of name word = if bytes_eq name (codes "--depth") then within 0 deepest (number_spelt most_places word) else None

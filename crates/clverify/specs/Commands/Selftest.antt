@@ -9,7 +9,7 @@ use Rattle.report_text.specs.Selftest.{selftest_of}
 use Rattle.verify_words.specs.Words.{Word, Words, within}
 use Rattle.clverify.specs.Answer.{Due}
 use Rattle.clverify.specs.Commands.Verify.{status_by}
-use Rattle.clverify.specs.Tasks.{made_task}
+use Rattle.job_inputs.specs.Tasks.{made_task}
 
 -- its first word
 abbrev pub selftest_name : Word

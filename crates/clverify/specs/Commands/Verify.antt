@@ -12,7 +12,7 @@ use Rattle.verify_words.specs.Call.{VerifyCall}
 use Rattle.verify_words.specs.Words.{Word, Words}
 use Rattle.vf_io.specs.Files.{Files, bytes_of}
 use Rattle.clverify.specs.Answer.{Due, answer_of}
-use Rattle.clverify.specs.Tasks.{task_of}
+use Rattle.job_inputs.specs.Tasks.{task_of}
 use Rattle.clverify.specs.declared.status.Status.{Status}
 use Rattle.clverify.specs.declared.status.Status.TheVariants.{Clean, Findings}
 

@@ -1,9 +1,10 @@
 ghost use Rattle.std.specs.Prelude.{◌≡◌, ◌≤◌, map, unsigned_abs, IfSome, string_bytes};
 ghost use Rattle.space.specs.Ranges.{IsPoint, metre};
-ghost use Rattle.clverify.specs.Commands.Questions.{IsQuestion, coordinate_of, depth_of, point_by, question_of, slabs_of};
-ghost use Rattle.clverify.specs.Commands.Questions.{deepest, most_slabs};
+ghost use Rattle.point_marks.specs.Questions.{IsQuestion, deepest, most_slabs};
+ghost use Rattle.clverify.specs.Commands.Questions.{coordinate_of, depth_of, point_by, question_of, slabs_of};
 
 use cl_lines::{Unit, read_length};
+use point_marks::Question;
 use verify_words::read_within;
 
 /// How far from the origin a coordinate may be, in micrometres.
@@ -19,15 +20,6 @@ const USUAL_SLABS: u32 = 16;
 
 /// The most digits of a depth and of a number of slabs.
 const MOST_PLACES: usize = 3;
-
-/// What is asked about the moves of a file: a point in micrometres, the depth of the time cells, and the number of slabs that
-/// a cutter is cut into.
-#[derive(Clone, Copy, Debug)]
-pub(crate) struct Question {
-    pub(crate) point: [i32; 3],
-    pub(crate) depth: u32,
-    pub(crate) slabs: u32,
-}
 
 /// The question that the words behind the file's name ask, where they ask one.
 pub(crate) fn read_question(words: &[String]) -> Option<Question>

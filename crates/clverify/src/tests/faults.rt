@@ -1,4 +1,4 @@
-use super::{CLEAN, FLAT, STOCK, answer_by, answer_over, owned_files};
+use super::{CLEAN, FLAT, STOCK, answer, answer_by, answer_over, owned_files};
 use crate::status::Status;
 use std::test::Fail;
 use vf_io::CutShelf;
@@ -68,5 +68,30 @@ fn each_read_and_each_put_fails_in_turn(rt: HostRuntime) -> Result<(), Fail> {
     let (status, written) = answer_over(&rt, rt.alloc(), &words, &FILES, &[], &[0])?;
     assert_eq!(rt; status, Status::WriteFault, "the line of a refusal");
     assert_eq!(rt; written.len(), 0, "the line of a refusal");
+    Ok(())
+}
+
+#[test]
+fn faults_outside_are_told_apart(rt: HostRuntime) -> Result<(), Fail> {
+    let file = b"FROM/0,0,0\nGOTO/0,0,1\n";
+    let front =
+        "clverify list 1\nmove 1 line 2 cut from 0 0 0 to 0 0 1000 axis 0 0 100000 to 0 0 100000 cutter none\n";
+    let rows: [(&[&str], &[u64], &[u64], Status, &str); 6] = [
+        (&["list", "b.cls"], &[], &[], Status::ReadFault, ""),
+        (&["list", "a.cls"], &[0], &[], Status::ReadFault, ""),
+        (&["list", "a.cls"], &[1], &[], Status::ReadFault, ""),
+        (&["list", "a.cls"], &[2], &[], Status::ReadFault, ""),
+        (&["list", "a.cls"], &[], &[2], Status::WriteFault, front),
+        (&["list"], &[], &[0], Status::WriteFault, ""),
+    ];
+    for (words, reads, writes, end, text) in rows {
+        let (status, written) = answer(&rt, rt.alloc(), words, file, reads, writes)?;
+        assert_eq!(rt; status, end, "the reads {reads:?} and writes {writes:?}");
+        assert_eq!(rt;
+            written.as_slice(),
+            text.as_bytes(),
+            "the reads {reads:?} and writes {writes:?}"
+        );
+    }
     Ok(())
 }

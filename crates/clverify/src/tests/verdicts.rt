@@ -1,4 +1,4 @@
-use super::{FLAT, PART, STOCK, owned_files, owned_words};
+use super::{FLAT, STOCK, owned_files, owned_words, part_setup};
 use crate::verdict::verdict_of;
 use std::test::Fail;
 
@@ -14,7 +14,8 @@ const ROWS: [(&[&str], u8); 6] = [
 
 #[test]
 fn verdicts_without_a_fault(rt: HostRuntime) -> Result<(), Fail> {
-    let named: [(&str, &[u8]); 3] = [("A", FLAT), ("S", STOCK), ("P", PART)];
+    let part = part_setup(rt.alloc())?;
+    let named = [("A", FLAT), ("S", STOCK), ("P", part.as_bytes())];
     for (words, code) in ROWS {
         let files = owned_files(rt.alloc(), &named)?;
         let words = owned_words(rt.alloc(), words)?;

@@ -2,7 +2,7 @@ use Rattle.std.proofs.Common.{IfOk, IfSome, subst, sym}
 use Rattle.vf_io.specs.Files.{Files}
 use Rattle.clverify.specs.Asked.{command_seen}
 use Rattle.clverify.specs.Due.{command_due}
-use Rattle.clverify.specs.Inputs.{is_read_fault}
+use Rattle.job_inputs.specs.Inputs.{is_read_fault}
 use Rattle.clverify.specs.Settled.{IsReport}
 use Rattle.clverify.specs.Truth.{IsTrueText}
 use Rattle.clverify.specs.declared.commands.Command.{Command}

@@ -1,5 +1,0 @@
-use Rattle.clverify.proofs.Programs.{program_few}
-use Rattle.clverify.proofs.input.moves_of.Goals as goal
-
-pub returns-in-Ok-clause-few : goal.returns-in-Ok-clause-few
-returns-in-Ok-clause-few c = program_few c.args.bytes.now c.in-Ok.program c.in-Ok.ensures.program

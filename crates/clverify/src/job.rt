@@ -1,0 +1,52 @@
+ghost use Rattle.std.specs.Prelude.{◌≡◌, IfOk, IsTrue};
+ghost use Rattle.job_facts.specs.Facts.{are_answered};
+ghost use Rattle.job_model.specs.Report.{facts_of};
+ghost use Rattle.job_model.specs.Tasks.{IsPlan};
+ghost use Rattle.clverify.specs.Asked.{AreWorkers};
+
+use job_facts::Facts;
+use job_inputs::{ReadyTask, TaskInputs, make_ready};
+use job_run::{JobBodies, run_job};
+use std::alloc::Global;
+use std::sync::Wait;
+use std::thread::Threads;
+use vf_io::NoMemory;
+use worker_gate::Gate;
+
+/// Does the task by so many workers, and gives what is so of its job.
+pub(crate) fn do_task<R: Threads + Wait + Sync, G: Gate + Sync>(
+    rt: &R,
+    alloc: Global,
+    inputs: TaskInputs,
+    workers: u32,
+    gate: &G,
+) -> Result<Facts, NoMemory>
+    requires { AreWorkers workers }
+    ensures facts { IfOk result (λ facts. facts ≡ facts_of inputs) }
+    ensures answered { IfOk result (λ facts. IsTrue (are_answered facts.answers)) }
+    ensures valid { IfOk result (λ _. IsPlan inputs.job.plan) }
+{
+    let ReadyTask {
+        plan,
+        stock,
+        part,
+        fixture,
+        passed,
+        queries,
+    } = make_ready(alloc, inputs)?;
+    let bodies = JobBodies {
+        stock,
+        part,
+        fixture,
+    };
+    run_job(
+        rt,
+        alloc,
+        plan,
+        &bodies,
+        passed,
+        queries.as_slice(),
+        workers,
+        gate,
+    )
+}

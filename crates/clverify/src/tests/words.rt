@@ -1,0 +1,145 @@
+use super::{USAGE, answer};
+use crate::arguments::read_words;
+use crate::commands::read_command;
+use crate::status::Status;
+use std::alloc::Global;
+use std::env::{Env, FillError};
+use std::test::Fail;
+
+/// Whether these words, parted by blanks, are a command.
+fn is_command(alloc: Global, words: &str) -> Result<bool, Fail> {
+    let mut texts = Vec::new(alloc);
+    for word in words.split(' ') {
+        texts.push(String::from_str(alloc, word)?)?;
+    }
+    let Ok(command) = read_command(alloc, &texts) else {
+        return Err(Fail::from("no memory for the words"));
+    };
+    Ok(command.is_some())
+}
+
+/// Words that are a command.
+const COMMANDS: [&str; 14] = [
+    "list a",
+    "list --x",
+    "verify a s.toml",
+    "verify a s --script f",
+    "verify --workers=2 a --script f s",
+    "verify -- --script s",
+    "selftest 0",
+    "selftest 000007",
+    "selftest 999999",
+    "point a 0 0 0 --depth 0",
+    "point a 0 0 0 --depth 010",
+    "point a 0 0 0 --depth 2 --slabs 1",
+    "point a 0 0 0 --depth 2 --slabs 256",
+    "point a 1000.0004 -1000 +.5E2 --depth 10",
+];
+
+/// Words that are none.
+const NO_COMMANDS: [&str; 33] = [
+    "list",
+    "list ",
+    "list a b",
+    "LIST a",
+    "",
+    "--help",
+    "verify --script s",
+    "VERIFY a s",
+    "verify a",
+    "verify  s",
+    "verify a s f",
+    "verify a s --script",
+    "verify a s --script ",
+    "verify a s --script f g",
+    "selftest",
+    "selftest 1000000",
+    "selftest 0000007",
+    "selftest 1 2",
+    "POINT a 0 0 0 --depth 0",
+    "point  0 0 0 --depth 0",
+    "point a 1000.001 0 0 --depth 0",
+    "point a 0 -1000.0006 0 --depth 0",
+    "point a 0 0 1,5 --depth 0",
+    "point a 0 0 --depth 0",
+    "point a 0 0 0 --depth",
+    "point a 0 0 0 --depth 11",
+    "point a 0 0 0 --depth 0010",
+    "point a 0 0 0 --depth -1",
+    "point a 0 0 0 --depth=2",
+    "point a 0 0 0 --slabs 4 --depth 2",
+    "point a 0 0 0 --depth 2 --slabs 0",
+    "point a 0 0 0 --depth 2 --slabs 257",
+    "point a 0 0 0 --depth 2 --slabs 4 5",
+];
+
+#[test]
+fn words_of_commands(rt: HostRuntime) -> Result<(), Fail> {
+    for words in COMMANDS {
+        assert!(rt; is_command(rt.alloc(), words)?, "the words {words:?}");
+    }
+    for words in NO_COMMANDS {
+        assert!(rt; !is_command(rt.alloc(), words)?, "the words {words:?}");
+    }
+    Ok(())
+}
+
+#[test]
+fn other_words_get_the_usage_line(rt: HostRuntime) -> Result<(), Fail> {
+    let (status, written) = answer(&rt, rt.alloc(), &["list"], b"", &[0], &[])?;
+    assert_eq!(rt; status, Status::Usage, "words that are no command");
+    assert_eq!(rt; written.as_slice(), USAGE.as_bytes(), "the usage line");
+    Ok(())
+}
+
+/// A program's path and one word behind it, by their bytes.
+#[derive(Drop)]
+struct Called<'a> {
+    path: &'a [u8],
+    word: &'a [u8],
+}
+
+impl Env for Called<'_> {
+    fn arg(&self, i: usize, buffer: &mut [u8]) -> Result<usize, FillError> {
+        let argument = match i {
+            0 => self.path,
+            1 => self.word,
+            _ => return Err(FillError::NotPresent),
+        };
+        if argument.len() > buffer.len() {
+            return Err(FillError::TooLong);
+        }
+        buffer[..argument.len()].copy_from_slice(argument);
+        Ok(argument.len())
+    }
+
+    fn var(&self, _name: &str, _buffer: &mut [u8]) -> Result<usize, FillError> {
+        Err(FillError::NotPresent)
+    }
+
+    fn var_at(&self, _i: usize, _buffer: &mut [u8]) -> Result<usize, FillError> {
+        Err(FillError::NotPresent)
+    }
+}
+
+#[test]
+fn a_program_may_be_called_by_any_path(rt: HostRuntime) -> Result<(), Fail> {
+    let by_bytes = Called {
+        path: b"tools/\xff/clverify",
+        word: b"list",
+    };
+    let Ok(words) = read_words(rt.alloc(), &by_bytes) else {
+        return Err(Fail::from("no memory for the words"));
+    };
+    assert_eq!(rt; words.len(), 1, "the words behind a path that is no text");
+    assert_eq!(rt; words[0].as_str(), "list", "the word behind it");
+    let no_text = Called {
+        path: b"clverify",
+        word: b"\xff",
+    };
+    let Ok(words) = read_words(rt.alloc(), &no_text) else {
+        return Err(Fail::from("no memory for the words"));
+    };
+    assert_eq!(rt; words.len(), 0, "a word that is no text");
+    Ok(())
+}

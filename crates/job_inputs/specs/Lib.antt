@@ -1,0 +1,4 @@
+pub mod Inputs
+pub mod Reads
+pub mod Ready
+pub mod Tasks

@@ -1,0 +1,85 @@
+-- The task that a program, a setup and a script stand for.
+use Rattle.std.specs.Prelude.{ℕ, pos, neg_ℤ, List, length, map, Option, Some, None, unwrap_or, Result, Ok, Err}
+use Rattle.cl_records.specs.declared.cutter.CutterText.{CutterText}
+use Rattle.cl_moves.specs.Moves.{motion_of}
+use Rattle.cl_moves.specs.declared.moves.Move.{Move}
+use Rattle.cl_moves.specs.declared.program.Program.{Program}
+use Rattle.cutter_slabs.specs.Cutter.{CutterSize}
+use Rattle.edit_plan.specs.declared.script.Script.{Script}
+use Rattle.edit_plan.specs.Script.{whole_of_moves}
+use Rattle.job_model.specs.Tasks.{JobMove, Task}
+use Rattle.made_program.specs.Made.{made_moves, made_of}
+use Rattle.made_setup.specs.Made.{made_setup}
+use Rattle.ray_shapes.specs.declared.solid.Solid.TheVariants.{Bodies}
+use Rattle.report_text.specs.declared.fault.Fault.{Fault}
+use Rattle.report_text.specs.declared.fault.Fault.TheVariants.{CutterHeight}
+use Rattle.setup_file.specs.Shift.{shifted_of}
+use Rattle.setup_file.specs.declared.setup.Setup.{Setup}
+use Rattle.point_marks.specs.Cutters.{first_low, size_of}
+use Rattle.job_inputs.specs.Inputs.{◌>>=◌, read_of, script_read_of, setup_read_of}
+use Rattle.point_marks.specs.declared.cutters.Usual.{Usual}
+
+-- a tool as a program would give it
+abbrev pub tool_text : CutterSize → CutterText
+tool_text tool = record { d = pos tool.d; r = pos tool.r; h = Some (pos tool.h); flank = tool.flank }
+
+-- a move without a cutter has the setup's tool, and a cutter without a height is as high as that
+abbrev pub tool_usual : CutterSize → Usual
+tool_usual tool = record { cutter = Some (tool_text tool); height = pos tool.h }
+
+-- a move with the cutter that it is made with
+abbrev pub job_move : CutterSize → Move → JobMove
+job_move tool move = record {
+  motion = motion_of move;
+  cutter = size_of (tool_usual tool) (unwrap_or move.cutter (tool_text tool));
+  rapid = move.rapid;
+  line = move.line;
+}
+
+-- the task of what was read: the part is lowered by its tolerance, the fixtures are raised by their clearance
+abbrev pub task_by : Program → Setup → Script → Task
+task_by program setup script = record {
+  job = record {
+    plan = record {
+      grid = setup.grid;
+      slabs = setup.slabs;
+      depth = setup.depth;
+      moves = map (job_move setup.tool) program.moves;
+      edits = script.edits;
+    };
+    stock = Bodies setup.stock;
+    part = Bodies (shifted_of (neg_ℤ setup.tolerance) setup.part);
+    fixture = Bodies (shifted_of setup.clearance setup.fixture);
+  };
+  passed = program.passed;
+  queries = script.queries;
+}
+
+-- a program, unless the cutter of the move on a line is less high than its corner radius
+abbrev pub unless_low : Option ℕ → Program → Result Program Fault
+unless_low None program = Ok program
+unless_low (Some at) program = Err (CutterHeight at)
+
+-- the task of a program, a setup and the bytes of a script, which needn't be there, or the first fault: that of a cutter that is
+-- too low comes ahead of the script's
+abbrev pub task_with : Program → Setup → Option (List ℕ) → Result Task Fault
+task_with program setup script = do
+  _ ← unless_low (first_low (tool_usual setup.tool) program.moves) program
+  read ← script_read_of (length program.moves) setup.grid script
+  Ok (task_by program setup read)
+
+-- the same of a program and the bytes of a setup
+abbrev pub task_behind : Program → List ℕ → Option (List ℕ) → Result Task Fault
+task_behind program setup script = do
+  read ← setup_read_of setup
+  task_with program read script
+
+-- the same of the bytes of all three files
+abbrev pub task_of : List ℕ → List ℕ → Option (List ℕ) → Result Task Fault
+task_of file setup script = do
+  program ← read_of file
+  task_behind program setup script
+
+-- the task of a program that is made from a number: each move is applied once in order, and nothing is asked
+abbrev pub made_task : ℕ → Task
+made_task number = task_by (made_of number) made_setup (whole_of_moves made_moves)

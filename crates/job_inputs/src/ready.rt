@@ -1,0 +1,126 @@
+ghost use Rattle.std.specs.Prelude.{◌≡◌, neg_ℤ, map, length, None, All, IfOk, false};
+ghost use Rattle.cl_moves.specs.Moves.{IsMove};
+ghost use Rattle.edit_plan.specs.Queries.{IsQuery};
+ghost use Rattle.job_model.specs.Tasks.{IsPlan};
+ghost use Rattle.setup_file.specs.Shift.{shifted_of};
+ghost use Rattle.setup_file.specs.Sound.{IsSetup, IsTool};
+ghost use Rattle.point_marks.specs.Cutters.{first_low, is_move_low};
+ghost use Rattle.job_inputs.specs.Ready.{task_ready};
+ghost use Rattle.job_inputs.specs.Tasks.{job_move, tool_text, tool_usual};
+
+use crate::task::TaskInputs;
+use cl_moves::{CutterText, Move};
+use cutter_slabs::Cutter;
+use edit_plan::{Queries, Script};
+use point_marks::{Usual, size, sweep_of};
+use ray_shapes::Bodies;
+use setup_file::{Setup, shifted};
+use std::alloc::Global;
+use strip_plan::{Plan, PlanMove};
+use vf_io::NoMemory;
+
+/// A task that is ready to be done: its plan; the stock, the part as it may be cut and the fixtures as they are kept clear; how many
+/// records of the program were passed over; and the queries.
+#[derive(Drop)]
+pub struct ReadyTask {
+    pub plan: Plan,
+    pub stock: Bodies,
+    pub part: Bodies,
+    pub fixture: Bodies,
+    pub passed: u32,
+    pub queries: Queries,
+}
+
+/// A tool as a program would give it.
+fn tool_text(tool: &Cutter) -> CutterText
+    ensures { result ≡ tool_text tool.now }
+{
+    CutterText {
+        d: tool.d,
+        r: tool.r,
+        h: Some(tool.h),
+        flank: tool.flank,
+    }
+}
+
+/// What the setup's tool fills in.
+pub(crate) fn usual_of(tool: &Cutter) -> Usual
+    ensures { result ≡ tool_usual tool.now }
+{
+    Usual {
+        cutter: Some(tool_text(tool)),
+        height: tool.h,
+    }
+}
+
+/// A move with the cutter that it is made with.
+fn plan_move(tool: &Cutter, next: &Move) -> PlanMove
+    requires tool { IsTool tool.now }
+    requires valid { IsMove next.now }
+    requires high { is_move_low (tool_usual tool.now) next.now ≡ false }
+    ensures { result ≡ job_move tool.now next.now }
+{
+    PlanMove::new(
+        sweep_of(next),
+        size(&usual_of(tool), &next.cutter.unwrap_or(tool_text(tool))),
+        next.rapid,
+        next.line,
+    )
+}
+
+/// The moves of a program in order, each with its cutter.
+fn plan_moves(alloc: Global, tool: &Cutter, moves: &[Move]) -> Result<Vec<PlanMove>, NoMemory>
+    requires tool { IsTool tool.now }
+    requires valid { All IsMove moves.now }
+    requires high { first_low (tool_usual tool.now) moves.now ≡ None }
+    ensures { IfOk result (λ made. made.items ≡ map (job_move tool.now) moves.now) }
+{
+    let mut made = Vec::with_capacity(alloc, moves.len())?;
+    for next in moves {
+        made.push(plan_move(tool, next))?;
+    }
+    Ok(made)
+}
+
+/// The part of a setup, lowered by its tolerance.
+fn lowered_part(alloc: Global, setup: &Setup) -> Result<Bodies, NoMemory>
+    requires { IsSetup setup.now }
+    ensures { IfOk result (λ part. part ≡ shifted_of (neg_ℤ setup.now.tolerance) setup.now.part) }
+{
+    shifted(alloc, setup.part.as_slice(), -setup.tolerance)
+}
+
+/// The fixtures of a setup, raised by their clearance.
+fn raised_fixture(alloc: Global, setup: &Setup) -> Result<Bodies, NoMemory>
+    requires { IsSetup setup.now }
+    ensures { IfOk result (λ fixture. fixture ≡ shifted_of setup.now.clearance setup.now.fixture) }
+{
+    shifted(alloc, setup.fixture.as_slice(), setup.clearance)
+}
+
+/// Makes a task ready to be done. Fails only for want of memory.
+pub fn make_ready(alloc: Global, inputs: TaskInputs) -> Result<ReadyTask, NoMemory>
+    ensures task { IfOk result (λ ready. task_ready ready ≡ inputs) }
+    ensures asked { IfOk result (λ ready. All (IsQuery ready.plan.grid (length ready.plan.edits)) ready.queries) }
+    ensures valid { IfOk result (λ ready. IsPlan ready.plan) }
+{
+    let TaskInputs {
+        program,
+        setup,
+        script,
+    } = inputs;
+    let moves = plan_moves(alloc, &setup.tool, program.moves.as_slice())?;
+    let Script { edits, queries } = script;
+    let plan = Plan::new(alloc, setup.grid, setup.slabs, setup.depth, moves, edits)?;
+    let stock = setup.stock.copy()?;
+    let part = lowered_part(alloc, &setup)?;
+    let fixture = raised_fixture(alloc, &setup)?;
+    Ok(ReadyTask {
+        plan,
+        stock,
+        part,
+        fixture,
+        passed: program.passed,
+        queries,
+    })
+}

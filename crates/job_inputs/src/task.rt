@@ -1,0 +1,127 @@
+ghost use Rattle.std.specs.Prelude.{◌≡◌, ◌≤◌, length, All, IfOk, IfSome, option_map};
+ghost use Rattle.vf_io.specs.Files.{bytes_of};
+ghost use Rattle.cl_moves.specs.Moves.{IsMove};
+ghost use Rattle.cl_moves.specs.Program.{most_moves};
+ghost use Rattle.setup_file.specs.Sound.{IsSetup};
+ghost use Rattle.job_inputs.specs.Inputs.{GivesInput, is_read_fault};
+ghost use Rattle.job_inputs.specs.Reads.{ReadsOnce};
+ghost use Rattle.job_inputs.specs.Tasks.{made_task, task_behind, task_of, task_with};
+
+use crate::input::{read_edits, read_moves, read_setup_of};
+use crate::ready::usual_of;
+use crate::stopped::Stopped;
+use cl_moves::Program;
+use edit_plan::{Script, whole_script};
+use made_program::{MADE_MOVES, made_program};
+use made_setup::made_setup;
+use point_marks::low_cutter;
+use report_text::Fault;
+use setup_file::Setup;
+use std::alloc::Global;
+use std::marker::Model;
+use vf_io::{NoMemory, Shelf};
+
+/// What is verified, as it was read. It is seen as the task that it stands for.
+#[derive(Drop)]
+pub struct TaskInputs {
+    pub(crate) program: Program,
+    pub(crate) setup: Setup,
+    pub(crate) script: Script,
+}
+
+impl Model for TaskInputs {
+    ghost use Rattle.job_model.specs.Tasks.{Task};
+    ghost use Rattle.job_inputs.specs.Ready.{IsReady};
+    ghost use Rattle.job_inputs.specs.Tasks.{task_by};
+
+    ghost Value = { Task };
+
+    ghost view = { λ t. task_by t.program t.setup t.script };
+
+    ghost invariant = { λ t. IsReady t.program t.setup t.script };
+}
+
+/// Reads a program, then a setup, then a script where one is named.
+pub fn read_task<S: Shelf>(
+    alloc: Global,
+    file: &str,
+    setup: &str,
+    script: Option<&str>,
+    shelf: &mut S,
+) -> Result<TaskInputs, Stopped>
+    requires file { S.allows shelf.old file.now }
+    requires setup { S.allows shelf.old setup.now }
+    requires script { IfSome script (λ name. S.allows shelf.old name.now) }
+    ensures gives { IfSome (S.files shelf.old) (λ files. GivesInput result
+        (task_of (bytes_of files file.now) (bytes_of files setup.now)
+        (option_map (bytes_of files) (option_map (λ name. name.now) script.entry)))) }
+    ensures read { ReadsOnce S.files S.faults S.failures (is_read_fault result) shelf.old shelf.new }
+{
+    match read_moves(alloc, file, shelf) {
+        Ok(program) => read_behind(alloc, program, setup, script, shelf),
+        Err(stopped) => Err(stopped),
+    }
+}
+
+/// Reads the setup and the script behind a program that was read.
+fn read_behind<S: Shelf>(
+    alloc: Global,
+    program: Program,
+    setup: &str,
+    script: Option<&str>,
+    shelf: &mut S,
+) -> Result<TaskInputs, Stopped>
+    requires setup { S.allows shelf.old setup.now }
+    requires script { IfSome script (λ name. S.allows shelf.old name.now) }
+    requires valid { All IsMove program.moves }
+    requires few { length program.moves ≤ most_moves }
+    ensures gives { IfSome (S.files shelf.old) (λ files. GivesInput result
+        (task_behind program (bytes_of files setup.now) (option_map (bytes_of files) (option_map (λ name. name.now) script.entry)))) }
+    ensures read { ReadsOnce S.files S.faults S.failures (is_read_fault result) shelf.old shelf.new }
+{
+    match read_setup_of(alloc, setup, shelf) {
+        Ok(setup) => read_last(alloc, program, setup, script, shelf),
+        Err(stopped) => Err(stopped),
+    }
+}
+
+/// Reads the script behind a program and a setup that were read, unless one of the cutters is too low.
+fn read_last<S: Shelf>(
+    alloc: Global,
+    program: Program,
+    setup: Setup,
+    script: Option<&str>,
+    shelf: &mut S,
+) -> Result<TaskInputs, Stopped>
+    requires script { IfSome script (λ name. S.allows shelf.old name.now) }
+    requires valid { All IsMove program.moves }
+    requires few { length program.moves ≤ most_moves }
+    requires setup { IsSetup setup }
+    ensures gives { IfSome (S.files shelf.old) (λ files. GivesInput result
+        (task_with program setup (option_map (bytes_of files) (option_map (λ name. name.now) script.entry)))) }
+    ensures read { ReadsOnce S.files S.faults S.failures (is_read_fault result) shelf.old shelf.new }
+{
+    let moves = program.moves.len() as u32;
+    if let Some(line) = low_cutter(&usual_of(&setup.tool), program.moves.as_slice()) {
+        return Err(Stopped::Refused(Fault::CutterHeight(line)));
+    }
+    match read_edits(alloc, script, moves, &setup.grid, shelf) {
+        Ok(script) => Ok(TaskInputs {
+            program,
+            setup,
+            script,
+        }),
+        Err(stopped) => Err(stopped),
+    }
+}
+
+/// The task of a program that is made from a number, with the setup that goes with such programs.
+pub fn made_inputs(alloc: Global, number: u32) -> Result<TaskInputs, NoMemory>
+    ensures { IfOk result (λ inputs. inputs ≡ made_task number) }
+{
+    Ok(TaskInputs {
+        program: made_program(alloc, number)?,
+        setup: made_setup(alloc)?,
+        script: whole_script(alloc, MADE_MOVES)?,
+    })
+}

@@ -1,0 +1,3 @@
+pub mod Cutters
+pub mod Marks
+pub mod Questions

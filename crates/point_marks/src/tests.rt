@@ -1,0 +1,90 @@
+ghost use Rattle.std.specs.Prelude.{◌≤◌, length};
+ghost use Rattle.cl_lines.specs.Texts.{most_bytes};
+ghost use Rattle.point_marks.specs.Questions.{IsQuestion};
+
+use crate::{Question, Usual, low_cutter, marks_of};
+use axis_cells::Mark;
+use cl_moves::read_program;
+use std::alloc::Global;
+use std::test::Fail;
+
+/// A move without a cutter has none, and a cutter without a height is as high as one may be.
+const USUAL: Usual = Usual {
+    cutter: None,
+    height: 300_000,
+};
+
+/// The marks of the moves of a file.
+fn marks(alloc: Global, file: &[u8], question: &Question) -> Result<Vec<Option<Mark>>, Fail>
+    requires file { length file.now ≤ most_bytes }
+    requires question { IsQuestion question.now }
+{
+    let Ok(program) = read_program(alloc, file) else {
+        return Err(Fail::from("the file is a program"));
+    };
+    let moves = program.moves.as_slice();
+    if let Some(_line) = low_cutter(&USUAL, moves) {
+        return Err(Fail::from("the cutters are high enough"));
+    }
+    Ok(marks_of(alloc, &USUAL, moves, question)?)
+}
+
+/// A move without a cutter, then a thin cutter, a thick one, and the thin one again.
+const CUTTERS: &[u8] = b"FROM/0,0,0\n\
+GOTO/0,0,0\n\
+CUTTER/2,0\n\
+GOTO/0,0,0\n\
+CUTTER/6,0\n\
+GOTO/0,0,0\n\
+GOTO/0,0,0\n\
+CUTTER/2,0\n\
+GOTO/0,0,0\n";
+
+#[test]
+fn marks_each_move_by_its_cutter(rt: HostRuntime) -> Result<(), Fail> {
+    let beside = Question {
+        point: [2_000, 0, 1_000],
+        depth: 0,
+        slabs: 16,
+    };
+    let marks = marks(rt.alloc(), CUTTERS, &beside)?;
+    let due = [
+        None,
+        Some(Mark::Clear),
+        Some(Mark::Removed),
+        Some(Mark::Removed),
+        Some(Mark::Clear),
+    ];
+    assert_eq!(rt; marks.as_slice(), due.as_slice());
+    Ok(())
+}
+
+/// A ball cutter that stands still, upright.
+const BALL: &[u8] = b"CUTTER/2,1\nFROM/0,0,0\nGOTO/0,0,0\n";
+
+#[test]
+fn marks_at_the_height_where_the_file_gives_none(rt: HostRuntime) -> Result<(), Fail> {
+    let at_its_top = Question {
+        point: [0, 0, 300_000],
+        depth: 0,
+        slabs: 16,
+    };
+    let at = marks(rt.alloc(), BALL, &at_its_top)?;
+    assert_eq!(rt;
+        at.as_slice(),
+        [Some(Mark::Removed)].as_slice(),
+        "at its top"
+    );
+    let above_it = Question {
+        point: [0, 0, 300_001],
+        depth: 0,
+        slabs: 16,
+    };
+    let above = marks(rt.alloc(), BALL, &above_it)?;
+    assert_eq!(rt;
+        above.as_slice(),
+        [Some(Mark::Clear)].as_slice(),
+        "above it"
+    );
+    Ok(())
+}
