@@ -1,5 +1,5 @@
 -- The square of a moment is too large at a point, and grows from there.
-use Rattle.std.proofs.Common.{◌≡◌, false, ℕ, ◌-◌, ◌≤◌, ℤ, pos, ◌+ℤ◌, ◌*ℤ◌, ◌-ℤ◌, ◌≤ℤ◌, ◌<ℤ◌, arith, sym, ap, ap₂, subst, ◌∙◌}
+use Rattle.std.proofs.Common.{◌≡◌, false, ℕ, ◌-◌, ◌≤◌, ℤ, pos, ◌+ℤ◌, ◌*ℤ◌, ◌-ℤ◌, ◌≤ℤ◌, ◌<ℤ◌, arith, refl, sym, ap, ap₂, subst, ◌∙◌}
 use Rattle.std.proofs.lemmas.Int.{ints}
 use Rattle.near_points.specs.declared.hold.Hold.{Hold}
 use Rattle.near_points.specs.declared.stance.Stance.{Stance}
@@ -24,12 +24,17 @@ less_than a b c d h e k = omega (arith, ints, h, e, k)
 on_to : (l x : ℕ) → l ≤ x → pos l +ℤ pos (x - l) ≡ pos x
 on_to l x h = omega (arith, ints, h)
 
+-- where it is too large at a point and grows there, no further point is held
+pub left_on : (hold : Hold) (s : Stance) (t : Step) (l x : ℕ) → l ≤ x → hold.square <ℤ width_at s t (pos l) → pos 0 ≤ℤ growth_at s t (pos l) → is_held_after hold s t (pos x) ≡ false
+left_on hold s t l x from far growing =
+    too_wide hold s t (pos x)
+    (less_than hold.square (width_at s t (pos l)) (width_at s t (pos l)) (width_at s t (pos x)) far refl
+    (subst (λ (z : ℤ). width_at s t (pos l) ≤ℤ width_at s t z) (on_to l x from) (grows_on s t l (x - l) growing)))
+
 pub left_after : (hold : Hold) (s r : Stance) (t : Step) (l x : ℕ) (w g : ℤ) → IsAfter r s t (pos l) → l ≤ x → w ≡ width_of r → g ≡ t.curve +ℤ slope_of r t → hold.square <ℤ w → pos 0 ≤ℤ g
     → is_held_after hold s t (pos x) ≡ false
 left_after hold s r t l x w g is from ew eg far growing =
-    let more = grows_on s t l (x - l) (subst (λ (z : ℤ). pos 0 ≤ℤ z) (eg ∙ growth_after r s t (pos l) is) growing) in
-    too_wide hold s t (pos x)
-    (less_than hold.square w (width_at s t (pos l)) (width_at s t (pos x)) far (ew ∙ width_after r s t (pos l) is) (subst (λ (z : ℤ). width_at s t (pos l) ≤ℤ width_at s t z) (on_to l x from) more))
+    left_on hold s t l x from (subst (λ (z : ℤ). hold.square <ℤ z) (ew ∙ width_after r s t (pos l) is) far) (subst (λ (z : ℤ). pos 0 ≤ℤ z) (eg ∙ growth_after r s t (pos l) is) growing)
 
 pub left_before : (hold : Hold) (s r : Stance) (t : Step) (m x : ℕ) (w g : ℤ) → IsAfter r s t (pos m) → x ≤ m → w ≡ width_of r → g ≡ t.curve -ℤ slope_of r t → hold.square <ℤ w → pos 0 ≤ℤ g
     → is_held_after hold s t (pos x) ≡ false

@@ -1,5 +1,5 @@
 use crate::hold::Hold;
-use crate::scan::{are_left_out, held_between};
+use crate::scan::held_between;
 use crate::stance::Stance;
 use crate::step::Step;
 use ray_grid::{Grid, Ray};
@@ -69,11 +69,6 @@ impl<'a> NearRay<'a> {
         }
         let lo = lowest_bit(wanted);
         let hi = highest_bit(wanted);
-        let from = self.step.after(&self.first, first + lo);
-        let to = self.step.after(&self.first, first + hi);
-        if are_left_out(self.step, self.hold, &from, &to) {
-            return 0;
-        }
         held_between(&self.first, self.step, self.hold, first, lo, hi) & wanted
     }
 }

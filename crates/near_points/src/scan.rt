@@ -4,7 +4,7 @@ ghost use Rattle.near_points.specs.declared.stance.Stance.{Stance};
 ghost use Rattle.near_points.specs.Lines.{AreBeyond, FitsAfter, IsAfter, is_held_after};
 
 use crate::hold::Hold;
-use crate::stance::Stance;
+use crate::stance::{Stance, moved};
 use crate::step::Step;
 use vf_spans::bits::with_bit;
 
@@ -25,23 +25,42 @@ fn is_leaving(hold: &Hold, width: i128, growth: i128) -> bool
     hold.square < width && 0 <= growth
 }
 
-/// Whether no point from one to another is held: the heights at both are beyond the same end, or the moment is too long at one of them
-/// and no shorter at the next point towards the other. Its square is convex, so it only grows from there.
+/// Whether the moment is too long at a point, and no shorter at the one ahead of it. Its square is convex, so it is too long ahead of
+/// them all.
 #[inline]
-pub fn are_left_out(step: &Step, hold: &Hold, from: &Stance, to: &Stance) -> bool
-    ensures { IsTrue result → (first : Stance) (l m : ℕ) → IsAfter from.now first step.now (pos l) → IsAfter to.now first step.now (pos m)
-        → (x : ℕ) → l ≤ x → x ≤ m → is_held_after hold.now first step.now (pos x) ≡ false }
+fn are_left_before(step: &Step, hold: &Hold, to: &Stance) -> bool
+    ensures { IsTrue result → (first : Stance) (m : ℕ) → IsAfter to.now first step.now (pos m)
+        → (x : ℕ) → x ≤ m → is_held_after hold.now first step.now (pos x) ≡ false }
 {
-    if are_beyond(hold, from.height, to.height) {
-        return true;
-    }
-    if is_leaving(hold, from.width(), step.curve + step.slope(from)) {
-        return true;
-    }
     is_leaving(hold, to.width(), step.curve - step.slope(to))
 }
 
-/// The bits from `lo` to `hi` of the points that are held. Bit b is the point at the index `start + b`.
+/// Whether no point from one to another is held: the heights at both are beyond the same end, or the moment is too long at one of them
+/// and no shorter at the next point towards the other. The far point's moment is only looked at where the first one's is too long.
+#[inline]
+fn are_left_out(first: &Stance, step: &Step, hold: &Hold, l: u32, m: u32) -> bool
+    requires from { FitsAfter first.now step.now (pos l) }
+    requires to { FitsAfter first.now step.now (pos m) }
+    ensures { IsTrue result → (x : ℕ) → l ≤ x → x ≤ m → is_held_after hold.now first.now step.now (pos x) ≡ false }
+{
+    let from = step.after(first, l);
+    let last = moved(first.height, m, step.height);
+    if are_beyond(hold, from.height, last) {
+        return true;
+    }
+    let width = from.width();
+    if width <= hold.square {
+        return false;
+    }
+    if is_leaving(hold, width, step.curve + step.slope(&from)) {
+        return true;
+    }
+    let to = step.after(first, m);
+    are_left_before(step, hold, &to)
+}
+
+/// The bits from `lo` to `hi` of the points that are held. Bit b is the point at the index `start + b`. Where the moment is too long
+/// and no shorter at the next point, none is held from there on.
 #[inline]
 pub fn held_between(first: &Stance, step: &Step, hold: &Hold, start: u32, lo: u32, hi: u32) -> u64
     requires order { lo ≤ hi }
@@ -50,6 +69,9 @@ pub fn held_between(first: &Stance, step: &Step, hold: &Hold, start: u32, lo: u3
     requires fits { (b : ℕ) → lo ≤ b → b ≤ hi → FitsAfter first.now step.now (pos (start + b)) }
     ensures { (b : ℕ) → lo ≤ b → b ≤ hi → has_bit result b ≡ is_held_after hold.now first.now step.now (pos (start + b)) }
 {
+    if are_left_out(first, step, hold, start + lo, start + hi) {
+        return 0;
+    }
     let from = step.after(first, start + lo);
     let bend = 2 * step.curve;
     let mut width = from.width();
@@ -60,6 +82,8 @@ pub fn held_between(first: &Stance, step: &Step, hold: &Hold, start: u32, lo: u3
     while b <= hi {
         if hold.holds(width, height) {
             bits = with_bit(bits, b);
+        } else if is_leaving(hold, width, growth) {
+            return bits;
         }
         width += growth;
         growth += bend;

@@ -19,7 +19,7 @@ use Rattle.dexel_rays.specs.WordSets.{IsWordDelta, SureIsPossible, seen_bit, see
 use Rattle.dexel_rays.proofs.Asked.{agree_new_possible, agree_new_sure}
 use Rattle.dexel_rays.proofs.WordLaws.{agree_found, asked_word}
 use Rattle.ray_words.specs.Rays.{IsBelow, IsWordAt, is_wanted_at}
-use Rattle.wanted_marks.specs.Rays.{AreOnRay, RayOf, is_possible_at, is_sure_at, is_sure_bit, is_told_at, is_told_bit}
+use Rattle.wanted_marks.specs.Rays.{RayOf, is_possible_at, is_sure_at, is_sure_bit, is_told_at, is_told_bit}
 use Rattle.strip_marks.specs.Marks.{seen_on}
 use Rattle.near_points.specs.Rays.{NearRayOf}
 use Rattle.strip_marks.specs.RayMarks.{AreAsked, AreAskedIn, HasNoneAhead, HasNoneAsked, IsAskedAt, IsIdle, IsNearOf, IsWindow}

@@ -1,5 +1,5 @@
 -- Points at which a move changes nothing and finds nothing: it is not possible there, or there is no need to ask it.
-use Rattle.std.proofs.Common.{◌≡◌, ℕ, ◌-◌, ◌*◌, ◌^◌, ◌<◌, ◌≤◌, Bool, true, false, not, ◌&&◌, ◌||◌, IsTrue, List, [], length, arith, refl, sym, ap, ap₂, ◌∙◌, ◌⊎◌, ⊎_elim}
+use Rattle.std.proofs.Common.{◌≡◌, ℕ, ◌-◌, ◌*◌, ◌^◌, ◌<◌, ◌≤◌, Bool, true, false, not, ◌&&◌, ◌||◌, IsTrue, List, [], length, arith, refl, sym, ap, ap₂, ◌∙◌, ⊎_elim}
 use Rattle.std.proofs.lemmas.Bool.{and_right, cases_lt}
 use Rattle.std.proofs.lemmas.List.{get_or_past}
 use Rattle.std.proofs.lemmas.List.Elements.{All-nil}

@@ -1,25 +1,22 @@
 -- What a move is asked about on the rays of a strip, by its cylinder.
-use Rattle.std.proofs.Common.{◌≡◌, ℕ, ◌+◌, ◌^◌, ◌<◌, ◌≤◌, List, [], Some, length, set, arith, refl, sym, ap, ◌∙◌, subst}
+use Rattle.std.proofs.Common.{◌≡◌, ℕ, ◌+◌, ◌^◌, ◌<◌, ◌≤◌, List, [], Some, length, arith, refl, sym, ap, ◌∙◌, subst}
 use Rattle.std.specs.List.{slice_get}
 use Rattle.std.proofs.lemmas.List.{set-get_or}
 use Rattle.sweep_boxes.specs.declared.cylinder.BoundingCylinder.{BoundingCylinder}
 use Rattle.sweep_boxes.specs.Cylinders.{IsInCylinder}
 use Rattle.ray_grid.specs.Grids.{GridSize}
-use Rattle.ray_grid.specs.declared.ray.Family.{Family}
 use Rattle.ray_grid.specs.declared.ray.Ray.{Ray}
-use Rattle.ray_grid.specs.Families.{first_axis, second_axis}
+use Rattle.ray_grid.specs.Families.{second_axis}
 use Rattle.ray_grid.specs.Lattice.{IsRay, nodes_of, point_of, points_of}
-use Rattle.ray_grid.specs.Strips.{strip_at, strip_of, strips_of}
-use Rattle.vf_spans.specs.Members.{in_range}
+use Rattle.ray_grid.specs.Strips.{strip_at, strips_of}
 use Rattle.vf_spans.specs.Words.{words_below}
 use Rattle.near_points.specs.Rays.{IsBeside, NearRayOf, NearStripOf, near_ray_at}
 use Rattle.ray_words.specs.Rays.{KeptSets}
 use Rattle.job_facts.specs.Counts.{no_counts}
 use Rattle.dexel_rays.specs.Sets.{Sets}
-use Rattle.job_model.specs.Tasks.{IsPlan, JobMove, PlanOf}
+use Rattle.job_model.specs.Tasks.{JobMove, PlanOf}
 use Rattle.strip_plan.specs.Plans.{HasNumber}
 use Rattle.strip_plan.specs.Windows.{HoldsMet}
-use Rattle.strip_marks.specs.declared.change.WordChange.{WordChange}
 use Rattle.strip_marks.specs.Marks.{AreRays, kept_of, points_at, possible_there, ray_of, sets_of, sure_there}
 use Rattle.strip_marks.specs.declared.marked.Marked.{Marked}
 use Rattle.strip_marks.specs.RayMarks.{Adds, HasNoneAhead, IsIdle, IsNearOf, IsRayMarked, IsUnasked, IsWindow}

@@ -1,6 +1,5 @@
 -- What a move of a plan changes on one ray of a strip.
-use Rattle.std.proofs.Common.{◌≡◌, ℕ, ◌+◌, ◌^◌, ◌<◌, ◌≤◌, Bool, List, length, set, arith, refl, sym, subst}
-use Rattle.vf_spans.specs.Words.{words_below}
+use Rattle.std.proofs.Common.{◌≡◌, ℕ, ◌+◌, ◌<◌, ◌≤◌, Bool, List, length, set, sym, subst}
 use Rattle.job_facts.specs.declared.counts.Counts.{Counts}
 use Rattle.job_facts.specs.Counts.{AreWithin}
 use Rattle.ray_words.specs.Rays.{KeptSets}
@@ -8,13 +7,10 @@ use Rattle.wanted_marks.specs.Rays.{RayOf, is_possible_at, is_sure_at}
 use Rattle.job_model.specs.Tasks.{JobMove, PlanOf}
 use Rattle.strip_marks.specs.declared.marked.Marked.{Marked}
 use Rattle.strip_marks.specs.Marks.{AreRays, HaveSameSets, kept_of, possible_there, sure_there}
-use Rattle.strip_marks.specs.RayMarks.{Adds, HasNoneAhead, HasSameSets, IsRayMarked, IsWindow}
+use Rattle.strip_marks.specs.RayMarks.{Adds, HasSameSets, IsRayMarked}
 use Rattle.strip_marks.specs.RowMarks.{AreRaysMarked, AreSetsAt}
 use Rattle.strip_marks.specs.Words.{AreSetsOf}
-use Rattle.strip_marks.proofs.AtWords.{idle_at, in_range_below}
 use Rattle.strip_marks.proofs.Counting.{within_both}
-use Rattle.strip_marks.proofs.Growing.{adds_none}
-use Rattle.strip_marks.proofs.Idle.{idle_ray}
 use Rattle.strip_marks.proofs.MoreRays.{ray_within, rays_more}
 use Rattle.strip_marks.proofs.OnStrips.{move_on}
 

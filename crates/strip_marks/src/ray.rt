@@ -4,35 +4,19 @@ ghost use Rattle.vf_spans.specs.Words.{words_below};
 ghost use Rattle.ray_grid.specs.Lattice.{points_of};
 ghost use Rattle.wanted_marks.specs.Rays.{is_possible_at, is_sure_at};
 ghost use Rattle.strip_marks.specs.Words.{AreSetsOf};
-ghost use Rattle.strip_marks.specs.RayMarks.{Adds, AreWordsMarked, CanCount, HasNoneAhead, HasNoneAsked, HasSameSets};
+ghost use Rattle.strip_marks.specs.RayMarks.{Adds, AreWordsMarked, CanCount, HasNoneAsked, HasSameSets};
 ghost use Rattle.strip_marks.specs.RayMarks.{HaveWordsBelow, IsAtKept, IsFirstAsked, IsNearOf, IsRayMarked, IsWindow};
 
 use crate::asked_word::AskedWord;
 use crate::change::WordChange;
 use crate::marked::Marked;
-use crate::word::{asked_in, mark_word, wanted_in};
+use crate::word::{asked_in, mark_word};
 use near_points::NearRay;
 use ray_words::WordRay;
 use vf_io::NoMemory;
 use wanted_marks::RayMarker;
 
-/// The first word of a ray with a point in the window that a move has to be asked about; where there is none, the first one that the
-/// window doesn't enter.
-#[inline]
-pub fn first_wanted(ray: &WordRay, window: (u32, u32)) -> u32
-    requires { window.0 ≤ window.1 }
-    ensures { HasNoneAhead ray.now.sets window result }
-{
-    let end = window.1.div_ceil(64);
-    for word in window.0 / 64..end {
-        if wanted_in(ray, word, window) != 0 {
-            return word;
-        }
-    }
-    end
-}
-
-/// The first word from one on with points that a move is asked about, if there is one; ahead of it no point of the window is wanted.
+/// The first word from one on with points that a move is asked about, if there is one; ahead of that one it is asked about none.
 pub fn first_asked(
     near: &NearRay<'_>,
     ray: &WordRay,
@@ -40,7 +24,7 @@ pub fn first_asked(
     window: (u32, u32),
 ) -> Option<AskedWord>
     requires on { window.1 ≤ points_of near.now.grid near.now.ray.family }
-    requires first { HasNoneAhead ray.now.sets window first }
+    requires first { HasNoneAsked near.now ray.now.sets window first }
     ensures none { IfNone result (HasNoneAsked near.now ray.now.sets window (words_below window.1)) }
     ensures some { IfSome result (IsFirstAsked near.now ray.now.sets window) }
 {

@@ -1,5 +1,6 @@
-use Rattle.std.proofs.Common.{◌≡◌, ◌≤◌, ◌<◌, ◌*◌, ◌+◌, ◌+ℤ◌, ◌*ℤ◌, ℕ, ℤ, pos, unsigned_abs, FitsSigned, to_z, of_z, int_le, eqb, ◌&&◌, ◌||◌, arith, rules, subst, sym, ap, ap₂, ◌∙◌}
+use Rattle.std.proofs.Common.{◌≡◌, ◌≤◌, ◌<◌, ◌*◌, ◌+◌, ◌+ℤ◌, ◌*ℤ◌, ℕ, ℤ, pos, unsigned_abs, FitsSigned, to_z, of_z, int_le, eqb, ◌&&◌, ◌||◌, ◌≤ℤ◌, ◌<ℤ◌, arith, rules, ⊎_elim, subst, sym, ap, ap₂, ◌∙◌}
 use Rattle.std.proofs.lemmas.Int.{ints, to_z-of_z}
+use Rattle.std.proofs.lemmas.Bool.{cases_lt}
 use mir.Syntax.{w64, w128}
 use borrow.Author.Differences.{abs_is}
 use Rattle.vf_spans.specs.Words.{has_bit}
@@ -7,10 +8,16 @@ use Rattle.vf_spans.proofs.WordBits.{has_bit-zero}
 use Rattle.near_points.specs.Limits.{moment_limit}
 use Rattle.near_points.specs.Lines.{height_at, is_held_after, width_at}
 use Rattle.near_points.proofs.Growing.{growth_at, growth_fits, growth_next, height_next, next_index, width_fits, width_next}
-use Rattle.near_points.proofs.Leaving.{growth_after, width_after}
+use Rattle.near_points.proofs.Leaving.{growth_after, left_on, width_after}
 use Rattle.near_points.proofs.Taken.{bit_left, bit_taken, kept, told_to}
 use Rattle.near_points.proofs.scan.held_between.Goals as goal
-use Rattle.near_points.proofs.scan.held_between.Goals.{then-holds, else-holds}
+use Rattle.near_points.proofs.scan.held_between.Goals.{then-holds, else-holds+else-is_leaving}
+
+pub returns-then-are_left_out : goal.returns-then-are_left_out
+returns-then-are_left_out c = λ b from to. has_bit-zero b ∙ sym (c.are_left_out.ensures c.if-are_left_out.true (c.args.start + b) (omega (arith, from)) (omega (arith, to)))
+
+pub overflow_mul-bend : goal.overflow_mul-bend
+overflow_mul-bend c = let small = c.args.step.now.curve_small in omega (arith, ints, small, abs_is c.args.step.now.curve)
 
 pub loop-b-init : goal.loop-b-init
 loop-b-init c =
@@ -87,7 +94,7 @@ loop-b-preserved c =
     let bits : (k : ℕ) → k < 64 → has_bit c.if-holds.bits k ≡ (has_bit c.loop-b.bits k || (c.holds.result && eqb k b)) = λ k below.
     elim c.if-holds.branch [
       | then-holds w ↦ bit_taken (has_bit c.loop-b.bits k) (has_bit c.if-holds.bits k) c.holds.result (eqb k b) w.if-holds.true (ap (λ z. has_bit z k) w.bits-is ∙ w.with_bit-bits.ensures k below)
-      | else-holds w ↦ bit_left (has_bit c.loop-b.bits k) (has_bit c.if-holds.bits k) c.holds.result (eqb k b) w.if-holds.false (ap (λ z. has_bit z k) w.bits-is)
+      | else-holds+else-is_leaving w ↦ bit_left (has_bit c.loop-b.bits k) (has_bit c.if-holds.bits k) c.holds.result (eqb k b) w.if-holds.false (ap (λ z. has_bit z k) w.bits-is)
     ] in
     record {
       from = omega (arith, inv.from);
@@ -98,6 +105,14 @@ loop-b-preserved c =
       clean = λ k from below. kept c.loop-b.bits c.if-holds.bits b c.holds.result k (bits k below) (λ e. omega (arith, e, from)) ∙ inv.clean k (omega (arith, from)) below;
       told = told_to (λ k. is_held_after hold first t (pos (c.args.start + k))) c.loop-b.bits c.if-holds.bits c.args.lo b c.holds.result bits inside now (inv.clean b (omega arith) inside) inv.told;
     }
+
+pub returns-then-is_leaving : goal.returns-then-is_leaving
+returns-then-is_leaving c = λ b from to.
+    let t = c.args.step.now in let first = c.args.first.now in let hold = c.args.hold.now in let here = c.loop-b.b in let l = c.args.start + here in let inv = c.loop-b.invariant in
+    let far = subst (λ (z : ℤ). hold.square <ℤ z) inv.width_is (c.is_leaving.ensures.far c.if-is_leaving.true) in
+    let growing = subst (λ (z : ℤ). pos 0 ≤ℤ z) inv.growth_is (c.is_leaving.ensures.growing c.if-is_leaving.true) in
+    ⊎_elim (λ (before : b < here). inv.told b from before)
+    (λ (on : here ≤ b). inv.clean b on (omega (arith, to, c.requires.within)) ∙ sym (left_on hold first t l (c.args.start + b) (omega (arith, on)) far growing)) (cases_lt b here)
 
 pub returns : goal.returns
 returns c = λ b from to. c.loop-b.invariant.told b from (omega (arith, to, c.loop-b-test.false))

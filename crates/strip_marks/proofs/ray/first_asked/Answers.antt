@@ -1,26 +1,14 @@
-use Rattle.std.proofs.Common.{◌≡◌, ◌*◌, ◌<◌, ◌≤◌, arith, subst, ⊎_elim}
-use Rattle.std.proofs.lemmas.Bool.{cases_lt}
+use Rattle.std.proofs.Common.{◌≡◌, arith, subst}
 use Rattle.vf_spans.specs.Words.{words_below}
 use Rattle.strip_marks.specs.RayMarks.{HasNoneAsked}
-use Rattle.strip_marks.proofs.AtWords.{none_asked, unwanted_ahead}
+use Rattle.strip_marks.proofs.AskedWords.{none_asked_next}
 use Rattle.strip_marks.proofs.ray.first_asked.Goals as goal
-
-pub loop-word-init : goal.loop-word-init
-loop-word-init c = unwanted_ahead c.args.near.now c.args.ray.now.sets c.args.window c.args.first c.requires.first
 
 pub loop-word-preserved : goal.loop-word-preserved
 loop-word-preserved c =
     let a = c.args in
-    let word = c.loop-word.word in
-    let ahead = c.loop-word.invariant in
-    record {
-      from = omega (arith, ahead.from);
-      to = omega arith;
-      none = λ l lt.
-          ⊎_elim (λ (before : l < 64 * word). ahead.none l before)
-          (λ (here : 64 * word ≤ l). none_asked a.near.now a.ray.now.sets a.window word c.asked_in-points.result c.asked_in-points.ensures
-          c.if-points-ne0.false l here lt) (cases_lt l (64 * word));
-    }
+    none_asked_next a.near.now a.ray.now.sets a.window c.loop-word.word c.asked_in-points.result c.loop-word.invariant (omega arith) c.asked_in-points.ensures
+    c.if-points-ne0.false
 
 pub returns-clause-none : goal.returns-clause-none
 returns-clause-none c =

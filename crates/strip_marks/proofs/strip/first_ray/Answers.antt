@@ -1,4 +1,4 @@
-use Rattle.std.proofs.Common.{◌≡◌, ◌+◌, ◌<◌, ◌≤◌, ◌^◌, ℕ, List, [], length, get_or, arith, ap, refl, sym, ◌∙◌, subst, IfSome}
+use Rattle.std.proofs.Common.{◌≡◌, ◌<◌, ◌≤◌, ◌^◌, ℕ, [], length, arith, ap, refl, sym, ◌∙◌, subst, IfSome}
 use Rattle.std.proofs.lemmas.List.{get_or_default}
 use Rattle.job_facts.specs.Counts.{no_counts}
 use Rattle.ray_grid.specs.declared.ray.Family.{Family}

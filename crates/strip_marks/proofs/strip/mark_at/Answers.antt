@@ -1,10 +1,10 @@
-use Rattle.std.proofs.Common.{◌≡◌, ◌≤◌, ℕ, arith, ap, refl, sym, ◌∙◌, subst, IfSome}
+use Rattle.std.proofs.Common.{◌≤◌, ℕ, arith, ap, sym, ◌∙◌, subst, IfSome}
 use Rattle.ray_grid.specs.declared.ray.Family.{Family}
 use Rattle.ray_grid.specs.declared.ray.Ray.{Ray}
 use Rattle.near_points.specs.Rays.{NearRayOf, near_ray_at}
 use Rattle.wanted_marks.specs.Rays.{RayOf}
 use Rattle.strip_plan.specs.Windows.{IsCommonWindow}
-use Rattle.strip_marks.specs.RayMarks.{IsFirstAsked, IsNearOf, IsWindow}
+use Rattle.strip_marks.specs.RayMarks.{IsNearOf, IsWindow}
 use Rattle.strip_marks.proofs.NearRays.{near_node, near_on, near_points_of, untouched}
 use Rattle.strip_marks.proofs.OneRay.{marked_by, sets_for}
 use Rattle.strip_marks.proofs.OnStrips.{marker_is, node_within, ray_is, some_move, window_on}

@@ -1,4 +1,4 @@
-use Rattle.std.proofs.Common.{◌≡◌, ◌+◌, ℕ, Bool, true, false, arith, subst, sym, ◌∙◌}
+use Rattle.std.proofs.Common.{◌≡◌, ◌+◌, ℕ, true, subst, sym, ◌∙◌}
 use Rattle.std.proofs.lemmas.Bool.{and_parts}
 use Rattle.vf_spans.specs.Words.{has_bit}
 use Rattle.vf_spans.proofs.WordBits.{has_bit-and, has_bit-zero}
@@ -11,24 +11,8 @@ use Rattle.near_points.proofs.ray.NearRay.near.Goals as goal
 not_set : (b : ℕ) → has_bit 0 b ≡ true → ⊥
 not_set b set = let none = has_bit-zero b in cc
 
-both_ways : (x : Bool) → x ≡ true → x ≡ false → ⊥
-both_ways x set clear = cc
-
 pub returns-then-wanted-eq0 : goal.returns-then-wanted-eq0
 returns-then-wanted-eq0 c = λ b below. (λ set. absurd (not_set b set), λ held. absurd (not_set b (subst (λ (z : ℕ). has_bit z b ≡ true) c.if-wanted-eq0.true held.0)))
-
-pub returns-then-are_left_out : goal.returns-then-are_left_out
-returns-then-are_left_out c = λ b below. (
-  λ set. absurd (not_set b set),
-  λ held.
-      let r = c.args.self.now in let s = c.self.inside in let w = c.args.wanted in
-      let ready = subst (IsReadyRay s.first s.step.now s.hold.now) c.self.view_is c.self.invariant in
-      let low = at_least w c.lowest_bit-lo.result b c.lowest_bit-lo.ensures.lowest held.0 in
-      let high = at_most w c.highest_bit-hi.result b c.highest_bit-hi.ensures.highest held.0 in
-      absurd
-      (both_ways _ (point_holds s.first s.step.now s.hold.now r (c.args.first + b) ready (c.requires b below held.0) held.1)
-      (c.are_left_out.ensures c.if-are_left_out.true s.first (c.args.first + c.lowest_bit-lo.result) (c.args.first + c.highest_bit-hi.result) c.after-from.ensures c.after-to.ensures (c.args.first + b) (omega (arith, low)) (omega (arith, high)))),
-)
 
 pub returns : goal.returns
 returns c = λ b below.
