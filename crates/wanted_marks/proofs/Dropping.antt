@@ -33,7 +33,7 @@ under_limit c r (suc (suc (suc (suc (suc k))))) l p = absurd (omega arith)
 below_both : (a b c : ℤ) → a ≤ℤ b → b <ℤ c → a <ℤ c
 below_both a b c h k = omega (arith, ints)
 
-over_less : (c r s : List ℤ) → AllPositive (difference4 c r) → ((k : ℕ) → k < 5 → at s k ≤ℤ at r k) → AllPositive (difference4 c s)
+pub over_less : (c r s : List ℤ) → AllPositive (difference4 c r) → ((k : ℕ) → k < 5 → at s k ≤ℤ at r k) → AllPositive (difference4 c s)
 over_less c r s p h = all_over c s (λ k l. below_both (at s k) (at r k) (at c k) (h k l) (under_limit c r k l p))
 
 -- each outer slab is excluded on the whole move, behind the tip
@@ -65,7 +65,7 @@ not_sure : (h q : Bool) → (h ≡ true → q ≡ true) → q ≡ false → h �
 not_sure true q both e = let f = both (λ i. true) in cc
 not_sure false q both e = λ i. false
 
-is_clear : (v : MoveOf) (p : List ℤ) → (is_sure_in v p ≡ true → is_possible_in v p ≡ true)
+pub is_clear : (v : MoveOf) (p : List ℤ) → (is_sure_in v p ≡ true → is_possible_in v p ≡ true)
     → AllOut (outer_stack v.cutter v.slabs) v.motion p 0 (2 ^ v.depth) (2 ^ v.depth) → IsClearOf v p
 is_clear v p both all =
     let out = not_possible v p all in record {

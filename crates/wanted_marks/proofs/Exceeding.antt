@@ -30,7 +30,7 @@ over_at c r (suc (suc (suc zero))) l h p = not_above (at c 3) (at r 3) h (p 3 (p
 over_at c r (suc (suc (suc (suc zero)))) l h p = not_above (at c 4) (at r 4) h (p 4 (pos 0) (omega arith))
 over_at c r (suc (suc (suc (suc (suc k))))) l h p = absurd (omega arith)
 
-less_or_not : (a b : ℤ) → (a <ℤ b) ⊎ (b ≤ℤ a)
+pub less_or_not : (a b : ℤ) → (a <ℤ b) ⊎ (b ≤ℤ a)
 less_or_not (pos m) (pos n) = ⊎_elim (λ l. inl (omega (arith, ints))) (λ l. inr (omega (arith, ints))) (cases_lt m n)
 less_or_not (pos m) (negsuc n) = inr (omega (arith, ints))
 less_or_not (negsuc m) (pos n) = inl (omega (arith, ints))

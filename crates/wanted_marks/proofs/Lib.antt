@@ -11,4 +11,8 @@ pub mod Dropping
 pub mod Widest
 pub mod OnRays
 pub mod Holding
+pub mod Amid
+pub mod Running
+pub mod OnRuns
+pub mod Outside
 pub mod Narrowing

@@ -1,12 +1,13 @@
 -- The points of a ray lie on a line, and between its first and its last.
-use Rattle.std.proofs.Common.{◌≡◌, ℕ, suc, ◌+◌, ◌*◌, ◌^◌, ◌≤◌, ◌<◌, [], ◌∷◌, List, ℤ, pos, negsuc, ◌+ℤ◌, ◌*ℤ◌, ◌-ℤ◌, unsigned_abs, arith, refl, subst, sym}
+use Rattle.std.proofs.Common.{◌≡◌, ℕ, suc, ◌+◌, ◌*◌, ◌^◌, ◌≤◌, ◌<◌, [], ◌∷◌, List, ℤ, pos, negsuc, ◌+ℤ◌, ◌*ℤ◌, ◌-ℤ◌, ◌≤ℤ◌, unsigned_abs, arith, refl, subst, sym}
 use Rattle.std.specs.List.{All}
 use Rattle.std.proofs.lemmas.Int.{ints}
 use Rattle.std.proofs.Math.Nat.{mul-le-mul}
 use borrow.Author.Differences.{abs_is}
 use Rattle.space.specs.Motion.{IsSweep, Motion, axis_at, offset_at}
 use Rattle.space.specs.Ranges.{IsPoint, IsWithin, metre}
-use Rattle.space.specs.Vectors.{at}
+use Rattle.space.specs.Vectors.{at, spread}
+use Rattle.space.proofs.Naturals.{spread_natural}
 use Rattle.space.proofs.Solver.{var, num, add, mul, ring}
 use Rattle.space.proofs.Terms.{sub}
 use Rattle.bern_form.specs.Between.{n_between, u_between}
@@ -96,6 +97,15 @@ ray_fits sheet m o v S j ray sweep point few within =
       height = small_as ray.height (list2 (u_between m o 0 S S) (3 * (offset_limit * axis_limit)) (omega arith) height);
     }
 
+four_times : (z : ℤ) → pos 0 ≤ℤ z → pos 0 ≤ℤ (pos 4 *ℤ z)
+four_times z h = omega (arith, ints, h)
+
+-- the width form at the last sample goes with the square of the step across the axis
+bends_up : (line : Line) (m : Motion) (o v : List ℤ) (S : ℕ) → IsThrough line m o v S → pos 0 ≤ℤ at line.second.c 4
+bends_up line m o v S is =
+    let C = axis_at m (pos S) (pos S) in
+    subst (λ (c : List ℤ). pos 0 ≤ℤ at c 4) (sym is.second_is) (four_times (spread v C) (spread_natural v C))
+
 -- the forms of the points of a ray whose ends lie within a metre
 pub line_of_ray : (line : Line) (r : RayOf) (k n S : ℕ) → S ≡ 2 ^ r.sweep.depth → S ≤ scale_limit → IsSweep r.sweep.motion
     → IsThrough line r.sweep.motion (point_of r.grid r.ray 0) (scaled_way (pos S) (point_at r.grid r.ray.family r.ray.i k 0) (point_at r.grid r.ray.family r.ray.i k 1)) S
@@ -111,4 +121,5 @@ line_of_ray line r k n S e few sweep is first last all =
       };
       bends = λ h below. bend_small line m o x y (point_of r.grid r.ray h) S (pos h) is (along_ray r k h) sweep first (point h below) few;
       forms = λ l below. subst (λ z. HasForms line (pos l) m (point_of r.grid r.ray l) z) e (forms l);
+      convex = bends_up line m o (scaled_way (pos S) x y) S is;
     }

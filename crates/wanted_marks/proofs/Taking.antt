@@ -61,3 +61,20 @@ none_told none false t e h = e
 pub neither : (o s p : Bool) → s ≡ false → p ≡ false → (if o then s else p) ≡ false
 neither true s p es ep = es
 neither false s p es ep = ep
+
+-- all that are left are told
+left_taken : (w r t : Bool) → (r ≡ true → w ≡ true) → (r ≡ true → t ≡ true) → (((w && not r) && t) || r) ≡ ((w && not false) && t)
+left_taken true true true h k = refl
+left_taken true true false h k = let e = k refl in cc
+left_taken true false true h k = refl
+left_taken true false false h k = refl
+left_taken false true t h k = let e = h refl in cc
+left_taken false false true h k = refl
+left_taken false false false h k = refl
+
+pub rest_taken : (now word wanted left rest : ℕ) (test : ℕ → Bool) (first k : ℕ) → has_bit word k ≡ ((has_bit wanted k && not (has_bit left k)) && test (first + k))
+    → has_bit now k ≡ (has_bit word k || has_bit left k) → has_bit rest k ≡ false → (has_bit left k ≡ true → has_bit wanted k ≡ true)
+    → (has_bit left k ≡ true → test (first + k) ≡ true) → has_bit now k ≡ ((has_bit wanted k && not (has_bit rest k)) && test (first + k))
+rest_taken now word wanted left rest test first k before is none is_wanted is_true =
+    is ∙ ap (λ x. x || has_bit left k) before ∙ left_taken (has_bit wanted k) (has_bit left k) (test (first + k)) is_wanted is_true
+    ∙ ap (λ x. (has_bit wanted k && not x) && test (first + k)) (sym none)

@@ -39,7 +39,7 @@ clamped_small c h =
 square_of : (S x : ℕ) → scaled_square S (pos x) ≡ pos ((S * x) * (S * x))
 square_of S x = omega (arith, ints)
 
-square_more : (S : ℕ) (a b : ℤ) → pos 0 ≤ℤ a → a ≤ℤ b → (m : ℕ) × (n : ℕ) × (m ≤ n) × (scaled_square S a ≡ pos m) × (scaled_square S b ≡ pos n)
+pub square_more : (S : ℕ) (a b : ℤ) → pos 0 ≤ℤ a → a ≤ℤ b → (m : ℕ) × (n : ℕ) × (m ≤ n) × (scaled_square S a ≡ pos m) × (scaled_square S b ≡ pos n)
 square_more S (pos x) (pos y) h k =
     let l : x ≤ y = omega (arith, ints) in
     let inner : S * x ≤ S * y = mul-le-mul (omega arith) l in

@@ -5,6 +5,9 @@ pub mod Widths
 pub mod Lines
 pub mod Lasts
 pub mod Nears
+pub mod Runs
+pub mod Peaks
+pub mod Parts
 pub mod Starts
 pub mod Sheets
 pub mod Limits

@@ -1,5 +1,5 @@
 -- The forms of the points of a line on a whole move, as they are kept, and at the point l steps on.
-use Rattle.std.specs.Prelude.{◌≡◌, ℕ, ◌*◌, ◌^◌, ◌<◌, List, ℤ, pos, ◌+ℤ◌, ◌*ℤ◌, All}
+use Rattle.std.specs.Prelude.{◌≡◌, ℕ, ◌*◌, ◌^◌, ◌<◌, List, ℤ, pos, ◌+ℤ◌, ◌*ℤ◌, ◌≤ℤ◌, All}
 use Rattle.space.specs.Motion.{Motion, axis_at, offset_at}
 use Rattle.space.specs.Vectors.{at}
 use Rattle.bern_form.specs.Between.{n_between, u_between}
@@ -43,11 +43,13 @@ pub record HasForms (line : Line) (l : ℤ) (m : Motion) (p : List ℤ) (S : ℕ
 abbrev pub HasFormsIn : Line → ℤ → MoveOf → List ℤ → Type 0
 HasFormsIn line l v p = HasForms line l v.motion p (2 ^ v.depth)
 
--- the line runs through the points of the ray, and what the width form bends by from one of them to another fits
+-- The line runs through the points of the ray, and what the width form bends by from one of them to another fits. At the last sample it
+-- bends upwards.
 pub record IsLineOf (line : Line) (r : RayOf) : Type 0 where
   pub fits : (l : ℕ) → l < points_of r.grid r.ray.family → FitsAt line (pos l)
   pub bends : (h : ℕ) → h < points_of r.grid r.ray.family → All IsSmall (bend_over line (pos h))
   pub forms : (l : ℕ) → l < points_of r.grid r.ray.family → HasFormsIn line (pos l) r.sweep (point_of r.grid r.ray l)
+  pub convex : pos 0 ≤ℤ at line.second.c 4
 
 -- what u grows by with a step v, which is taken times S; and half of what d grows by, from the point s on, but for |v|^2
 abbrev pub u_step : Motion → List ℤ → ℕ → List ℤ

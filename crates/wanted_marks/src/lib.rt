@@ -1,12 +1,14 @@
 //! The marks of a ray's wanted points, a word of 64 at a time.
 #![tactic(auto)]
 
+mod held;
 mod hull;
 mod limits;
 mod line;
 mod move_marker;
 mod narrow;
 mod near;
+mod part;
 mod ray_marker;
 mod scaled;
 mod sets;

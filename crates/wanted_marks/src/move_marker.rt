@@ -1,3 +1,4 @@
+use crate::held::Held;
 use crate::hull::{are_behind, are_beside};
 use crate::limits::{greatest_diameter, limits_of};
 use crate::line::Line;
@@ -48,7 +49,9 @@ impl<'a> MoveMarker<'a> {
     ghost use Rattle.wanted_marks.specs.Lasts.{IsAtLast, IsLastOf};
     ghost use Rattle.wanted_marks.specs.Lines.{FitsAt, HasFormsIn, IsLineOf, bend_over, height_at, width_at};
     ghost use Rattle.wanted_marks.specs.Nears.{IsNear};
-    ghost use Rattle.wanted_marks.specs.Rays.{IsClearOf, IsRemovedBy, is_possible_in, is_sure_in, move_of};
+    ghost use Rattle.wanted_marks.specs.Rays.{IsClearOf, IsRemovedBy, RayOf, is_possible_in, is_sure_in, move_of};
+    ghost use Rattle.wanted_marks.specs.Runs.{IsHeldAt, IsHeldIn, IsRun};
+    ghost use Rattle.wanted_marks.specs.declared.line.Line.{Line};
     ghost use Rattle.wanted_marks.specs.Strips.{IsSheetOf};
     ghost use Rattle.wanted_marks.specs.Told.{tells_possible, tells_sure};
 
@@ -266,5 +269,41 @@ impl<'a> MoveMarker<'a> {
         }
         self.look_near(last, near);
         near.bounds.holds(last)
+    }
+
+    /// The point l steps on along a line, where what is kept of the slab that was looked for last holds it at its last sample.
+    #[inline]
+    pub(crate) fn held_at(&self, line: &Line, l: u32, near: &Near) -> Option<Held>
+        requires fits { FitsAt line.now (pos l) }
+        requires near { IsNear near.now self.now }
+        ensures index { IfSome result (λ held. held.index ≡ l) }
+        ensures held { (p : List ℤ) → HasFormsIn line.now (pos l) self.now p → IfSome result (λ held. IsHeldIn held self.now p) }
+    {
+        let sample = self.last_sample(line, l);
+        if sample.u < 0 {
+            return None;
+        }
+        if !near.bounds.holds(&sample) {
+            return None;
+        }
+        Some(Held {
+            index: l,
+            last: sample,
+            bounds: near.bounds,
+        })
+    }
+
+    /// Whether the points of a ray from one that is held at its last sample to another are all sure: each is no farther from the axis
+    /// than the slab of the other is wide, so both are within the lower one, and no slab between is narrower. Along a ray u is linear
+    /// and the width convex, so a point between is at a height between theirs, where some slab is, and no farther from the axis than
+    /// the farther of both.
+    #[inline]
+    pub(crate) fn is_run(&self, low: &Held, high: &Held) -> bool
+        ensures { IsTrue result → (r : RayOf) (line : Line) → r.sweep ≡ self.now → IsLineOf line r → IsHeldAt low.now r → IsHeldAt high.now r
+            → IsRun r low.now.index high.now.index }
+    {
+        // A stack rises, which is known where a field of the move is seen.
+        let _rising = &self.depth;
+        low.is_narrow(high) && high.is_narrow(low)
     }
 }

@@ -1,7 +1,9 @@
+use crate::held::Held;
 use crate::line::Line;
 use crate::move_marker::MoveMarker;
 use crate::near::Near;
-use crate::word::{WordMarks, asked_at, chosen_bits, without_bit};
+use crate::part::Part;
+use crate::word::{WordMarks, asked_at, chosen_bits};
 use axis_cells::Mark;
 use ray_grid::{Grid, Ray};
 use std::marker::Model;
@@ -29,13 +31,15 @@ impl<'a> Model for RayMarker<'a> {
 }
 
 impl<'a> RayMarker<'a> {
-    ghost use Rattle.std.specs.Prelude.{◌≡◌, ℕ, ◌+◌, ◌-◌, ◌<◌, ◌≤◌, true, false, IsTrue};
-    ghost use Rattle.std.specs.Option.{IfSome};
+    ghost use Rattle.std.specs.Prelude.{◌≡◌, ℕ, ◌+◌, ◌-◌, ◌<◌, ◌≤◌, ◌&&◌, not, nat_eq, true, false, IsTrue};
+    ghost use Rattle.std.specs.Option.{IfSome, MatchOption};
     ghost use Rattle.ray_grid.specs.Lattice.{IsRay, point_of, points_of};
     ghost use Rattle.vf_spans.specs.Words.{has_bit};
     ghost use Rattle.wanted_marks.specs.Lines.{IsLineOf};
     ghost use Rattle.wanted_marks.specs.Nears.{IsNear};
+    ghost use Rattle.wanted_marks.specs.Parts.{AreAmong, AreFrom, FollowsFrom};
     ghost use Rattle.wanted_marks.specs.Rays.{AreOnRay, IsClearOf};
+    ghost use Rattle.wanted_marks.specs.Runs.{IsHeldAt, IsRun};
     ghost use Rattle.wanted_marks.specs.Rays.{is_possible_at, is_possible_bit, is_sure_at, is_sure_bit, is_told_bit};
     ghost use Rattle.wanted_marks.specs.Told.{tells_possible, tells_sure};
 
@@ -131,6 +135,109 @@ impl<'a> RayMarker<'a> {
         }
     }
 
+    /// The point at an index, where what is kept of the slab that was looked for last holds it at its last sample.
+    #[inline]
+    fn held_at(&self, l: u32, near: &Near) -> Option<Held>
+        requires within { l < points_of self.now.grid self.now.ray.family }
+        requires near { IsNear near.now self.now.sweep }
+        ensures index { IfSome result (λ held. held.index ≡ l) }
+        ensures held { IfSome result (λ held. IsHeldAt held self.now) }
+    {
+        match &self.line {
+            None => None,
+            Some(line) => self.mover.held_at(line, l, near),
+        }
+    }
+
+    /// Whether the points from one that is held at its last sample to another are all sure.
+    #[inline]
+    fn is_run(&self, low: &Held, high: &Held) -> bool
+        requires low { IsHeldAt low.now self.now }
+        requires high { IsHeldAt high.now self.now }
+        ensures { IsTrue result → IsRun self.now low.now.index high.now.index }
+    {
+        match &self.line {
+            None => false,
+            Some(_line) => self.mover.is_run(low, high),
+        }
+    }
+
+    /// Marks one of the points that are left. Where it is held at its last sample, it is given as that.
+    fn mark_one(
+        &self,
+        first: u32,
+        b: u32,
+        sure_only: u64,
+        part: &mut Part,
+        near: &mut Near,
+    ) -> Option<Held>
+        requires bit { b < 64 }
+        requires left { has_bit part.old.rest b ≡ true }
+        requires on_ray { AreOnRay self.now first part.old.rest }
+        requires near { IsNear near.old self.now.sweep }
+        ensures near { IsNear near.new self.now.sweep }
+        ensures rest { (k : ℕ) → k < 64 → has_bit part.new.rest k ≡ (has_bit part.old.rest k && not (nat_eq k b)) }
+        ensures less { part.new.rest < part.old.rest }
+        ensures part { FollowsFrom part.new part.old self.now first sure_only }
+        ensures index { IfSome result (λ held. held.index ≡ first + b) }
+        ensures held { IfSome result (λ held. IsHeldAt held self.now) }
+    {
+        // The points are few by the type, which is known where a field is seen.
+        let _few = &self.ray;
+        let mark = self.mark_at(first + b, near, asked_at(sure_only, b));
+        *part = part.with_mark(b, mark);
+        match mark {
+            Mark::Removed => self.held_at(first + b, near),
+            _ => None,
+        }
+    }
+
+    /// Marks the points that are left from the lowest upwards, as far as the first that is held at its last sample.
+    fn mark_to_held(
+        &self,
+        first: u32,
+        sure_only: u64,
+        part: &mut Part,
+        near: &mut Near,
+    ) -> Option<Held>
+        requires on_ray { AreOnRay self.now first part.old.rest }
+        requires near { IsNear near.old self.now.sweep }
+        ensures near { IsNear near.new self.now.sweep }
+        ensures fewer { AreAmong part.new.rest part.old.rest }
+        ensures part { FollowsFrom part.new part.old self.now first sure_only }
+        ensures held { IfSome result (λ held. IsHeldAt held self.now) }
+        ensures above { MatchOption result (part.new.rest ≡ 0) (λ held. AreFrom held.index first part.new.rest) }
+    {
+        while part.rest != 0 {
+            let b = lowest_bit(part.rest);
+            if let Some(held) = self.mark_one(first, b, sure_only, part, near) {
+                return Some(held);
+            }
+        }
+        None
+    }
+
+    /// Marks the points that are left, which are above a held one, from the highest downwards, as far as one that is held too, so that
+    /// all between both are sure.
+    fn mark_down_to(&self, low: &Held, first: u32, sure_only: u64, part: &mut Part, near: &mut Near)
+        requires low { IsHeldAt low.now self.now }
+        requires above { AreFrom low.now.index first part.old.rest }
+        requires on_ray { AreOnRay self.now first part.old.rest }
+        requires near { IsNear near.old self.now.sweep }
+        ensures all { part.new.rest ≡ 0 }
+        ensures part { FollowsFrom part.new part.old self.now first sure_only }
+    {
+        while part.rest != 0 {
+            let b = highest_bit(part.rest);
+            if let Some(high) = self.mark_one(first, b, sure_only, part, near) {
+                if self.is_run(low, &high) {
+                    *part = part.with_rest_removed();
+                    return;
+                }
+            }
+        }
+    }
+
     /// Which of the wanted points are sure, and which of those that are not in `sure_only` are possible.
     fn mark_each(&self, first: u32, wanted: u64, sure_only: u64) -> WordMarks
         requires { AreOnRay self.now first wanted }
@@ -138,21 +245,15 @@ impl<'a> RayMarker<'a> {
         ensures possible { (b : ℕ) → b < 64 → has_bit sure_only b ≡ false
             → has_bit result.possible b ≡ is_possible_bit self.now first wanted b }
     {
-        // The points are few by the type, which is known where a field is seen.
-        let _few = &self.ray;
-        let mut marks = WordMarks {
-            sure: 0,
-            possible: 0,
-        };
         let mut near = Near::nowhere();
-        let mut rest = wanted;
-        while rest != 0 {
-            let b = lowest_bit(rest);
-            let asked = asked_at(sure_only, b);
-            marks = marks.with_mark(b, self.mark_at(first + b, &mut near, asked));
-            rest = without_bit(rest, b);
+        let mut part = Part::of_word(wanted);
+        match self.mark_to_held(first, sure_only, &mut part, &mut near) {
+            None => part.marks,
+            Some(low) => {
+                self.mark_down_to(&low, first, sure_only, &mut part, &mut near);
+                part.marks
+            }
         }
-        marks
     }
 
     /// The marks of the wanted points of a word: bit b is the point at the index `first + b`. Each wanted bit is a point of the

@@ -7,6 +7,7 @@ use Rattle.cutter_slabs.specs.Stacks.{inner_stack}
 use Rattle.width_bisect.specs.Bounds.{meets}
 use Rattle.wanted_marks.specs.Ready.{IsReadyMove}
 use Rattle.wanted_marks.proofs.Holding.{is_removed, last_width_is}
+use Rattle.wanted_marks.proofs.Running.{one_held}
 use Rattle.wanted_marks.proofs.move_marker.MoveMarker.is_held_last.Goals as goal
 
 pub returns-clause-held : goal.returns-clause-held
@@ -16,4 +17,4 @@ returns-clause-held c = λ yes p last.
     let w = spread (offset_at v.motion p (pos S) (pos S)) (axis_at v.motion (pos S) (pos S)) in
     let ahead : pos 0 ≤ℤ x.u = omega (arith, ints) in
     let met = ap (meets near.bounds x.u) (sym (last.width_is ∙ last_width_is v.motion p S)) ∙ sym c.holds.ensures ∙ yes in
-    is_removed v p (inner_stack v.cutter v.slabs) x.u (at (n_between v.motion 0 S S) 2) refl (ready.both p) last.u_is refl (c.look_near.ensures.held x.u w ahead met)
+    is_removed v p (inner_stack v.cutter v.slabs) x.u (at (n_between v.motion 0 S S) 2) refl (ready.both p) last.u_is refl (one_held near.bounds S (at (n_between v.motion 0 S S) 2) (inner_stack v.cutter v.slabs) x.u w c.look_near.ensures ahead met)

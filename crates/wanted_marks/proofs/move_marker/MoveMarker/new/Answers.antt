@@ -7,6 +7,7 @@ use Rattle.space.specs.Motion.{IsSweep}
 use Rattle.bern_form.specs.Between.{n_between}
 use Rattle.bern_form.specs.Marks.{held_at_sample}
 use Rattle.bern_form.specs.Slab.{SlabSize}
+use Rattle.cutter_slabs.specs.Rising.{IsRising}
 use Rattle.cutter_marks.specs.MarkBy.{is_possible_by, is_sure_by}
 use Rattle.axis_cells.specs.Exclusion.{squared}
 use Rattle.wanted_marks.specs.Limits.{IsNoWider, all_not_below_zero}
@@ -31,6 +32,7 @@ invariant_of-result c =
       valid = valid;
       both = λ p sure.
           c.inner-stack.ensures.possible m p S (some_cells c.args.depth) valid (subst (λ l. held_at_sample l m p S ≡ true) (sym c.inner-stack.ensures.stack) sure);
+      rising = subst IsRising c.inner-stack.ensures.stack c.inner-stack.ensures.rising;
       scale_is = scale.ensures.cells;
       few = scale.ensures.few;
       turn = turn.ensures;

@@ -1,0 +1,21 @@
+ghost use Rattle.std.specs.Prelude.{◌≡◌, int_le};
+
+use width_bisect::{Bounds, Sample};
+
+/// A point of a ray that an inner slab holds at its last sample: its index, that sample, and what the slab asks of a point there.
+#[derive(Drop)]
+pub struct Held {
+    pub index: u32,
+    pub last: Sample,
+    pub bounds: Bounds,
+}
+
+impl Held {
+    /// Whether the point is no farther from the axis than another one's slab is wide.
+    #[inline]
+    pub fn is_narrow(&self, other: &Held) -> bool
+        ensures { result ≡ int_le self.now.last.width other.now.bounds.width }
+    {
+        self.last.width <= other.bounds.width
+    }
+}
