@@ -1,0 +1,7 @@
+-- How large the numbers of a guess can be.
+use Rattle.std.specs.Prelude.{ℕ, ◌*◌}
+use Rattle.space.specs.Ranges.{axis_unit, metre}
+
+-- a component of the cross product of a way and twice an axis: two products
+abbrev pub moment_limit : ℕ
+moment_limit = 2 * ((2 * metre) * (2 * axis_unit))

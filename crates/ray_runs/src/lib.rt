@@ -1,0 +1,8 @@
+//! What a long move does to many points of a ray at once: a run of them that it cuts, or that it meets none.
+#![tactic(auto)]
+
+mod likely;
+mod run;
+mod slab_at;
+
+pub use run::{Run, sure_run};
