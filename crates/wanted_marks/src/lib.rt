@@ -4,6 +4,7 @@
 mod hull;
 mod limits;
 mod line;
+mod long;
 mod move_marker;
 mod narrow;
 mod near;

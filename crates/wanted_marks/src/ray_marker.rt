@@ -1,7 +1,7 @@
 use crate::line::Line;
 use crate::move_marker::MoveMarker;
 use crate::near::Near;
-use crate::word::{WordMarks, asked_at, chosen_bits, without_bit};
+use crate::word::{WordMarks, asked_at, bits_between, bits_without, chosen_bits, without_bit};
 use axis_cells::Mark;
 use ray_grid::{Grid, Ray};
 use std::marker::Model;
@@ -35,7 +35,7 @@ impl<'a> RayMarker<'a> {
     ghost use Rattle.vf_spans.specs.Words.{has_bit};
     ghost use Rattle.wanted_marks.specs.Lines.{IsLineOf};
     ghost use Rattle.wanted_marks.specs.Nears.{IsNear};
-    ghost use Rattle.wanted_marks.specs.Rays.{AreOnRay, IsClearOf};
+    ghost use Rattle.wanted_marks.specs.Rays.{AreOnRay, IsClearOf, IsRemovedBy};
     ghost use Rattle.wanted_marks.specs.Rays.{is_possible_at, is_possible_bit, is_sure_at, is_sure_bit, is_told_bit};
     ghost use Rattle.wanted_marks.specs.Told.{tells_possible, tells_sure};
 
@@ -155,6 +155,74 @@ impl<'a> RayMarker<'a> {
         marks
     }
 
+    /// Some wanted points that one sample shows to be sure.
+    fn sure_bits(&self, first: u32, wanted: u64) -> u64
+        requires { AreOnRay self.now first wanted }
+        ensures wanted { (b : ℕ) → b < 64 → has_bit result b ≡ true → has_bit wanted b ≡ true }
+        ensures sure { (b : ℕ) → b < 64 → has_bit result b ≡ true
+            → IsRemovedBy self.now.sweep (point_of self.now.grid self.now.ray (first + b)) }
+    {
+        // The points are few by the type, which is known where a field is seen.
+        let _few = &self.ray;
+        if wanted == 0 {
+            return 0;
+        }
+        let from = first + lowest_bit(wanted);
+        let to = first + highest_bit(wanted);
+        match self.mover.sure_run(self.grid, &self.ray, from, to) {
+            None => 0,
+            Some(run) => bits_between(wanted, run.first - first, run.last - first),
+        }
+    }
+
+    /// Whether the points of these bits are clear, for which all points from the lowest of them to the highest have to be.
+    fn are_bits_clear(&self, first: u32, bits: u64) -> bool
+        requires { AreOnRay self.now first bits }
+        ensures { IsTrue result → (b : ℕ) → b < 64 → has_bit bits b ≡ true
+            → IsClearOf self.now.sweep (point_of self.now.grid self.now.ray (first + b)) }
+    {
+        // The points are few by the type, which is known where a field is seen.
+        let _few = &self.ray;
+        if bits == 0 {
+            return true;
+        }
+        let from = first + lowest_bit(bits);
+        let to = first + highest_bit(bits);
+        self.mover.are_clear(self.grid, &self.ray, from, to)
+    }
+
+    /// The same as `mark_each` for a long move: what one sample shows to be sure, or the halves of the time to be clear, isn't asked
+    /// point by point.
+    fn mark_by_runs(&self, first: u32, wanted: u64, sure_only: u64) -> WordMarks
+        requires { AreOnRay self.now first wanted }
+        ensures sure { (b : ℕ) → b < 64 → has_bit result.sure b ≡ is_sure_bit self.now first wanted b }
+        ensures possible { (b : ℕ) → b < 64 → has_bit sure_only b ≡ false
+            → has_bit result.possible b ≡ is_possible_bit self.now first wanted b }
+    {
+        let sure = self.sure_bits(first, wanted);
+        let rest = bits_without(wanted, sure);
+        if self.are_bits_clear(first, rest) {
+            return WordMarks {
+                sure,
+                possible: sure,
+            };
+        }
+        self.mark_each(first, rest, sure_only).with_sure(sure)
+    }
+
+    /// Which of the wanted points are sure, and which of those that are not in `sure_only` are possible, by what suits the move.
+    fn mark_all(&self, first: u32, wanted: u64, sure_only: u64) -> WordMarks
+        requires { AreOnRay self.now first wanted }
+        ensures sure { (b : ℕ) → b < 64 → has_bit result.sure b ≡ is_sure_bit self.now first wanted b }
+        ensures possible { (b : ℕ) → b < 64 → has_bit sure_only b ≡ false
+            → has_bit result.possible b ≡ is_possible_bit self.now first wanted b }
+    {
+        if !self.mover.is_long() {
+            return self.mark_each(first, wanted, sure_only);
+        }
+        self.mark_by_runs(first, wanted, sure_only)
+    }
+
     /// The marks of the wanted points of a word: bit b is the point at the index `first + b`. Each wanted bit is a point of the
     /// ray. Of those in `sure_only` it is told only whether they are sure: both words have the same bit there.
     pub fn mark(&self, first: u32, wanted: u64, sure_only: u64) -> WordMarks
@@ -168,7 +236,7 @@ impl<'a> RayMarker<'a> {
                 possible: 0,
             };
         }
-        let marks = self.mark_each(first, wanted, sure_only);
+        let marks = self.mark_all(first, wanted, sure_only);
         WordMarks {
             sure: marks.sure,
             possible: chosen_bits(marks.possible, marks.sure, sure_only),
