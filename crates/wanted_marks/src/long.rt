@@ -9,5 +9,6 @@ fn goes_beyond(from: i32, to: i32, way: i64) -> bool {
 /// Whether the tip goes further than twice a diameter along x, y or z.
 pub fn is_long(sweep: &Sweep, diameter: i32) -> bool {
     let way = 2 * i64::from(diameter);
-    (0..3).any(|i| goes_beyond(sweep.from[i], sweep.to[i], way))
+    let ([x, y, z], [to_x, to_y, to_z]) = (sweep.from, sweep.to);
+    goes_beyond(x, to_x, way) || goes_beyond(y, to_y, way) || goes_beyond(z, to_z, way)
 }
