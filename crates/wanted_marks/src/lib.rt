@@ -5,6 +5,7 @@ mod held;
 mod hull;
 mod limits;
 mod line;
+mod long;
 mod move_marker;
 mod narrow;
 mod near;

@@ -2,6 +2,7 @@ use crate::held::Held;
 use crate::hull::{are_behind, are_beside};
 use crate::limits::{greatest_diameter, limits_of};
 use crate::line::Line;
+use crate::long::is_long;
 use crate::near::Near;
 use crate::ray_marker::RayMarker;
 use crate::sheet::{Sheet, heights_on, width_on};
@@ -11,6 +12,7 @@ use axis_cells::{Mark, Sweep, cells_of};
 use box_bisect::mark_point_uncounted;
 use cutter_slabs::Stacks;
 use ray_grid::{Family, Grid, Ray};
+use ray_runs::{Run, sure_run};
 use std::marker::Model;
 use width_bisect::{Asked, Sample, WholeForms, mark_by_forms};
 
@@ -24,6 +26,7 @@ pub struct MoveMarker<'a> {
     scale: u32,
     turn: Turn,
     limits: [i128; 5],
+    is_long: bool,
 }
 
 impl<'a> Model for MoveMarker<'a> {
@@ -43,7 +46,7 @@ impl<'a> MoveMarker<'a> {
     ghost use Rattle.std.specs.Option.{IfSome};
     ghost use Rattle.space.specs.Ranges.{IsPoint};
     ghost use Rattle.ray_grid.specs.Families.{first_axis};
-    ghost use Rattle.ray_grid.specs.Lattice.{IsRay, nodes_of};
+    ghost use Rattle.ray_grid.specs.Lattice.{IsRay, nodes_of, point_of, points_of};
     ghost use Rattle.bern_form.specs.Forms.{IsSmall};
     ghost use Rattle.space.specs.Vectors.{at};
     ghost use Rattle.wanted_marks.specs.Lasts.{IsAtLast, IsLastOf};
@@ -65,7 +68,8 @@ impl<'a> MoveMarker<'a> {
         let _stack = stacks.inner();
         let scale = cells_of(depth);
         let turn = Turn::of_sweep(sweep, scale);
-        let limits = limits_of(&turn.n, scale, greatest_diameter(stacks.outer()));
+        let diameter = greatest_diameter(stacks.outer());
+        let limits = limits_of(&turn.n, scale, diameter);
         MoveMarker {
             sweep,
             stacks,
@@ -73,6 +77,7 @@ impl<'a> MoveMarker<'a> {
             scale,
             turn,
             limits,
+            is_long: is_long(sweep, diameter),
         }
     }
 
@@ -90,6 +95,28 @@ impl<'a> MoveMarker<'a> {
         ensures { result ≡ record { sweep = self.now; grid = grid.now; family = family; i = i } }
     {
         StripMarker::new(self, grid, family, i)
+    }
+
+    /// Whether its tip goes further than twice the cutter's width. Points are then met far from both ends of the move.
+    #[inline]
+    pub(crate) fn is_long(&self) -> bool {
+        self.is_long
+    }
+
+    /// Some points of a ray from one index to another that one sample shows to be sure, and so possible.
+    pub(crate) fn sure_run(&self, grid: &Grid, ray: &Ray, from: u32, to: u32) -> Option<Run>
+        requires ray { IsRay grid.now ray.now }
+        requires order { from ≤ to }
+        requires within { to < points_of grid.now ray.now.family }
+        ensures first { IfSome result (λ run. from ≤ run.first) }
+        ensures order { IfSome result (λ run. run.first ≤ run.last) }
+        ensures last { IfSome result (λ run. run.last ≤ to) }
+        ensures sure { IfSome result (λ run. (l : ℕ) → run.first ≤ l → l ≤ run.last
+            → IsRemovedBy self.now (point_of grid.now ray.now l)) }
+    {
+        // A move is valid by its type, which is known where a field of it is seen.
+        let _valid = &self.depth;
+        sure_run(self.sweep, self.stacks, self.depth, grid, ray, from, to)
     }
 
     /// The mark of one point.

@@ -3,7 +3,7 @@ use crate::line::Line;
 use crate::move_marker::MoveMarker;
 use crate::near::Near;
 use crate::part::Part;
-use crate::word::{WordMarks, asked_at, chosen_bits};
+use crate::word::{WordMarks, asked_at, bits_between, bits_without, chosen_bits};
 use axis_cells::Mark;
 use ray_grid::{Grid, Ray};
 use std::marker::Model;
@@ -38,7 +38,7 @@ impl<'a> RayMarker<'a> {
     ghost use Rattle.wanted_marks.specs.Lines.{IsLineOf};
     ghost use Rattle.wanted_marks.specs.Nears.{IsNear};
     ghost use Rattle.wanted_marks.specs.Parts.{AreAmong, AreFrom, FollowsFrom};
-    ghost use Rattle.wanted_marks.specs.Rays.{AreOnRay, IsClearOf};
+    ghost use Rattle.wanted_marks.specs.Rays.{AreOnRay, IsClearOf, IsRemovedBy};
     ghost use Rattle.wanted_marks.specs.Runs.{IsHeldAt, IsRun};
     ghost use Rattle.wanted_marks.specs.Rays.{is_possible_at, is_possible_bit, is_sure_at, is_sure_bit, is_told_bit};
     ghost use Rattle.wanted_marks.specs.Told.{tells_possible, tells_sure};
@@ -256,6 +256,51 @@ impl<'a> RayMarker<'a> {
         }
     }
 
+    /// Some wanted points that one sample shows to be sure.
+    fn sure_bits(&self, first: u32, wanted: u64) -> u64
+        requires { AreOnRay self.now first wanted }
+        ensures wanted { (b : ℕ) → b < 64 → has_bit result b ≡ true → has_bit wanted b ≡ true }
+        ensures sure { (b : ℕ) → b < 64 → has_bit result b ≡ true
+            → IsRemovedBy self.now.sweep (point_of self.now.grid self.now.ray (first + b)) }
+    {
+        // The points are few by the type, which is known where a field is seen.
+        let _few = &self.ray;
+        if wanted == 0 {
+            return 0;
+        }
+        let from = first + lowest_bit(wanted);
+        let to = first + highest_bit(wanted);
+        match self.mover.sure_run(self.grid, &self.ray, from, to) {
+            None => 0,
+            Some(run) => bits_between(wanted, run.first - first, run.last - first),
+        }
+    }
+
+    /// The same as `mark_each` for a long move: what one sample shows to be sure isn't asked point by point.
+    fn mark_by_runs(&self, first: u32, wanted: u64, sure_only: u64) -> WordMarks
+        requires { AreOnRay self.now first wanted }
+        ensures sure { (b : ℕ) → b < 64 → has_bit result.sure b ≡ is_sure_bit self.now first wanted b }
+        ensures possible { (b : ℕ) → b < 64 → has_bit sure_only b ≡ false
+            → has_bit result.possible b ≡ is_possible_bit self.now first wanted b }
+    {
+        let sure = self.sure_bits(first, wanted);
+        let rest = bits_without(wanted, sure);
+        self.mark_each(first, rest, sure_only).with_sure(sure)
+    }
+
+    /// Which of the wanted points are sure, and which of those that are not in `sure_only` are possible, by what suits the move.
+    fn mark_all(&self, first: u32, wanted: u64, sure_only: u64) -> WordMarks
+        requires { AreOnRay self.now first wanted }
+        ensures sure { (b : ℕ) → b < 64 → has_bit result.sure b ≡ is_sure_bit self.now first wanted b }
+        ensures possible { (b : ℕ) → b < 64 → has_bit sure_only b ≡ false
+            → has_bit result.possible b ≡ is_possible_bit self.now first wanted b }
+    {
+        if !self.mover.is_long() {
+            return self.mark_each(first, wanted, sure_only);
+        }
+        self.mark_by_runs(first, wanted, sure_only)
+    }
+
     /// The marks of the wanted points of a word: bit b is the point at the index `first + b`. Each wanted bit is a point of the
     /// ray. Of those in `sure_only` it is told only whether they are sure: both words have the same bit there.
     pub fn mark(&self, first: u32, wanted: u64, sure_only: u64) -> WordMarks
@@ -269,7 +314,7 @@ impl<'a> RayMarker<'a> {
                 possible: 0,
             };
         }
-        let marks = self.mark_each(first, wanted, sure_only);
+        let marks = self.mark_all(first, wanted, sure_only);
         WordMarks {
             sure: marks.sure,
             possible: chosen_bits(marks.possible, marks.sure, sure_only),

@@ -1,9 +1,9 @@
-ghost use Rattle.std.specs.Prelude.{◌≡◌, ℕ, ◌<◌, ◌&&◌, not, nat_eq, true, false, if◌then◌else◌};
+ghost use Rattle.std.specs.Prelude.{◌≡◌, ℕ, ◌<◌, ◌≤◌, ◌&&◌, ◌||◌, not, nat_eq, nat_le, true, false, if◌then◌else◌};
 ghost use Rattle.vf_spans.specs.Words.{has_bit};
 ghost use Rattle.wanted_marks.specs.Told.{asked_at, tells_possible, tells_sure, with_told};
 
 use axis_cells::Mark;
-use vf_spans::bits::{has_bit, with_bit};
+use vf_spans::bits::{bits_below, bits_from, has_bit, with_bit};
 use width_bisect::Asked;
 
 /// The word with one bit not set.
@@ -14,6 +14,24 @@ pub fn without_bit(word: u64, b: u32) -> u64
     ensures less { has_bit word b ≡ true → result < word }
 {
     word & !(1 << b)
+}
+
+/// The bits of a word that another doesn't have.
+#[inline]
+pub fn bits_without(word: u64, others: u64) -> u64
+    ensures { (k : ℕ) → k < 64 → has_bit result k ≡ (has_bit word k && not (has_bit others k)) }
+{
+    word & !others
+}
+
+/// The bits of a word from one to another.
+#[inline]
+pub fn bits_between(word: u64, from: u32, to: u32) -> u64
+    requires order { from ≤ to }
+    requires within { to < 64 }
+    ensures { (k : ℕ) → k < 64 → has_bit result k ≡ ((has_bit word k && nat_le from k) && nat_le k to) }
+{
+    bits_below(word & bits_from(from), to + 1)
 }
 
 /// The bits of the second word in these places, and elsewhere those of the first.
@@ -45,6 +63,18 @@ pub struct WordMarks {
 }
 
 impl WordMarks {
+    /// The same with these points told as sure, and so as possible.
+    #[inline]
+    pub(crate) fn with_sure(self, bits: u64) -> WordMarks
+        ensures sure { (k : ℕ) → k < 64 → has_bit result.sure k ≡ (has_bit self.sure k || has_bit bits k) }
+        ensures possible { (k : ℕ) → k < 64 → has_bit result.possible k ≡ (has_bit self.possible k || has_bit bits k) }
+    {
+        WordMarks {
+            sure: self.sure | bits,
+            possible: self.possible | bits,
+        }
+    }
+
     /// The same with the mark of the point at bit `b` taken in.
     #[inline]
     pub(crate) fn with_mark(self, b: u32, mark: Mark) -> WordMarks

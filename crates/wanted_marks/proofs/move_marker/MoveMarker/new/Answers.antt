@@ -22,7 +22,7 @@ unfolding is_possible_by is_sure_by
 invariant_of-result c =
     let valid = subst IsSweep c.sweep.view_is c.sweep.invariant in
     let m = c.args.sweep.now in let S = 2 ^ c.args.depth in
-    let scale = c.cells_of-scale in let turn = c.of_sweep-turn in let widest = c.greatest_diameter.result in
+    let scale = c.cells_of-scale in let turn = c.of_sweep-turn in let widest = c.greatest_diameter-diameter.result in
     let fits : FitsSigned w32 widest = search rules in
     let n_is : turn.result.n.c ≡ n_between m 0 S S = turn.ensures.n_is ∙ ap (λ k. n_between m 0 k k) scale.ensures.cells in
     let limits : c.limits_of-limits.result ≡ all_not_below_zero (squared (pos S) widest (n_between m 0 S S)) =
@@ -36,6 +36,6 @@ invariant_of-result c =
       scale_is = scale.ensures.cells;
       few = scale.ensures.few;
       turn = turn.ensures;
-      limits_are = all_within S widest (n_between m 0 S S) c.limits_of-limits.result _ limits (subst (λ (l : List SlabSize). All (IsNoWider widest) l) c.outer.ensures.stack c.greatest_diameter.ensures.greatest);
+      limits_are = all_within S widest (n_between m 0 S S) c.limits_of-limits.result _ limits (subst (λ (l : List SlabSize). All (IsNoWider widest) l) c.outer.ensures.stack c.greatest_diameter-diameter.ensures.greatest);
       limits_small = c.limits_of-limits.ensures.small;
     }

@@ -20,6 +20,6 @@ returns-then-are_bits_apart-clause-possible c = λ b below.
 
 pub returns-clause-possible : goal.returns-clause-possible
 returns-clause-possible c = λ b below.
-    let r = c.args.self.now in let marks = c.mark_each-marks in let l = c.args.first + b in
+    let r = c.args.self.now in let marks = c.mark_all-marks in let l = c.args.first + b in
     told_of (has_bit c.chosen_bits.result b) (has_bit c.args.sure_only b) (has_bit marks.result.sure b) (has_bit marks.result.possible b) (has_bit c.args.wanted b) (is_sure_at r l) (is_possible_at r l)
     (c.chosen_bits.ensures b below) (marks.ensures.sure b below) (marks.ensures.possible b below)
