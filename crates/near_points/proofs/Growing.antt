@@ -57,7 +57,7 @@ pairs_some : (n : ℕ) → pos 0 ≤ℤ (pos n *ℤ (pos n -ℤ pos 1))
 pairs_some zero = omega (arith, ints)
 pairs_some (suc k) = product_some (pos (suc k)) (pos (suc k) -ℤ pos 1) (omega (arith, ints)) (omega (arith, ints))
 
-two_squares : (b d : ℤ) → pos 0 ≤ℤ (b *ℤ b +ℤ d *ℤ d)
+pub two_squares : (b d : ℤ) → pos 0 ≤ℤ (b *ℤ b +ℤ d *ℤ d)
 two_squares b d = omega (arith, ints, square_not_negative b, square_not_negative d)
 
 sum_more : (w x y z : ℤ) → z ≡ (w +ℤ x) +ℤ y → pos 0 ≤ℤ x → pos 0 ≤ℤ y → w ≤ℤ z

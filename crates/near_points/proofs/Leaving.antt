@@ -21,7 +21,7 @@ growth_after r s t l is = ap₂ (λ x y. x +ℤ y) t.curve_is (slope_after r s t
 less_than : (a b c d : ℤ) → a <ℤ b → b ≡ c → c ≤ℤ d → a <ℤ d
 less_than a b c d h e k = omega (arith, ints, h, e, k)
 
-on_to : (l x : ℕ) → l ≤ x → pos l +ℤ pos (x - l) ≡ pos x
+pub on_to : (l x : ℕ) → l ≤ x → pos l +ℤ pos (x - l) ≡ pos x
 on_to l x h = omega (arith, ints, h)
 
 -- where it is too large at a point and grows there, no further point is held

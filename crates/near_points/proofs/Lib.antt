@@ -2,5 +2,6 @@ pub mod Growing
 pub mod Told
 pub mod Taken
 pub mod Leaving
+pub mod Between
 pub mod Turning
 pub mod Holding

@@ -32,3 +32,11 @@ told_to P old new lo b now is within here clean before k from to =
     ⊎_elim
     (λ (e : k ≡ b). is k (omega arith) ∙ one_told (has_bit old k) now (eqb k b) (ap (has_bit old) e ∙ clean) (eq-eqb k b e) ∙ here ∙ ap P (sym e))
     (λ (e : k ≢ b). kept old new b now k (is k (omega arith)) e ∙ before k from (omega arith)) (cases_eq k b)
+
+-- a bit of a word to which all from one on are added, among them or ahead
+pub added_on : (o e p : Bool) → e ≡ true → p ≡ true → (o || e) ≡ p
+added_on true e p h k = sym k
+added_on false e p h k = h ∙ sym k
+
+pub kept_ahead : (o e p : Bool) → e ≡ false → o ≡ p → (o || e) ≡ p
+kept_ahead o e p h k = ap (λ x. o || x) h ∙ sym (or_none o) ∙ k

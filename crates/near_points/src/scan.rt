@@ -6,7 +6,7 @@ ghost use Rattle.near_points.specs.Lines.{AreBeyond, FitsAfter, IsAfter, is_held
 use crate::hold::Hold;
 use crate::stance::{Stance, moved};
 use crate::step::Step;
-use vf_spans::bits::with_bit;
+use vf_spans::bits::{bits_from, with_bit};
 
 /// Whether two heights are both below the least one that is held, or both above the most.
 #[inline]
@@ -59,8 +59,18 @@ fn are_left_out(first: &Stance, step: &Step, hold: &Hold, l: u32, m: u32) -> boo
     are_left_before(step, hold, &to)
 }
 
+/// Whether a point is held.
+#[inline]
+fn is_held(first: &Stance, step: &Step, hold: &Hold, l: u32) -> bool
+    requires { FitsAfter first.now step.now (pos l) }
+    ensures { result ≡ is_held_after hold.now first.now step.now (pos l) }
+{
+    let at = step.after(first, l);
+    hold.holds(at.width(), at.height)
+}
+
 /// The bits from `lo` to `hi` of the points that are held. Bit b is the point at the index `start + b`. Where the moment is too long
-/// and no shorter at the next point, none is held from there on.
+/// and no shorter at the next point, none is held from there on; and where the last point is held, each one behind the first that is.
 #[inline]
 pub fn held_between(first: &Stance, step: &Step, hold: &Hold, start: u32, lo: u32, hi: u32) -> u64
     requires order { lo ≤ hi }
@@ -72,6 +82,7 @@ pub fn held_between(first: &Stance, step: &Step, hold: &Hold, start: u32, lo: u3
     if are_left_out(first, step, hold, start + lo, start + hi) {
         return 0;
     }
+    let last_held = is_held(first, step, hold, start + hi);
     let from = step.after(first, start + lo);
     let bend = 2 * step.curve;
     let mut width = from.width();
@@ -81,6 +92,9 @@ pub fn held_between(first: &Stance, step: &Step, hold: &Hold, start: u32, lo: u3
     let mut b = lo;
     while b <= hi {
         if hold.holds(width, height) {
+            if last_held {
+                return bits | bits_from(b);
+            }
             bits = with_bit(bits, b);
         } else if is_leaving(hold, width, growth) {
             return bits;

@@ -1,17 +1,18 @@
-use Rattle.std.proofs.Common.{◌≡◌, ◌≤◌, ◌<◌, ◌*◌, ◌+◌, ◌+ℤ◌, ◌*ℤ◌, ℕ, ℤ, pos, unsigned_abs, FitsSigned, to_z, of_z, int_le, eqb, ◌&&◌, ◌||◌, ◌≤ℤ◌, ◌<ℤ◌, arith, rules, ⊎_elim, subst, sym, ap, ap₂, ◌∙◌}
+use Rattle.std.proofs.Common.{◌≡◌, true, ◌≤◌, ◌<◌, ◌*◌, ◌+◌, ◌+ℤ◌, ◌*ℤ◌, ℕ, ℤ, pos, unsigned_abs, FitsSigned, to_z, of_z, int_le, eqb, ◌&&◌, ◌||◌, ◌≤ℤ◌, ◌<ℤ◌, arith, rules, ⊎_elim, subst, sym, ap, ap₂, ◌∙◌}
 use Rattle.std.proofs.lemmas.Int.{ints, to_z-of_z}
-use Rattle.std.proofs.lemmas.Bool.{cases_lt}
+use Rattle.std.proofs.lemmas.Bool.{cases_lt, le-leb, lt-leb}
 use mir.Syntax.{w64, w128}
 use borrow.Author.Differences.{abs_is}
 use Rattle.vf_spans.specs.Words.{has_bit}
-use Rattle.vf_spans.proofs.WordBits.{has_bit-zero}
+use Rattle.vf_spans.proofs.WordBits.{has_bit-or, has_bit-zero}
 use Rattle.near_points.specs.Limits.{moment_limit}
 use Rattle.near_points.specs.Lines.{height_at, is_held_after, width_at}
 use Rattle.near_points.proofs.Growing.{growth_at, growth_fits, growth_next, height_next, next_index, width_fits, width_next}
 use Rattle.near_points.proofs.Leaving.{growth_after, left_on, width_after}
-use Rattle.near_points.proofs.Taken.{bit_left, bit_taken, kept, told_to}
+use Rattle.near_points.proofs.Between.{held_amid}
+use Rattle.near_points.proofs.Taken.{added_on, bit_left, bit_taken, kept, kept_ahead, told_to}
 use Rattle.near_points.proofs.scan.held_between.Goals as goal
-use Rattle.near_points.proofs.scan.held_between.Goals.{then-holds, else-holds+else-is_leaving}
+use Rattle.near_points.proofs.scan.held_between.Goals.{then-holds+else-last_held, else-holds+else-is_leaving}
 
 pub returns-then-are_left_out : goal.returns-then-are_left_out
 returns-then-are_left_out c = λ b from to. has_bit-zero b ∙ sym (c.are_left_out.ensures c.if-are_left_out.true (c.args.start + b) (omega (arith, from)) (omega (arith, to)))
@@ -71,9 +72,9 @@ pub loop-b-preserved : goal.loop-b-preserved
 loop-b-preserved c =
     let t = c.args.step.now in let first = c.args.first.now in let hold = c.args.hold.now in let b = c.loop-b.b in let l = pos (c.args.start + b) in let inv = c.loop-b.invariant in
     let on = next_index c.args.start b in let small = t.curve_small in
-    let ew : to_z w128 c.loop-b.width-bits ≡ width_at first t l = cc (inv.width_is, c.loop-b.width-is) in
-    let eg : to_z w128 c.loop-b.growth-bits ≡ growth_at first t l = cc (inv.growth_is, c.loop-b.growth-is) in
-    let eh : to_z w64 c.loop-b.height-bits ≡ height_at first t l = cc (inv.height_is, c.loop-b.height-is) in
+    let ew : to_z w128 c.loop-b.width-bits ≡ width_at first t l = inv.width_is in
+    let eg : to_z w128 c.loop-b.growth-bits ≡ growth_at first t l = inv.growth_is in
+    let eh : to_z w64 c.loop-b.height-bits ≡ height_at first t l = inv.height_is in
     let fc : FitsSigned w128 t.curve = search rules in
     let fh : FitsSigned w64 t.height = search rules in
     let fb : FitsSigned w128 (pos 2 *ℤ t.curve) = omega (arith, ints, small, abs_is t.curve) in
@@ -93,7 +94,7 @@ loop-b-preserved c =
     c.holds.ensures ∙ ap₂ (λ x y. int_le x hold.square && (int_le hold.least y && int_le y hold.most)) ew eh in
     let bits : (k : ℕ) → k < 64 → has_bit c.if-holds.bits k ≡ (has_bit c.loop-b.bits k || (c.holds.result && eqb k b)) = λ k below.
     elim c.if-holds.branch [
-      | then-holds w ↦ bit_taken (has_bit c.loop-b.bits k) (has_bit c.if-holds.bits k) c.holds.result (eqb k b) w.if-holds.true (ap (λ z. has_bit z k) w.bits-is ∙ w.with_bit-bits.ensures k below)
+      | then-holds+else-last_held w ↦ bit_taken (has_bit c.loop-b.bits k) (has_bit c.if-holds.bits k) c.holds.result (eqb k b) w.if-holds.true (ap (λ z. has_bit z k) w.bits-is ∙ w.with_bit-bits.ensures k below)
       | else-holds+else-is_leaving w ↦ bit_left (has_bit c.loop-b.bits k) (has_bit c.if-holds.bits k) c.holds.result (eqb k b) w.if-holds.false (ap (λ z. has_bit z k) w.bits-is)
     ] in
     record {
@@ -105,6 +106,24 @@ loop-b-preserved c =
       clean = λ k from below. kept c.loop-b.bits c.if-holds.bits b c.holds.result k (bits k below) (λ e. omega (arith, e, from)) ∙ inv.clean k (omega (arith, from)) below;
       told = told_to (λ k. is_held_after hold first t (pos (c.args.start + k))) c.loop-b.bits c.if-holds.bits c.args.lo b c.holds.result bits inside now (inv.clean b (omega arith) inside) inv.told;
     }
+
+pub returns-then-last_held : goal.returns-then-last_held
+returns-then-last_held c = λ b from to.
+    let t = c.args.step.now in let first = c.args.first.now in let hold = c.args.hold.now in let here = c.loop-b.b in let inv = c.loop-b.invariant in
+    let ew : to_z w128 c.loop-b.width-bits ≡ width_at first t (pos (c.args.start + here)) = inv.width_is in
+    let eh : to_z w64 c.loop-b.height-bits ≡ height_at first t (pos (c.args.start + here)) = inv.height_is in
+    let now : is_held_after hold first t (pos (c.args.start + here)) ≡ true =
+    sym (c.holds.ensures ∙ ap₂ (λ x y. int_le x hold.square && (int_le hold.least y && int_le y hold.most)) ew eh) ∙ c.if-holds.true in
+    let last : is_held_after hold first t (pos (c.args.start + c.args.hi)) ≡ true = sym c.is_held-last_held.ensures ∙ c.if-last_held.true in
+    let inside : b < 64 = omega (arith, to, c.requires.within) in
+    has_bit-or c.loop-b.bits c.bits_from.result b
+    ∙ ⊎_elim
+    (λ (before : b < here).
+    kept_ahead (has_bit c.loop-b.bits b) (has_bit c.bits_from.result b) (is_held_after hold first t (pos (c.args.start + b))) (c.bits_from.ensures b inside ∙ lt-leb here b before)
+    (inv.told b from before))
+    (λ (on : here ≤ b).
+    added_on (has_bit c.loop-b.bits b) (has_bit c.bits_from.result b) (is_held_after hold first t (pos (c.args.start + b))) (c.bits_from.ensures b inside ∙ le-leb here b on)
+    (held_amid hold first t (c.args.start + here) (c.args.start + b) (c.args.start + c.args.hi) (omega (arith, on)) (omega (arith, to)) now last)) (cases_lt b here)
 
 pub returns-then-is_leaving : goal.returns-then-is_leaving
 returns-then-is_leaving c = λ b from to.

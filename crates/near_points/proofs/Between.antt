@@ -1,0 +1,51 @@
+-- Between two points of a ray that a cylinder holds it holds every point.
+use Rattle.std.proofs.Common.{◌≡◌, ◌⊎◌, inl, inr, ⊎_elim, true, ℕ, ◌-◌, ◌≤◌, ℤ, pos, negsuc, ◌+ℤ◌, ◌*ℤ◌, ◌-ℤ◌, ◌≤ℤ◌, ◌<ℤ◌, arith, sym, subst}
+use Rattle.std.proofs.lemmas.Int.{ints}
+use Rattle.near_points.specs.declared.hold.Hold.{Hold}
+use Rattle.near_points.specs.declared.stance.Stance.{Stance}
+use Rattle.near_points.specs.declared.step.Step.{Step}
+use Rattle.near_points.specs.Lines.{is_held_after, second_at, third_at, width_at}
+use Rattle.near_points.proofs.Growing.{growth_at, grows_back, grows_on, less_between, more_between, two_squares}
+use Rattle.near_points.proofs.Leaving.{on_to}
+use Rattle.near_points.proofs.Told.{held_by_parts, held_parts}
+
+sign : (g : ℤ) → (pos 0 ≤ℤ g) ⊎ (g <ℤ pos 0)
+sign (pos n) = inl (omega (arith, ints))
+sign (negsuc n) = inr (omega (arith, ints))
+
+no_more : (a b y : ℤ) → a ≤ℤ b → b ≤ℤ y → a ≤ℤ y
+no_more a b y h k = omega (arith, ints, h, k)
+
+-- where it falls it grows backwards
+falls : (c g : ℤ) → pos 0 ≤ℤ c → (c +ℤ g) <ℤ pos 0 → pos 0 ≤ℤ (c -ℤ g)
+falls c g h k = omega (arith, ints, h, k)
+
+-- the square of the moment is not too large between two points where it isn't
+narrow_between : (s : Stance) (t : Step) (y : ℤ) (l x m : ℕ) → l ≤ x → x ≤ m → width_at s t (pos l) ≤ℤ y → width_at s t (pos m) ≤ℤ y → width_at s t (pos x) ≤ℤ y
+narrow_between s t y l x m from to first last =
+    let c = t.second *ℤ t.second +ℤ t.third *ℤ t.third in
+    let slope = λ (z : ℤ). pos 2 *ℤ (second_at s t z *ℤ t.second +ℤ third_at s t z *ℤ t.third) in
+    ⊎_elim
+    (λ (growing : pos 0 ≤ℤ growth_at s t (pos x)).
+    no_more (width_at s t (pos x)) (width_at s t (pos m)) y (subst (λ (z : ℤ). width_at s t (pos x) ≤ℤ width_at s t z) (on_to x m to) (grows_on s t x (m - x) growing)) last)
+    (λ (falling : growth_at s t (pos x) <ℤ pos 0).
+    let back = falls c (slope (pos x)) (two_squares t.second t.third) falling in
+    no_more (width_at s t (pos x)) (width_at s t (pos l)) y
+    (subst (λ (z : ℤ). width_at s t z ≤ℤ width_at s t (pos l)) (on_to l x from)
+    (grows_back s t l (x - l) (subst (λ (z : ℤ). pos 0 ≤ℤ (c -ℤ slope z)) (sym (on_to l x from)) back))) first)
+    (sign (growth_at s t (pos x)))
+
+at_least_between : (h t y : ℤ) (l x m : ℕ) → l ≤ x → x ≤ m → y ≤ℤ (h +ℤ pos l *ℤ t) → y ≤ℤ (h +ℤ pos m *ℤ t) → y ≤ℤ (h +ℤ pos x *ℤ t)
+at_least_between h t y l x m from to first last =
+    let more = more_between h t (y -ℤ pos 1) l x m from to (omega (arith, ints, first)) (omega (arith, ints, last)) in omega (arith, ints, more)
+
+at_most_between : (h t y : ℤ) (l x m : ℕ) → l ≤ x → x ≤ m → (h +ℤ pos l *ℤ t) ≤ℤ y → (h +ℤ pos m *ℤ t) ≤ℤ y → (h +ℤ pos x *ℤ t) ≤ℤ y
+at_most_between h t y l x m from to first last =
+    let less = less_between h t (y +ℤ pos 1) l x m from to (omega (arith, ints, first)) (omega (arith, ints, last)) in omega (arith, ints, less)
+
+pub held_amid : (hold : Hold) (s : Stance) (t : Step) (l x m : ℕ) → l ≤ x → x ≤ m → is_held_after hold s t (pos l) ≡ true → is_held_after hold s t (pos m) ≡ true
+    → is_held_after hold s t (pos x) ≡ true
+held_amid hold s t l x m from to first last =
+    let a = held_parts hold s t (pos l) first in let b = held_parts hold s t (pos m) last in
+    held_by_parts hold s t (pos x) (narrow_between s t hold.square l x m from to a.0 b.0) (at_least_between s.height t.height hold.least l x m from to a.1 b.1)
+    (at_most_between s.height t.height hold.most l x m from to a.2 b.2)
