@@ -14,5 +14,6 @@ pub mod Holding
 pub mod Amid
 pub mod Running
 pub mod OnRuns
+pub mod Peaking
 pub mod Outside
 pub mod Narrowing

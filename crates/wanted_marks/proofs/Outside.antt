@@ -1,6 +1,6 @@
 -- Where a point is lower on a whole move than the slabs of a rising stack from some number on begin, and beside the one before it, each is
 -- excluded: those from there on begin no lower, and those before it are no wider.
-use Rattle.std.proofs.Common.{◌≡◌, true, ℕ, zero, suc, ◌+◌, ◌-◌, ◌*◌, ◌^◌, ◌≤◌, ◌<◌, ◌⊎◌, List, [], ◌∷◌, length, get_or, ℤ, pos, negsuc, ◌+ℤ◌, ◌*ℤ◌, ◌-ℤ◌, ◌<ℤ◌, ◌≤ℤ◌, int_lt, inl, inr, arith, refl, ⊎_elim, subst, sym}
+use Rattle.std.proofs.Common.{◌≡◌, true, ℕ, zero, suc, ◌+◌, ◌-◌, ◌*◌, ◌^◌, ◌≤◌, ◌<◌, ◌⊎◌, List, [], ◌∷◌, length, get_or, ℤ, pos, negsuc, ◌+ℤ◌, ◌*ℤ◌, ◌-ℤ◌, ◌<ℤ◌, ◌≤ℤ◌, int_lt, inl, inr, arith, refl, ap, ⊎_elim, subst, sym, ◌∙◌}
 use Rattle.std.specs.List.{All}
 use Rattle.std.proofs.lemmas.Bool.{cases_lt}
 use Rattle.std.proofs.lemmas.Int.{ints}
@@ -179,3 +179,20 @@ outside_is_clear v p square least j both rising peak floor out =
       each = λ s among. All-contains (λ x. ExcludedBetween x v.motion p 0 S S) outer s
           (λ i d l. subst (λ x. ExcludedBetween x v.motion p 0 S S) (get_or_default outer i no_slab d l) (all i l)) among;
     }
+
+-- the same by what is reckoned
+pub outside_by : (v : MoveOf) (p : List ℤ) (S j : ℕ) (outer : List SlabSize) (u n W : List ℤ) (square least : ℤ) → outer ≡ outer_stack v.cutter v.slabs → S ≡ 2 ^ v.depth
+    → u ≡ u_between v.motion p 0 (2 ^ v.depth) (2 ^ v.depth) → n ≡ n_between v.motion 0 (2 ^ v.depth) (2 ^ v.depth) → W ≡ whole_width v.motion p (2 ^ v.depth)
+    → (is_sure_in v p ≡ true → is_possible_in v p ≡ true) → IsRising (outer_stack v.cutter v.slabs) → IsPeak square u → IsLeast least n → IsOutside outer S square least n W j → IsClearOf v p
+outside_by v p S j outer u n W square least eo es eu en ew both rising peak floor out =
+    let k = 2 ^ v.depth in let slabs = outer_stack v.cutter v.slabs in let N = n_between v.motion 0 k k in
+    let o1 = subst (λ (l : List SlabSize). IsOutside l S square least n W j) eo out in
+    let o2 = subst (λ (z : ℕ). IsOutside slabs z square least n W j) es o1 in
+    let o3 = subst (λ (z : List ℤ). IsOutside slabs k square least z W j) en o2 in
+    outside_is_clear v p square least j both rising (subst (IsPeak square) eu peak) (subst (IsLeast least) en floor) (subst (λ (z : List ℤ). IsOutside slabs k square least N z j) ew o3)
+
+-- the slab that is asked is the one before the number
+pub asked_slab : (outer : List SlabSize) (j i : ℕ) (x : SlabSize) → j ≡ suc i → j ≤ length outer → x ≡ get_or outer (j - 1) x → (i < length outer) × (nth outer i ≡ x)
+asked_slab outer j i x e l is =
+    let within : i < length outer = omega (arith, e, l) in let same : j - 1 ≡ i = omega (arith, e) in
+    (within, get_or_default outer i no_slab x within ∙ sym (is ∙ ap (λ k. get_or outer k x) same))

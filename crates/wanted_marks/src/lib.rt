@@ -10,6 +10,7 @@ mod move_marker;
 mod narrow;
 mod near;
 mod part;
+mod peak;
 mod ray_marker;
 mod scaled;
 mod sets;

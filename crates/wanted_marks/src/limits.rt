@@ -9,7 +9,7 @@ use bern_form::{Form2, Slab, lift24, scale2};
 
 /// The diameter of a slab.
 #[inline]
-fn diameter_of(slab: &Slab) -> i32
+pub fn diameter_of(slab: &Slab) -> i32
     ensures value { result ≡ slab.now.dia }
     ensures not_negative { pos 0 ≤ℤ result }
     ensures few { result ≤ℤ pos 200000 }

@@ -9,9 +9,11 @@ ghost use Rattle.bern_form.specs.Sizes.{IsBounded2, axis_limit, offset_limit, sc
 ghost use Rattle.wanted_marks.specs.Ways.{scaled_way};
 ghost use Rattle.wanted_marks.specs.Starts.{IsStart};
 ghost use Rattle.wanted_marks.specs.Lines.{FitsAt, IsThrough, coefficient_at, height_at, heights_at, width_at};
+ghost use Rattle.wanted_marks.specs.Peaks.{IsPeak};
 ghost use Rattle.wanted_marks.specs.Widths.{IsTurn, quadratic, spread_form};
 
 use crate::narrow::times_narrow;
+use crate::peak::peak_of;
 use crate::scaled::scaled_way;
 use crate::start::Start;
 use crate::turn::Turn;
@@ -156,6 +158,23 @@ impl Line {
         self.height(2, l) as i64
     }
 
+    /// The first coefficient of u, of the point l steps on, and the middle one. They fit 64 bits too.
+    #[inline]
+    fn first_height(&self, l: u32) -> i64
+        requires { FitsAt self.now (pos l) }
+        ensures { result ≡ height_at self.now 0 (pos l) }
+    {
+        self.height(0, l) as i64
+    }
+
+    #[inline]
+    fn middle_height(&self, l: u32) -> i64
+        requires { FitsAt self.now (pos l) }
+        ensures { result ≡ height_at self.now 1 (pos l) }
+    {
+        self.height(1, l) as i64
+    }
+
     /// Whether each coefficient of u is below 0 at the point l steps on, where `last` is the last one. That is looked at first, for
     /// most points of a line are ahead of the tip at the last sample or behind it throughout.
     #[inline]
@@ -171,6 +190,16 @@ impl Line {
             return false;
         }
         self.height(1, l) < 0
+    }
+
+    /// The peak of u, of the point l steps on, where `last` is the last coefficient.
+    #[inline]
+    pub fn peak(&self, l: u32, last: i64) -> i128
+        requires fits { FitsAt self.now (pos l) }
+        requires last { last ≡ height_at self.now 2 (pos l) }
+        ensures { IsPeak result (heights_at self.now (pos l)) }
+    {
+        peak_of(self.first_height(l), self.middle_height(l), last)
     }
 
     /// 4 (d n - u^2) at the last sample, of the point l steps on.

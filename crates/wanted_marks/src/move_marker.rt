@@ -1,9 +1,10 @@
 use crate::held::Held;
 use crate::hull::{are_behind, are_beside};
-use crate::limits::{greatest_diameter, limits_of};
+use crate::limits::{diameter_of, greatest_diameter, limits_of};
 use crate::line::Line;
 use crate::long::is_long;
 use crate::near::Near;
+use crate::peak::Peak;
 use crate::ray_marker::RayMarker;
 use crate::sheet::{Sheet, heights_on, width_on};
 use crate::strip_marker::StripMarker;
@@ -242,6 +243,29 @@ impl<'a> MoveMarker<'a> {
             return true;
         }
         line.exceed(l, last.width, limits)
+    }
+
+    /// Whether the point l steps on is outside of each outer slab throughout the move, by the slab at its greatest height: it is lower than
+    /// those above that one begin, and beside that one, so beside those below it too, which are no wider. It is then neither sure nor
+    /// possible. `near` is the number of a slab to look from.
+    pub(crate) fn is_outside(&self, line: &Line, l: u32, last: &Sample, near: usize) -> bool
+        requires fits { FitsAt line.now (pos l) }
+        requires u { last.now.u ≡ height_at line.now 2 (pos l) }
+        requires width { last.now.width ≡ at (width_at line.now (pos l)) 4 }
+        ensures { IsTrue result → (p : List ℤ) → HasFormsIn line.now (pos l) self.now p → IsClearOf self.now p }
+    {
+        let outer = self.stacks.outer();
+        let peak = Peak {
+            scale: self.scale,
+            square: line.peak(l, last.u),
+            least: self.turn.least,
+        };
+        let reached = peak.reached(outer, near);
+        if reached == 0 {
+            return true;
+        }
+        let limits = limits_of(&self.turn.n, self.scale, diameter_of(&outer[reached - 1]));
+        line.exceed(l, last.width, &limits)
     }
 
     /// Whether the points from the one l steps on to the one m steps on are all behind the tip throughout the move, or all beside

@@ -117,6 +117,9 @@ impl<'a> RayMarker<'a> {
         if self.mover.is_held_last(&last, near) {
             return Mark::Removed;
         }
+        if self.mover.is_outside(line, l, &last, near.reached) {
+            return Mark::Clear;
+        }
         let point = self.grid.point(&self.ray, l);
         self.mover.mark_on(line, l, point, near.reached, asked)
     }

@@ -33,6 +33,7 @@ invariant_of-result c =
       both = λ p sure.
           c.inner-stack.ensures.possible m p S (some_cells c.args.depth) valid (subst (λ l. held_at_sample l m p S ≡ true) (sym c.inner-stack.ensures.stack) sure);
       rising = subst IsRising c.inner-stack.ensures.stack c.inner-stack.ensures.rising;
+      outer_rising = subst IsRising c.outer.ensures.stack c.outer.ensures.rising;
       scale_is = scale.ensures.cells;
       few = scale.ensures.few;
       turn = turn.ensures;

@@ -1,10 +1,19 @@
-use Rattle.std.proofs.Common.{◌*◌, subst, sym}
+use Rattle.std.proofs.Common.{◌*◌, FitsSigned, rules, subst, sym}
+use Rattle.std.proofs.lemmas.Int.{to_z-of_z}
+use mir.Syntax.{w64}
 use Rattle.space.specs.Motion.{Motion}
 use Rattle.bern_form.specs.Sizes.{IsBounded2, axis_limit}
 use Rattle.axis_cells.proofs.Bounds.{cross_bounded}
+use Rattle.wanted_marks.specs.Peaks.{IsLeast}
 use Rattle.wanted_marks.specs.Widths.{IsTurn}
 use Rattle.wanted_marks.proofs.Stepping.{turn_is}
 use Rattle.wanted_marks.proofs.turn.Turn.of_sweep.Goals as goal
+
+pub least_of-least-requires : goal.least_of-least-requires
+least_of-least-requires c =
+    let first = c.scaled_axis-first in let last = c.scaled_axis-last in
+    subst (IsBounded2 (3 * (axis_limit * axis_limit))) (sym c.scalar_product_on_cell-n.ensures)
+    (cross_bounded first.result last.result first.result last.result axis_limit axis_limit first.ensures.small last.ensures.small first.ensures.small last.ensures.small)
 
 pub invariant_of-result : goal.invariant_of-result
 invariant_of-result c =
@@ -14,6 +23,7 @@ invariant_of-result c =
       last_within = last.ensures.small;
       n_small = subst (IsBounded2 (3 * (axis_limit * axis_limit))) (sym c.scalar_product_on_cell-n.ensures)
           (cross_bounded first.result last.result first.result last.result axis_limit axis_limit first.ensures.small last.ensures.small first.ensures.small last.ensures.small);
+      least_is = let f : FitsSigned w64 c.least_of-least.result = search rules in subst (λ z. IsLeast z c.scalar_product_on_cell-n.result.c) (sym (to_z-of_z w64 c.least_of-least.result f)) c.least_of-least.ensures;
     }
 
 pub returns : goal.returns

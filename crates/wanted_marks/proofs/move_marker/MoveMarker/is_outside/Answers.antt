@@ -1,0 +1,46 @@
+use Rattle.std.proofs.Common.{◌≡◌, ℕ, suc, ◌-◌, pos, FitsSigned, arith, rules, ap, ap₂, subst, sym, ◌∙◌}
+use Rattle.std.proofs.lemmas.Int.{to_z-of_z}
+use mir.Syntax.{w32, w64, w128}
+use Rattle.bern_form.specs.Between.{n_between}
+use Rattle.bern_form.specs.Forms.{all_positive, difference4}
+use Rattle.axis_cells.specs.Exclusion.{squared}
+use Rattle.cutter_slabs.specs.Stacks.{outer_stack}
+use Rattle.wanted_marks.specs.Limits.{all_not_below_zero}
+use Rattle.wanted_marks.specs.Lines.{heights_at, width_at}
+use Rattle.wanted_marks.specs.Peaks.{is_under}
+use Rattle.wanted_marks.specs.Rays.{MoveOf}
+use Rattle.wanted_marks.specs.Ready.{IsReadyMove}
+use Rattle.wanted_marks.proofs.Outside.{asked_slab, outside_by}
+use Rattle.wanted_marks.proofs.Running.{nth}
+use Rattle.wanted_marks.proofs.move_marker.MoveMarker.is_outside.Goals as goal
+
+pub returns-then-reached-eq0 : goal.returns-then-reached-eq0
+returns-then-reached-eq0 c = λ yes p forms.
+    let s = c.self.inside in let v = c.args.self.now in let line = c.args.line.now in let l = pos c.args.l in
+    let ready = subst (IsReadyMove s.scale s.turn.first s.turn.last s.turn.n.c s.limits) c.self.view_is c.self.invariant in
+    let f : FitsSigned w128 c.peak.result = search rules in let g : FitsSigned w64 s.turn.least = search rules in
+    let stack = c.outer-outer.ensures.stack ∙ ap (λ (y : MoveOf). outer_stack y.cutter y.slabs) c.self.view_is in
+    outside_by v p s.scale c.reached-reached.result c.outer-outer.result.now (heights_at line l) s.turn.n.c (width_at line l) c.peak.result s.turn.least stack ready.scale_is forms.height
+    (ready.turn.n_is ∙ ap (λ k. n_between v.motion 0 k k) ready.scale_is) forms.width (ready.both p) ready.outer_rising c.peak.ensures s.turn.least_is
+    record { under = λ h. ap₂ (λ a b. is_under s.scale a b (nth c.outer-outer.result.now c.reached-reached.result)) (sym (to_z-of_z w128 c.peak.result f)) (sym (to_z-of_z w64 s.turn.least g)) ∙ c.reached-reached.ensures.under h; beside = λ i e. let none = c.if-reached-eq0.true in absurd (omega (arith, e, none)) }
+
+pub returns : goal.returns
+returns c = λ yes p forms.
+    let s = c.self.inside in let v = c.args.self.now in let line = c.args.line.now in let l = pos c.args.l in
+    let ready = subst (IsReadyMove s.scale s.turn.first s.turn.last s.turn.n.c s.limits) c.self.view_is c.self.invariant in
+    let outer = c.outer-outer.result.now in let n = s.turn.n.c in let W = width_at line l in let x = c.index-outer-reached.result in let d = c.diameter_of.result in
+    let f : FitsSigned w128 c.peak.result = search rules in let g : FitsSigned w64 s.turn.least = search rules in
+    let stack = c.outer-outer.ensures.stack ∙ ap (λ (y : MoveOf). outer_stack y.cutter y.slabs) c.self.view_is in
+    let fits : FitsSigned w32 d = search rules in
+    let limits : c.limits_of-limits.result ≡ all_not_below_zero (squared (pos s.scale) d n) = simp to_z-of_z at c.limits_of-limits.ensures.value in
+    outside_by v p s.scale c.reached-reached.result outer (heights_at line l) n W c.peak.result s.turn.least stack ready.scale_is forms.height
+    (ready.turn.n_is ∙ ap (λ k. n_between v.motion 0 k k) ready.scale_is) forms.width (ready.both p) ready.outer_rising c.peak.ensures s.turn.least_is
+    record {
+      under = λ h. ap₂ (λ a b. is_under s.scale a b (nth c.outer-outer.result.now c.reached-reached.result)) (sym (to_z-of_z w128 c.peak.result f)) (sym (to_z-of_z w64 s.turn.least g)) ∙ c.reached-reached.ensures.under h;
+      beside = λ i e.
+          let at = asked_slab outer c.reached-reached.result i x e c.reached-reached.ensures.within c.index-outer-reached.is in (
+            at.0,
+            ap (λ z. all_positive (difference4 W (all_not_below_zero (squared (pos s.scale) z n)))) (ap (λ z. z.dia) at.1 ∙ sym c.diameter_of.ensures.value)
+                ∙ ap (λ z. all_positive (difference4 W z)) (sym limits) ∙ sym c.exceed.ensures ∙ yes,
+          );
+    }
