@@ -54,7 +54,8 @@ fn asked_from<'x>(
     requires on { window.1 ≤ points_of near.now.grid near.now.family }
     requires ahead { HasNoneAhead ray.now.sets window word }
     requires inside { 64 * word < window.1 }
-    requires wanted { (b : ℕ) → b < 64 → has_bit wanted b ≡ (is_wanted_at ray.now.sets (64 * word + b) && in_range (64 * word + b) window) }
+    requires wanted { (b : ℕ) → b < 64
+        → has_bit wanted b ≡ (is_wanted_at ray.now.sets (64 * word + b) && in_range (64 * word + b) window) }
     ensures none { IfNone result (IsUnasked (near_ray_at near.now n) ray.now.sets window) }
     ensures some { IfSome result (IsAskedRay (near_ray_at near.now n) ray.now.sets window) }
 {
