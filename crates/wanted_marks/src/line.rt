@@ -131,8 +131,8 @@ impl Line {
         if last <= limits[4] {
             return false;
         }
-        for k in 1..5 {
-            if !self.is_above(4 - k, l, limits[4 - k]) {
+        for k in 0..4 {
+            if !self.is_above(k, l, limits[k]) {
                 return false;
             }
         }
@@ -158,9 +158,9 @@ impl Line {
         self.height(2, l) as i64
     }
 
-    /// The first coefficient of u, of the point l steps on, and the middle one. They fit 64 bits too.
+    /// u at the first sample, of the point l steps on, which is its first coefficient, and the middle one. They fit 64 bits too.
     #[inline]
-    fn first_height(&self, l: u32) -> i64
+    pub fn first_height(&self, l: u32) -> i64
         requires { FitsAt self.now (pos l) }
         ensures { result ≡ height_at self.now 0 (pos l) }
     {
@@ -209,5 +209,14 @@ impl Line {
         ensures { result ≡ at (width_at self.now (pos l)) 4 }
     {
         self.width(4, l)
+    }
+
+    /// The same at the first sample.
+    #[inline]
+    pub fn first_width(&self, l: u32) -> i128
+        requires { FitsAt self.now (pos l) }
+        ensures { result ≡ at (width_at self.now (pos l)) 0 }
+    {
+        self.width(0, l)
     }
 }

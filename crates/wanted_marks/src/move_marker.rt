@@ -322,6 +322,21 @@ impl<'a> MoveMarker<'a> {
         near.bounds.holds(last)
     }
 
+    /// Whether some inner slab holds the point l steps on at its first sample. It is then sure. `near` is the number of a slab to look
+    /// from. A wide cutter still holds there what it leaves behind.
+    pub(crate) fn is_held_first(&self, line: &Line, l: u32, near: usize) -> bool
+        requires { FitsAt line.now (pos l) }
+        ensures { IsTrue result → (p : List ℤ) → HasFormsIn line.now (pos l) self.now p → IsRemovedBy self.now p }
+    {
+        let first = Sample {
+            scale: self.scale,
+            u: line.first_height(l),
+            n: self.turn.first_square(),
+            width: line.first_width(l),
+        };
+        first.is_held(self.stacks.inner(), near)
+    }
+
     /// The point l steps on along a line, where what is kept of the slab that was looked for last holds it at its last sample.
     #[inline]
     pub(crate) fn held_at(&self, line: &Line, l: u32, near: &Near) -> Option<Held>

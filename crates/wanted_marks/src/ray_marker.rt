@@ -120,6 +120,9 @@ impl<'a> RayMarker<'a> {
         if self.mover.is_outside(line, l, &last, near.reached) {
             return Mark::Clear;
         }
+        if self.mover.is_held_first(line, l, near.reached) {
+            return Mark::Removed;
+        }
         let point = self.grid.point(&self.ray, l);
         self.mover.mark_on(line, l, point, near.reached, asked)
     }

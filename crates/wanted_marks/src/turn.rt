@@ -48,4 +48,12 @@ impl Turn {
     {
         self.n.c[2] as i64
     }
+
+    /// n at the first sample. It fits 64 bits.
+    #[inline]
+    pub fn first_square(&self) -> i64
+        ensures { result ≡ at self.now.n.c 0 }
+    {
+        self.n.c[0] as i64
+    }
 }

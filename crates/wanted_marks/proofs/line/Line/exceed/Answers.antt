@@ -1,4 +1,4 @@
-use Rattle.std.proofs.Common.{◌≡◌, ◌≢◌, ◌-◌, ◌<◌, pos, int_le, int_lt, true, FitsSigned, arith, rules, subst, sym, ap, ⊎_elim, ◌∙◌}
+use Rattle.std.proofs.Common.{◌≡◌, ◌≢◌, ◌<◌, pos, int_le, int_lt, true, FitsSigned, arith, rules, subst, sym, ap, ⊎_elim, ◌∙◌}
 use Rattle.std.proofs.lemmas.Bool.{cases_eq}
 use Rattle.std.proofs.lemmas.Int.{to_z-of_z}
 use mir.Syntax.{w128}
@@ -10,11 +10,11 @@ use Rattle.wanted_marks.proofs.Fitting.{at_quadratics, small_at}
 use Rattle.wanted_marks.proofs.line.Line.exceed.Goals as goal
 
 pub is_above-requires-clause-small : goal.is_above-requires-clause-small
-is_above-requires-clause-small c = let s = c.args.self.now in small_at s.constant.c s.first.c s.second.c (pos c.args.l) (4 - c.loop-k.k) (omega arith) c.requires.fits.width
+is_above-requires-clause-small c = let s = c.args.self.now in small_at s.constant.c s.first.c s.second.c (pos c.args.l) c.loop-k.k (omega arith) c.requires.fits.width
 
 pub returns-then-not-is_above : goal.returns-then-not-is_above
 returns-then-not-is_above c =
-    let s = c.args.self.now in let l = pos c.args.l in let k = 4 - c.loop-k.k in
+    let s = c.args.self.now in let l = pos c.args.l in let k = c.loop-k.k in
     let below : k < 5 = omega arith in
     let limit : FitsSigned w128 (at c.args.limits.now k) = search rules in
     let here = sym (simp to_z-of_z at c.is_above.ensures) ∙ c.if-not-is_above.true in
@@ -28,24 +28,23 @@ returns-then-last-limits c =
     sym (one_at_most (quadratics s.constant.c s.first.c s.second.c l) c.args.limits.now 4 (omega arith) (ap (λ z. int_le z (at c.args.limits.now 4)) (sym c.requires.last) ∙ (simp to_z-of_z at c.if-last-limits.true)))
 
 pub loop-k-init : goal.loop-k-init
-loop-k-init c = λ i below done.
-    let s = c.args.self.now in
-    let limit : FitsSigned w128 (at c.args.limits.now 4) = search rules in
-    let last = c.ranges.last in
-    let e : 4 ≡ i = omega (arith, below, done) in
-    let here = ap (λ z. int_le z (at c.args.limits.now 4)) (sym c.requires.last) ∙ (simp to_z-of_z at c.if-last-limits.false) in
-    subst (λ j. int_lt (at c.args.limits.now j) (coefficient_at s j (pos c.args.l)) ≡ true) e (more (coefficient_at s 4 (pos c.args.l)) (at c.args.limits.now 4) here)
+loop-k-init c = λ i below. absurd (omega (arith, below))
 
 pub loop-k-preserved : goal.loop-k-preserved
-loop-k-preserved c = λ i below done.
-    let s = c.args.self.now in let k = 4 - c.loop-k.k in
+loop-k-preserved c = λ i below.
+    let s = c.args.self.now in let k = c.loop-k.k in
     let limit : FitsSigned w128 (at c.args.limits.now k) = search rules in
     let here = sym (simp to_z-of_z at c.is_above.ensures) ∙ c.if-not-is_above.false in
     ⊎_elim (λ (e : i ≡ k). subst (λ j. int_lt (at c.args.limits.now j) (coefficient_at s j (pos c.args.l)) ≡ true) (sym e) here)
-    (λ (e : i ≢ k). c.loop-k.invariant i below (omega (arith, e, done, c.loop-k-test.true))) (cases_eq i k)
+    (λ (e : i ≢ k). c.loop-k.invariant i (omega (arith, e, below))) (cases_eq i k)
 
 pub returns : goal.returns
 returns c =
     let s = c.args.self.now in let l = pos c.args.l in
+    let limit : FitsSigned w128 (at c.args.limits.now 4) = search rules in
+    let last = c.ranges.last in
+    let here = ap (λ z. int_le z (at c.args.limits.now 4)) (sym c.requires.last) ∙ (simp to_z-of_z at c.if-last-limits.false) in
     sym (all_more (quadratics s.constant.c s.first.c s.second.c l) c.args.limits.now
-    (λ k below. ap (int_lt (at c.args.limits.now k)) (at_quadratics s.constant.c s.first.c s.second.c l k below) ∙ c.loop-k.invariant k below (omega (arith, below, c.loop-k-test.false))))
+    (λ k below. ap (int_lt (at c.args.limits.now k)) (at_quadratics s.constant.c s.first.c s.second.c l k below)
+    ∙ ⊎_elim (λ (e : k ≡ 4). subst (λ j. int_lt (at c.args.limits.now j) (coefficient_at s j l) ≡ true) (sym e) (more (coefficient_at s 4 l) (at c.args.limits.now 4) here))
+    (λ (e : k ≢ 4). c.loop-k.invariant k (omega (arith, below, e, c.loop-k-test.false))) (cases_eq k 4)))

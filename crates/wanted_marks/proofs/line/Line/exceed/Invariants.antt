@@ -1,7 +1,7 @@
-use Rattle.std.proofs.Common.{◌≡◌, ℕ, ◌+◌, ◌<◌, ◌≤◌, pos, int_lt, true}
+use Rattle.std.proofs.Common.{◌≡◌, ℕ, ◌<◌, pos, int_lt, true}
 use Rattle.space.specs.Vectors.{at}
 use Rattle.wanted_marks.specs.Widths.{quadratic}
 use Rattle.wanted_marks.proofs.line.Line.exceed.Given as goal
 
 abbrev pub invariant-loop-k : goal.invariant-loop-k
-invariant-loop-k x = (i : ℕ) → i < 5 → 5 ≤ i + x.k → int_lt (at x.limits i) (quadratic (at x.self.constant.c i) (at x.self.first.c i) (at x.self.second.c i) (pos x.l)) ≡ true
+invariant-loop-k x = (i : ℕ) → i < x.k → int_lt (at x.limits i) (quadratic (at x.self.constant.c i) (at x.self.first.c i) (at x.self.second.c i) (pos x.l)) ≡ true

@@ -1,0 +1,12 @@
+use Rattle.std.proofs.Common.{FitsSigned, arith, pos, rules, ◌∙◌}
+use Rattle.std.proofs.lemmas.Int.{to_z-of_z}
+use mir.Syntax.{w128}
+use Rattle.wanted_marks.proofs.line.Line.first_width.Goals as goal
+
+pub width-requires-clause-small : goal.width-requires-clause-small
+width-requires-clause-small c = c.requires.width 0 (pos 0) (omega arith)
+
+pub returns : goal.returns
+returns c =
+    let f : FitsSigned w128 c.width.result = search rules in
+    to_z-of_z w128 c.width.result f ∙ c.width.ensures
