@@ -1,8 +1,7 @@
-use Rattle.std.proofs.Common.{FitsSigned, rules, subst, sym}
+use Rattle.std.proofs.Common.{FitsSigned, rules}
 use Rattle.std.proofs.lemmas.Int.{to_z-of_z}
 use mir.Syntax.{w64, w128}
 use Rattle.space.specs.Vectors.{at}
-use Rattle.wanted_marks.specs.Peaks.{IsLeast}
 use Rattle.wanted_marks.proofs.Peaking.{least_by}
 use Rattle.wanted_marks.proofs.peak.least_of.Goals as goal
 

@@ -1,7 +1,6 @@
-use Rattle.std.proofs.Common.{[], ◌∷◌, FitsSigned, rules, subst, sym}
+use Rattle.std.proofs.Common.{[], ◌∷◌, FitsSigned, rules}
 use Rattle.std.proofs.lemmas.Int.{to_z-of_z}
 use mir.Syntax.{w64, w128}
-use Rattle.wanted_marks.specs.Peaks.{IsPeak}
 use Rattle.wanted_marks.proofs.Peaking.{peak_by}
 use Rattle.wanted_marks.proofs.peak.peak_of.Goals as goal
 
