@@ -1,14 +1,12 @@
 -- The points of a ray between two that are held at the last sample.
-use Rattle.std.proofs.Common.{◌≡◌, true, Option, None, Some, ℕ, ◌^◌, ◌≤◌, ◌<◌, List, ℤ, pos, ◌+ℤ◌, ◌*ℤ◌, ◌≤ℤ◌, arith, refl, ap, ap₂, subst, sym, ◌∙◌}
+use Rattle.std.proofs.Common.{◌≡◌, true, Option, None, Some, ℕ, ◌^◌, ◌≤◌, ◌<◌, List, ℤ, pos, ◌*ℤ◌, ◌≤ℤ◌, arith, refl, ap, ap₂, subst, sym, ◌∙◌}
 use Rattle.std.specs.Option.{IfSome}
-use Rattle.std.proofs.lemmas.Int.{ints}
 use Rattle.space.specs.Motion.{axis_at, offset_at}
 use Rattle.space.specs.Vectors.{at, spread}
 use Rattle.space.proofs.Naturals.{dot_natural}
 use Rattle.bern_form.specs.Between.{n_between, u_between}
 use Rattle.cutter_slabs.specs.Rising.{IsRising}
 use Rattle.cutter_slabs.specs.Stacks.{inner_stack}
-use Rattle.cutter_marks.specs.MarkBy.{is_possible_by, is_sure_by}
 use Rattle.ray_grid.specs.Lattice.{point_of, points_of}
 use Rattle.width_bisect.specs.Bounds.{meets}
 use Rattle.width_bisect.specs.declared.bounds.Bounds.{Bounds}
@@ -16,9 +14,8 @@ use Rattle.wanted_marks.specs.declared.held.Held.{Held}
 use Rattle.wanted_marks.specs.declared.line.Line.{Line}
 use Rattle.wanted_marks.specs.Lines.{IsLineOf, height_at, coefficient_at}
 use Rattle.wanted_marks.specs.Nears.{AreInnerBounds}
-use Rattle.wanted_marks.specs.Rays.{IsRemovedBy, MoveOf, RayOf, is_possible_in, is_sure_in}
+use Rattle.wanted_marks.specs.Rays.{MoveOf, RayOf, is_possible_in, is_sure_in}
 use Rattle.wanted_marks.specs.Runs.{IsHeldAt, IsHeldIn, IsRun}
-use Rattle.wanted_marks.specs.Widths.{whole_width}
 use Rattle.wanted_marks.proofs.Amid.{IsAmid, is_amid}
 use Rattle.wanted_marks.proofs.Holding.{is_removed, last_width_is}
 use Rattle.wanted_marks.proofs.Running.{run_held}

@@ -1,22 +1,21 @@
 -- Where a point is lower on a whole move than the slabs of a rising stack from some number on begin, and beside the one before it, each is
 -- excluded: those from there on begin no lower, and those before it are no wider.
-use Rattle.std.proofs.Common.{◌≡◌, true, ℕ, zero, suc, ◌+◌, ◌-◌, ◌*◌, ◌^◌, ◌≤◌, ◌<◌, ◌⊎◌, List, [], ◌∷◌, length, get_or, ℤ, pos, negsuc, ◌+ℤ◌, ◌*ℤ◌, ◌-ℤ◌, ◌<ℤ◌, ◌≤ℤ◌, int_lt, inl, inr, arith, refl, ap, ⊎_elim, subst, sym, ◌∙◌}
-use Rattle.std.specs.List.{All}
+use Rattle.std.proofs.Common.{◌≡◌, true, ℕ, zero, suc, ◌-◌, ◌^◌, ◌≤◌, ◌<◌, List, [], ◌∷◌, length, get_or, ℤ, pos, negsuc, ◌+ℤ◌, ◌*ℤ◌, ◌-ℤ◌, ◌<ℤ◌, ◌≤ℤ◌, inl, inr, arith, refl, ap, ⊎_elim, subst, sym, ◌∙◌}
 use Rattle.std.proofs.lemmas.Bool.{cases_lt}
 use Rattle.std.proofs.lemmas.Int.{ints}
 use Rattle.std.proofs.lemmas.List.{get_or_default}
 use Rattle.std.proofs.lemmas.List.Elements.{All-contains}
 use Rattle.space.specs.Vectors.{at}
 use Rattle.space.proofs.Naturals.{square_not_negative}
-use Rattle.space.proofs.Solver.{Term, var, num, add, mul, ring}
+use Rattle.space.proofs.Solver.{var, num, add, mul, ring}
 use Rattle.space.proofs.Terms.{from, sub}
 use Rattle.space.proofs.Tests.{decides_lt}
 use Rattle.bern_form.specs.Between.{height_less, n_between, u_between}
 use Rattle.bern_form.specs.Cells.{scaled_square}
-use Rattle.bern_form.specs.Forms.{all_positive, difference4, lifted, product22, scaled2}
+use Rattle.bern_form.specs.Forms.{all_positive, difference4}
 use Rattle.bern_form.specs.Slab.{SlabSize}
 use Rattle.bern_form.proofs.Decided.{decides_positive}
-use Rattle.bern_form.proofs.Finer.{AllOut, ExcludedBetween}
+use Rattle.bern_form.proofs.Finer.{ExcludedBetween}
 use Rattle.bern_form.proofs.HalfSigns.{all_five}
 use Rattle.bern_form.proofs.Relations.{AllNegative, AllPositive}
 use Rattle.cutter_slabs.specs.Rising.{IsRising}

@@ -365,8 +365,8 @@ impl<'a> MoveMarker<'a> {
     /// the farther of both.
     #[inline]
     pub(crate) fn is_run(&self, low: &Held, high: &Held) -> bool
-        ensures { IsTrue result → (r : RayOf) (line : Line) → r.sweep ≡ self.now → IsLineOf line r → IsHeldAt low.now r → IsHeldAt high.now r
-            → IsRun r low.now.index high.now.index }
+        ensures { IsTrue result → (r : RayOf) (line : Line) → r.sweep ≡ self.now → IsLineOf line r
+            → IsHeldAt low.now r → IsHeldAt high.now r → IsRun r low.now.index high.now.index }
     {
         // A stack rises, which is known where a field of the move is seen.
         let _rising = &self.depth;

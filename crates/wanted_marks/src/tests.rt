@@ -34,10 +34,10 @@ fn is_plain(mover: &MoveMarker, grid: &Grid, ray: &Ray, l: u32, marks: &WordMark
         && has_bit(marks.possible, l) == (plain != Mark::Clear)
 }
 
-/// A ball of 10 mm, upright, that ends at (10 mm, 4 mm, 0). In 8 slabs its corner has bounds at 0.156, 0.625, 1.406 mm and so on. A ray
-/// 4 mm from its axis is within it from 0.835 mm on: its points from 1.5 mm on are in inner slabs from the third one to the one above
-/// the corner, that at 1 mm is in the outer slab that is wide enough from there on, and that at 0.5 mm is outside of its own alone. At the height of 2 mm the inner slab
-/// goes 5.113 mm from the axis, and the outer one 6.614 mm.
+/// A ball of 10 mm, upright, that ends at (10 mm, 4 mm, 0). In 8 slabs its corner has bounds at 0.156, 0.625, 1.406 mm and so on. A
+/// ray 4 mm from its axis is within it from 0.835 mm on: its points from 1.5 mm on are in inner slabs from the third one to the one
+/// above the corner, that at 1 mm is in the outer slab that is wide enough from there on, and that at 0.5 mm is outside of its own.
+/// At the height of 2 mm the inner slab goes 5.113 mm from the axis, and the outer one 6.614 mm.
 #[test]
 fn rays_by_a_ball(rt: HostRuntime) -> Result<(), Fail> {
     let ball = Cutter {

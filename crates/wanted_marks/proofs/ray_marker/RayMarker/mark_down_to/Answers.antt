@@ -1,6 +1,5 @@
-use Rattle.std.proofs.Common.{◌+◌, not, nat_eq, arith, sym, ◌∙◌}
+use Rattle.std.proofs.Common.{◌+◌, arith, sym, ◌∙◌}
 use Rattle.std.proofs.lemmas.Bool.{and_parts}
-use Rattle.vf_spans.specs.Words.{has_bit}
 use Rattle.vf_spans.proofs.HighestBit.{at_most}
 use Rattle.wanted_marks.proofs.ray_marker.RayMarker.mark_down_to.Goals as goal
 
