@@ -1,4 +1,4 @@
-use Rattle.std.proofs.Common.{ℕ, ◌≡◌, ◌*ℤ◌, ◌^◌, pos, true, FitsSigned, rules, ap, subst, sym, ◌∙◌}
+use Rattle.std.proofs.Common.{ℕ, ◌≡◌, ◌*ℤ◌, ◌^◌, pos, true, FitsSigned, of_z, to_z, rules, ap, subst, sym, ◌∙◌}
 use Rattle.std.proofs.lemmas.Int.{to_z-of_z}
 use mir.Syntax.{w64, w128}
 use Rattle.space.specs.Motion.{axis_at, offset_at}
@@ -21,8 +21,9 @@ returns c = λ yes p forms.
     let w = spread (offset_at v.motion p (pos 0) (pos S)) (axis_at v.motion (pos 0) (pos S)) in
     let width : c.first_width.result ≡ pos 4 *ℤ w = c.first_width.ensures ∙ ap (λ l. at l 0) forms.width ∙ first_width_is v.motion p S in
     let stack = c.inner.ensures.stack ∙ ap (λ (y : MoveOf). inner_stack y.cutter y.slabs) c.self.view_is in
+    let u = to_z w64 (of_z w64 c.first_height.result) in let n = to_z w64 (of_z w64 c.first_square.result) in
     let held = sym (c.is_held.ensures w (to_z-of_z w128 c.first_width.result f2 ∙ width)) ∙ yes in
-    is_removed_first v p slabs _ _ stack (ready.both p)
+    is_removed_first v p slabs u n stack (ready.both p)
     (to_z-of_z w64 c.first_height.result f0 ∙ c.first_height.ensures ∙ ap (λ l. at l 0) forms.height)
     (to_z-of_z w64 c.first_square.result f1 ∙ c.first_square.ensures ∙ ap (λ l. at l 0) ready.turn.n_is ∙ ap (λ k. at (n_between v.motion 0 k k) 0) ready.scale_is)
-    (subst (λ (k : ℕ). some_covers (pos k) _ _ w slabs ≡ true) ready.scale_is held)
+    (subst (λ (k : ℕ). some_covers (pos k) u n w slabs ≡ true) ready.scale_is held)
