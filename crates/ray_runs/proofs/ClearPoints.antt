@@ -38,9 +38,10 @@ pub clear_of : (stacks : StacksOf) (m : Motion) (point : ℕ → List ℤ) (S fr
     → ((p : List ℤ) → held_at_sample (inner_stack stacks.cutter stacks.slabs) m p S ≡ true → is_possible (outer_stack stacks.cutter stacks.slabs) (pos (reach_of stacks.cutter)) m p S ≡ true)
     → AreOut (outer_stack stacks.cutter stacks.slabs) m point S from to 0 S → AreClear stacks m point S from to
 clear_of stacks m point S from to both out l after before =
-    let none = out_of_cells (outer_stack stacks.cutter stacks.slabs) (pos (reach_of stacks.cutter)) m point S from to l out after before in
-    (not_sure stacks m (point l) S (unless (held_at_sample (inner_stack stacks.cutter stacks.slabs) m (point l) S) (is_possible (outer_stack stacks.cutter stacks.slabs) (pos (reach_of stacks.cutter)) m (point l) S) (both (point l)) none),
-    not_possible stacks m (point l) S none)
+    let none = out_of_cells (outer_stack stacks.cutter stacks.slabs) (pos (reach_of stacks.cutter)) m point S from to l out after before in (
+      not_sure stacks m (point l) S (unless (held_at_sample (inner_stack stacks.cutter stacks.slabs) m (point l) S) (is_possible (outer_stack stacks.cutter stacks.slabs) (pos (reach_of stacks.cutter)) m (point l) S) (both (point l)) none),
+      not_possible stacks m (point l) S none,
+    )
 
 -- each slab is no wider than any above it
 wider_above : (s : SlabSize) (rest : List SlabSize) (d : SlabSize) (j : ℕ) → IsRising (s ∷ rest) → j < length (s ∷ rest) → IsNoWider (get_or (s ∷ rest) j d).dia s

@@ -64,10 +64,34 @@ fn are_out(
     }
     let middle = j + cells_of(levels - 1);
     let pair = Pair::at_sample(sweep, grid, ray, from, to, middle, scale);
-    if !are_out(sweep, grid, ray, from, to, scale, square, &pair, end, middle, levels - 1) {
+    if !are_out(
+        sweep,
+        grid,
+        ray,
+        from,
+        to,
+        scale,
+        square,
+        &pair,
+        end,
+        middle,
+        levels - 1,
+    ) {
         return false;
     }
-    are_out(sweep, grid, ray, from, to, scale, square, start, &pair, j, levels - 1)
+    are_out(
+        sweep,
+        grid,
+        ray,
+        from,
+        to,
+        scale,
+        square,
+        start,
+        &pair,
+        j,
+        levels - 1,
+    )
 }
 
 /// Whether all points from one index to another are clear of a move: none is sure, and none is possible. A yes is right; a no says
@@ -94,5 +118,7 @@ pub fn are_clear(
     let square = scaled_square(scale, widest(stacks.outer()));
     let start = Pair::at_sample(sweep, grid, ray, from, to, 0, scale);
     let end = Pair::at_sample(sweep, grid, ray, from, to, scale, scale);
-    are_out(sweep, grid, ray, from, to, scale, square, &start, &end, 0, depth)
+    are_out(
+        sweep, grid, ray, from, to, scale, square, &start, &end, 0, depth,
+    )
 }

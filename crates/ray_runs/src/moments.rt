@@ -36,11 +36,7 @@ pub fn height(p: &[i64; 3], a: &[i64; 3]) -> i64
     ensures value { result ≡ dot p.now a.now }
     ensures small { unsigned_abs result ≤ 3 * part_limit }
 {
-    add(
-        part(p[0], a[0]),
-        part(p[1], a[1]),
-        part(p[2], a[2]),
-    )
+    add(part(p[0], a[0]), part(p[1], a[1]), part(p[2], a[2]))
 }
 
 /// A component of a moment.
@@ -124,11 +120,7 @@ fn product(x: &[i64; 3], y: &[i64; 3]) -> i128
     ensures value { result ≡ dot x.now y.now }
     ensures small { unsigned_abs result ≤ 3 * (turn_limit * turn_limit) }
 {
-    add_squares(
-        square(x[0], y[0]),
-        square(x[1], y[1]),
-        square(x[2], y[2]),
-    )
+    add_squares(square(x[0], y[0]), square(x[1], y[1]), square(x[2], y[2]))
 }
 
 /// The sum of three scalar products.

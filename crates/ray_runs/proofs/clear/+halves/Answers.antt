@@ -24,18 +24,68 @@ pub are_out-requires : goal.are_out-requires
 are_out-requires g c =
     let a = c.args in let r = c.requires in let m = a.sweep.now in let point = point_of a.grid.now a.ray.now in let pair = c.at_sample-pair.ensures in let n = a.levels - 1 in
     let h = (halved a.levels n a.j (omega arith)).end in let k = c.cells_of.ensures.cells in let cells = r.cells in
-    let end : a.j + 2 ^ a.levels ≡ (a.j + c.cells_of.result) + 2 ^ n = omega (arith, h, k) in
-    (omega arith, (r.ray, (r.order, (r.within, (r.scale, (r.some, (omega arith, (omega (arith, h, k, cells), (record { first = pair.first; last = pair.last; axis = pair.axis },
-    subst (λ i. IsPairAt m point a.from a.to i a.scale a.end.now.first.offset a.end.now.last.offset a.end.now.first.axis) end r.end)))))))))
+    let end : a.j + 2 ^ a.levels ≡ (a.j + c.cells_of.result) + 2 ^ n = omega (arith, h, k) in (
+      omega arith,
+      (
+        r.ray,
+        (
+          r.order,
+          (
+            r.within,
+            (
+              r.scale,
+              (
+                r.some,
+                (
+                  omega arith,
+                  (
+                    omega (arith, h, k, cells),
+                    (
+                      record { first = pair.first; last = pair.last; axis = pair.axis },
+                      subst (λ i. IsPairAt m point a.from a.to i a.scale a.end.now.first.offset a.end.now.last.offset a.end.now.first.axis) end r.end,
+                    ),
+                  ),
+                ),
+              ),
+            ),
+          ),
+        ),
+      ),
+    )
 
 pub are_out-requires-2 : goal.are_out-requires-2
 are_out-requires-2 g c =
     let a = c.args in let r = c.requires in let m = a.sweep.now in let point = point_of a.grid.now a.ray.now in let pair = c.at_sample-pair.ensures in let n = a.levels - 1 in
     let h = (halved a.levels n a.j (omega arith)).end in let k = c.cells_of.ensures.cells in let cells = r.cells in
     let middle : a.j + c.cells_of.result ≡ a.j + 2 ^ n = omega (arith, k) in let q = c.at_sample-pair.result in
-    let there : IsPairAt m point a.from a.to (a.j + c.cells_of.result) a.scale q.first.offset q.last.offset q.first.axis = record { first = pair.first; last = pair.last; axis = pair.axis } in
-    (omega arith, (r.ray, (r.order, (r.within, (r.scale, (r.some, (omega arith, (omega (arith, h, k, cells), (r.start,
-    subst (λ i. IsPairAt m point a.from a.to i a.scale q.first.offset q.last.offset q.first.axis) middle there)))))))))
+    let there : IsPairAt m point a.from a.to (a.j + c.cells_of.result) a.scale q.first.offset q.last.offset q.first.axis = record { first = pair.first; last = pair.last; axis = pair.axis } in (
+      omega arith,
+      (
+        r.ray,
+        (
+          r.order,
+          (
+            r.within,
+            (
+              r.scale,
+              (
+                r.some,
+                (
+                  omega arith,
+                  (
+                    omega (arith, h, k, cells),
+                    (
+                      r.start,
+                      subst (λ i. IsPairAt m point a.from a.to i a.scale q.first.offset q.last.offset q.first.axis) middle there,
+                    ),
+                  ),
+                ),
+              ),
+            ),
+          ),
+        ),
+      ),
+    )
 
 pub returns : goal.returns
 returns g c = λ yes.

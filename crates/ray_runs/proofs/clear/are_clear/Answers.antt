@@ -34,5 +34,5 @@ returns c = λ yes.
     let whole : AreOut c.outer.result.now m point S a.from a.to 0 S = subst (λ (i : ℕ). AreOut c.outer.result.now m point S a.from a.to 0 i) end out in
     let all : AreOut (outer_stack stacks.cutter stacks.slabs) m point S a.from a.to 0 S = subst (λ (l : List SlabSize). AreOut l m point S a.from a.to 0 S) c.outer.ensures.stack whole in
     let clear = clear_of stacks m point S a.from a.to
-        (λ p h. c.inner-inner.ensures.possible m p S c.cells_of-scale.ensures.some valid (subst (λ (l : List SlabSize). held_at_sample l m p S ≡ true) (sym c.inner-inner.ensures.stack) h)) all in
+    (λ p h. c.inner-inner.ensures.possible m p S c.cells_of-scale.ensures.some valid (subst (λ (l : List SlabSize). held_at_sample l m p S ≡ true) (sym c.inner-inner.ensures.stack) h)) all in
     subst (λ (i : ℕ). AreClear stacks m point i a.from a.to) cells clear
