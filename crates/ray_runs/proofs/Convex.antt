@@ -22,7 +22,7 @@ factor_natural zero z some h = absurd (omega (arith, some))
 factor_natural (suc s) (pos n) some h = omega (arith, ints)
 factor_natural (suc s) (negsuc n) some h = absurd (omega (arith, ints))
 
-squares_rise : (x y : ℤ) → pos 0 ≤ℤ x → x ≤ℤ y → (x *ℤ x) ≤ℤ (y *ℤ y)
+pub squares_rise : (x y : ℤ) → pos 0 ≤ℤ x → x ≤ℤ y → (x *ℤ x) ≤ℤ (y *ℤ y)
 squares_rise (pos x) (pos y) h k = let l : x ≤ y = omega (arith, ints) in let e = mul-le-mul l l in omega (arith, ints, e)
 squares_rise (pos x) (negsuc y) h k = absurd (omega (arith, ints))
 squares_rise (negsuc x) y h k = absurd (omega (arith, ints))

@@ -1,2 +1,7 @@
 pub mod Convex
 pub mod Runs
+pub mod Fits
+pub mod Lagrange
+pub mod Boxes
+pub mod ClearPoints
+pub mod Tests

@@ -8,11 +8,8 @@ use Rattle.cutter_marks.specs.MarkBy.{is_possible_by, is_sure_by}
 abbrev pub AreSure : StacksOf → Motion → (ℕ → List ℤ) → ℕ → ℕ → ℕ → Type 0
 AreSure stacks m point S from to = (l : ℕ) → from ≤ l → l ≤ to → is_sure_by stacks.cutter stacks.slabs m (point l) S ≡ true
 
--- a point is neither sure to be cut by the move nor possible
-pub record IsClear (stacks : StacksOf) (m : Motion) (p : List ℤ) (S : ℕ) : Type 0 where
-  pub not_sure : is_sure_by stacks.cutter stacks.slabs m p S ≡ false
-  pub not_possible : is_possible_by stacks.cutter stacks.slabs m p S ≡ false
-
--- each is
+-- each is neither sure to be cut by the move nor possible
 abbrev pub AreClear : StacksOf → Motion → (ℕ → List ℤ) → ℕ → ℕ → ℕ → Type 0
-AreClear stacks m point S from to = (l : ℕ) → from ≤ l → l ≤ to → IsClear stacks m (point l) S
+AreClear stacks m point S from to =
+    (l : ℕ) → from ≤ l → l ≤ to
+    → (is_sure_by stacks.cutter stacks.slabs m (point l) S ≡ false) × (is_possible_by stacks.cutter stacks.slabs m (point l) S ≡ false)

@@ -1,2 +1,4 @@
 pub mod Sizes
 pub mod Between
+pub mod Moments
+pub mod Apart

@@ -1,8 +1,14 @@
 //! What a long move does to many points of a ray at once: a run of them that it cuts, or that it meets none.
 #![tactic(auto)]
 
+mod apart;
+mod clear;
+mod length;
 mod likely;
+mod moments;
+mod pair;
 mod run;
 mod slab_at;
 
+pub use clear::are_clear;
 pub use run::{Run, sure_run};

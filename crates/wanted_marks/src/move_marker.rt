@@ -13,7 +13,7 @@ use axis_cells::{Mark, Sweep, cells_of};
 use box_bisect::mark_point_uncounted;
 use cutter_slabs::Stacks;
 use ray_grid::{Family, Grid, Ray};
-use ray_runs::{Run, sure_run};
+use ray_runs::{Run, are_clear, sure_run};
 use std::marker::Model;
 use width_bisect::{Asked, Sample, WholeForms, mark_by_forms};
 
@@ -118,6 +118,18 @@ impl<'a> MoveMarker<'a> {
         // A move is valid by its type, which is known where a field of it is seen.
         let _valid = &self.depth;
         sure_run(self.sweep, self.stacks, self.depth, grid, ray, from, to)
+    }
+
+    /// Whether all points of a ray from one index to another are clear of the move, as the halves of its time show.
+    pub(crate) fn are_clear(&self, grid: &Grid, ray: &Ray, from: u32, to: u32) -> bool
+        requires ray { IsRay grid.now ray.now }
+        requires order { from ≤ to }
+        requires within { to < points_of grid.now ray.now.family }
+        ensures { IsTrue result → (l : ℕ) → from ≤ l → l ≤ to → IsClearOf self.now (point_of grid.now ray.now l) }
+    {
+        // A move is valid by its type, which is known where a field of it is seen.
+        let _valid = &self.depth;
+        are_clear(self.sweep, self.stacks, self.depth, grid, ray, from, to)
     }
 
     /// The mark of one point.

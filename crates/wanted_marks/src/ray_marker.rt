@@ -282,7 +282,24 @@ impl<'a> RayMarker<'a> {
         }
     }
 
-    /// The same as `mark_each` for a long move: what one sample shows to be sure isn't asked point by point.
+    /// Whether the points of these bits are clear, for which all points from the lowest of them to the highest have to be.
+    fn are_bits_clear(&self, first: u32, bits: u64) -> bool
+        requires { AreOnRay self.now first bits }
+        ensures { IsTrue result → (b : ℕ) → b < 64 → has_bit bits b ≡ true
+            → IsClearOf self.now.sweep (point_of self.now.grid self.now.ray (first + b)) }
+    {
+        // The points are few by the type, which is known where a field is seen.
+        let _few = &self.ray;
+        if bits == 0 {
+            return true;
+        }
+        let from = first + lowest_bit(bits);
+        let to = first + highest_bit(bits);
+        self.mover.are_clear(self.grid, &self.ray, from, to)
+    }
+
+    /// The same as `mark_each` for a long move: what one sample shows to be sure, or the halves of the time to be clear, isn't asked
+    /// point by point.
     fn mark_by_runs(&self, first: u32, wanted: u64, sure_only: u64) -> WordMarks
         requires { AreOnRay self.now first wanted }
         ensures sure { (b : ℕ) → b < 64 → has_bit result.sure b ≡ is_sure_bit self.now first wanted b }
@@ -291,6 +308,12 @@ impl<'a> RayMarker<'a> {
     {
         let sure = self.sure_bits(first, wanted);
         let rest = bits_without(wanted, sure);
+        if self.are_bits_clear(first, rest) {
+            return WordMarks {
+                sure,
+                possible: sure,
+            };
+        }
         self.mark_each(first, rest, sure_only).with_sure(sure)
     }
 

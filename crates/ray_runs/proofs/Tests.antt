@@ -1,0 +1,60 @@
+-- What the tests of a stretch say.
+use Rattle.std.proofs.Common.{◌≡◌, ℕ, zero, suc, ◌<◌, [], ◌∷◌, List, ℤ, pos, ◌+ℤ◌, ◌*ℤ◌, FitsSigned, to_z, of_z, arith, refl, subst, sym, ap, ◌∙◌}
+use Rattle.std.proofs.lemmas.Int.{to_z-of_z}
+use mir.Syntax.{w64}
+use Rattle.space.specs.Vectors.{at, dot}
+use Rattle.space.proofs.Solver.{Term, var, num, add, mul, ring}
+use Rattle.space.proofs.Terms.{dots, from}
+use Rattle.bern_form.specs.Cells.{dot_on_cell}
+use Rattle.bern_form.specs.Forms.{lifted}
+use Rattle.ray_runs.specs.Apart.{AreAbove, AreBeside}
+use Rattle.ray_runs.specs.Moments.{middle_moment, moment, vector_product}
+
+pub five_cases : (P : ℕ → Type 0) → P 0 → P 1 → P 2 → P 3 → P 4 → (i : ℕ) → i < 5 → P i
+five_cases P a b c d e zero l = a
+five_cases P a b c d e (suc zero) l = b
+five_cases P a b c d e (suc (suc zero)) l = c
+five_cases P a b c d e (suc (suc (suc zero))) l = d
+five_cases P a b c d e (suc (suc (suc (suc zero)))) l = e
+five_cases P a b c d e (suc (suc (suc (suc (suc k))))) l = absurd (omega arith)
+
+above_same : (f r r' x x' y y' z z' : ℤ) → r ≡ r' → x ≡ x' → y ≡ y' → z ≡ z' → AreAbove f r x y z → AreAbove f r' x' y' z'
+above_same f r r' x x' y y' z z' er ex ey ez h =
+    subst (λ t. AreAbove f r' x' y' t) ez (subst (λ t. AreAbove f r' x' t z) ey (subst (λ t. AreAbove f r' t y z) ex (subst (λ t. AreAbove f t x y z) er h)))
+
+pub above_fitting : (f r x y z : ℤ) → FitsSigned w64 f → FitsSigned w64 r → AreAbove (to_z w64 (of_z w64 f)) (to_z w64 (of_z w64 r)) x y z → AreAbove f r x y z
+above_fitting f r x y z hf hr h = subst (λ t. AreAbove t r x y z) (to_z-of_z w64 f hf) (subst (λ t. AreAbove (to_z w64 (of_z w64 f)) t x y z) (to_z-of_z w64 r hr) h)
+
+pub beside_of : (f : ℤ) (p p' q q' a c x0 x1 x2 y0 y1 y2 r : List ℤ) → r ≡ lifted (dot_on_cell a c a c) → x0 ≡ moment p a → x1 ≡ middle_moment p p' a c → x2 ≡ moment p' c
+    → y0 ≡ moment q a → y1 ≡ middle_moment q q' a c → y2 ≡ moment q' c
+    → ((i : ℕ) → i < 5 → AreAbove f (at r i) (at (vector_product x0 x1 x2 x0 x1 x2) i) (at (vector_product x0 x1 x2 y0 y1 y2) i) (at (vector_product y0 y1 y2 y0 y1 y2) i))
+    → AreBeside f p p' q q' a c
+beside_of f p p' q q' a c x0 x1 x2 y0 y1 y2 r er e0 e1 e2 f0 f1 f2 h i l =
+    above_same f _ _ _ _ _ _ _ _ (ap (λ z. at z i) er)
+    (λ k. at (vector_product (e0 k) (e1 k) (e2 k) (e0 k) (e1 k) (e2 k)) i)
+    (λ k. at (vector_product (e0 k) (e1 k) (e2 k) (f0 k) (f1 k) (f2 k)) i)
+    (λ k. at (vector_product (f0 k) (f1 k) (f2 k) (f0 k) (f1 k) (f2 k)) i) (h i l)
+
+-- the squared length of the axis, raised
+abbrev cross_term : ℕ → Term
+cross_term k = add (mul (from 0 k) (from 3 k)) (mul (from 3 k) (from 0 k))
+
+abbrev crosses : Term
+crosses = add (add (cross_term 0) (cross_term 1)) (cross_term 2)
+
+five_same : (x0 x1 x2 x3 x4 y0 y1 y2 y3 y4 : ℤ) → x0 ≡ y0 → x1 ≡ y1 → x2 ≡ y2 → x3 ≡ y3 → x4 ≡ y4
+    → ◌≡◌ {A = List ℤ} (x0 ∷ x1 ∷ x2 ∷ x3 ∷ x4 ∷ []) (y0 ∷ y1 ∷ y2 ∷ y3 ∷ y4 ∷ [])
+five_same x0 x1 x2 x3 x4 y0 y1 y2 y3 y4 e0 e1 e2 e3 e4 = λ i. e0 i ∷ e1 i ∷ e2 i ∷ e3 i ∷ e4 i ∷ []
+
+pub raised_same : (x0 x1 x2 x3 x4 : ℤ) (a c : List ℤ) → x0 ≡ dot a a → x1 ≡ pos 2 *ℤ dot a a +ℤ pos 2 *ℤ dot a c → x2 ≡ (dot a a +ℤ pos 4 *ℤ dot a c) +ℤ dot c c
+    → x3 ≡ pos 2 *ℤ dot a c +ℤ pos 2 *ℤ dot c c → x4 ≡ dot c c → ◌≡◌ {A = List ℤ} (x0 ∷ x1 ∷ x2 ∷ x3 ∷ x4 ∷ []) (lifted (dot_on_cell a c a c))
+raised_same x0 x1 x2 x3 x4 a c e0 e1 e2 e3 e4 =
+    let e = at a 0 ∷ at a 1 ∷ at a 2 ∷ at c 0 ∷ at c 1 ∷ at c 2 ∷ [] in
+    let A = dots (from 0) (from 0) in let B = dots (from 0) (from 3) in let C = dots (from 3) (from 3) in
+    let one = num (pos 1) in let two = num (pos 2) in let four = num (pos 4) in
+    five_same x0 x1 x2 x3 x4 _ _ _ _ _
+    (e0 ∙ ring e A (mul A one) refl)
+    (e1 ∙ ring e (add (mul two A) (mul two B)) (add (mul A two) (mul crosses one)) refl)
+    (e2 ∙ ring e (add (add A (mul four B)) C) (add (add (mul A one) (mul crosses two)) (mul C one)) refl)
+    (e3 ∙ ring e (add (mul two B) (mul two C)) (add (mul crosses one) (mul C two)) refl)
+    (e4 ∙ ring e C (mul C one) refl)

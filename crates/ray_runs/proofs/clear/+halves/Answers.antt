@@ -1,0 +1,96 @@
+use Rattle.std.proofs.Common.{ℕ, ◌+◌, ◌-◌, ◌^◌, ◌≡◌, arith, refl, subst, sym, ◌∙◌}
+use Rattle.std.proofs.lemmas.Int.{to_z-of_z}
+use mir.Syntax.{w64}
+use Rattle.ray_grid.specs.Lattice.{point_of}
+use Rattle.box_bisect.proofs.RayLines.{ray_line}
+use Rattle.box_bisect.proofs.Searching.{halved}
+use Rattle.box_bisect.specs.Between.{IsOutWithin}
+use Rattle.ray_runs.specs.Apart.{AreApart, IsPairAt}
+use Rattle.ray_runs.proofs.Boxes.{apart_out, halves_out}
+use Rattle.ray_runs.proofs.clear.+halves.Goals as goal
+
+pub returns-then-are_apart : goal.returns-then-are_apart
+returns-then-are_apart g c = λ yes.
+    let a = c.args in let r = c.requires in
+    apart_out a.sweep.now (point_of a.grid.now a.ray.now) a.scale a.from a.to a.j a.levels a.square _ _ _ _ _ _ (ray_line a.grid.now a.ray.now) r.some r.start r.end
+    (subst (λ f. AreApart f a.start.now.first.offset a.end.now.first.offset a.start.now.last.offset a.end.now.last.offset a.start.now.first.axis a.end.now.first.axis) (to_z-of_z w64 a.square c.ranges.square) (c.if-are_apart.ensures refl))
+
+pub at_sample-pair-requires-clause-sample : goal.at_sample-pair-requires-clause-sample
+at_sample-pair-requires-clause-sample g c =
+    let h = (halved c.args.levels (c.args.levels - 1) c.args.j (omega arith)).end in let n = c.cells_of.ensures.cells in let cells = c.requires.cells in
+    omega (arith, h, n, cells)
+
+pub are_out-requires : goal.are_out-requires
+are_out-requires g c =
+    let a = c.args in let r = c.requires in let m = a.sweep.now in let point = point_of a.grid.now a.ray.now in let pair = c.at_sample-pair.ensures in let n = a.levels - 1 in
+    let h = (halved a.levels n a.j (omega arith)).end in let k = c.cells_of.ensures.cells in let cells = r.cells in
+    let end : a.j + 2 ^ a.levels ≡ (a.j + c.cells_of.result) + 2 ^ n = omega (arith, h, k) in (
+      omega arith,
+      (
+        r.ray,
+        (
+          r.order,
+          (
+            r.within,
+            (
+              r.scale,
+              (
+                r.some,
+                (
+                  omega arith,
+                  (
+                    omega (arith, h, k, cells),
+                    (
+                      record { first = pair.first; last = pair.last; axis = pair.axis },
+                      subst (λ i. IsPairAt m point a.from a.to i a.scale a.end.now.first.offset a.end.now.last.offset a.end.now.first.axis) end r.end,
+                    ),
+                  ),
+                ),
+              ),
+            ),
+          ),
+        ),
+      ),
+    )
+
+pub are_out-requires-2 : goal.are_out-requires-2
+are_out-requires-2 g c =
+    let a = c.args in let r = c.requires in let m = a.sweep.now in let point = point_of a.grid.now a.ray.now in let pair = c.at_sample-pair.ensures in let n = a.levels - 1 in
+    let h = (halved a.levels n a.j (omega arith)).end in let k = c.cells_of.ensures.cells in let cells = r.cells in
+    let middle : a.j + c.cells_of.result ≡ a.j + 2 ^ n = omega (arith, k) in let q = c.at_sample-pair.result in
+    let there : IsPairAt m point a.from a.to (a.j + c.cells_of.result) a.scale q.first.offset q.last.offset q.first.axis = record { first = pair.first; last = pair.last; axis = pair.axis } in (
+      omega arith,
+      (
+        r.ray,
+        (
+          r.order,
+          (
+            r.within,
+            (
+              r.scale,
+              (
+                r.some,
+                (
+                  omega arith,
+                  (
+                    omega (arith, h, k, cells),
+                    (
+                      r.start,
+                      subst (λ i. IsPairAt m point a.from a.to i a.scale q.first.offset q.last.offset q.first.axis) middle there,
+                    ),
+                  ),
+                ),
+              ),
+            ),
+          ),
+        ),
+      ),
+    )
+
+pub returns : goal.returns
+returns g c = λ yes.
+    let a = c.args in let n = a.levels - 1 in let m = a.sweep.now in let point = point_of a.grid.now a.ray.now in
+    let k = c.cells_of.ensures.cells in let same = to_z-of_z w64 a.square c.ranges.square in
+    let middle : a.j + c.cells_of.result ≡ a.j + 2 ^ n = omega (arith, k) in
+    halves_out a.square m point a.scale a.from a.to a.j a.levels n (a.j + c.cells_of.result) (omega arith) middle (λ slabs most e narrow l after before. c.if-not-are_out.ensures refl slabs most (same ∙ e) narrow l after before)
+    (λ slabs most e narrow l after before. subst (λ i. IsOutWithin slabs m (point l) a.j i a.scale) (sym middle) (c.are_out-2.ensures yes slabs most (same ∙ e) narrow l after before))

@@ -1,0 +1,175 @@
+ghost use Rattle.std.specs.Prelude.{◌≡◌, ◌+◌, ◌<◌, ◌≤◌, IsTrue, ◌+ℤ◌, ◌*ℤ◌, ◌≤ℤ◌, ◌<ℤ◌, ◌*◌, ℕ, pos, unsigned_abs};
+ghost use Rattle.space.specs.Ranges.{IsWithin};
+ghost use Rattle.space.specs.Vectors.{at, dot};
+ghost use Rattle.bern_form.specs.Cells.{dot_on_cell};
+ghost use Rattle.bern_form.specs.Forms.{lifted};
+ghost use Rattle.bern_form.specs.Sizes.{axis_limit, offset_limit};
+ghost use Rattle.ray_runs.specs.Apart.{AreAbove, AreApart, AreBeside, IsBehind};
+ghost use Rattle.ray_runs.specs.Moments.{vector_product};
+ghost use Rattle.ray_runs.specs.Sizes.{part_limit, turn_limit};
+
+use crate::moments::{Moments, height};
+use crate::pair::Pair;
+
+/// The sum of two heights.
+#[inline]
+fn total(x: i64, y: i64) -> i64
+    requires x { unsigned_abs x ≤ 3 * part_limit }
+    requires y { unsigned_abs y ≤ 3 * part_limit }
+    ensures { result ≡ x +ℤ y }
+{
+    x + y
+}
+
+/// Whether a point is behind the tip throughout, by its offsets p and q and the axes a and c at both samples.
+#[inline]
+fn is_behind(p: &[i64; 3], q: &[i64; 3], a: &[i64; 3], c: &[i64; 3]) -> bool
+    requires p { IsWithin offset_limit p.now }
+    requires q { IsWithin offset_limit q.now }
+    requires a { IsWithin axis_limit a.now }
+    requires c { IsWithin axis_limit c.now }
+    ensures { IsTrue result → IsBehind p.now q.now a.now c.now }
+{
+    if 0 <= height(p, a) {
+        return false;
+    }
+    if 0 <= height(q, c) {
+        return false;
+    }
+    if 0 <= total(height(p, c), height(q, a)) {
+        return false;
+    }
+    true
+}
+
+/// Twice the sum of two squared lengths.
+#[inline]
+fn twice(x: i64, y: i64) -> i64
+    requires x { unsigned_abs x ≤ 3 * part_limit }
+    requires y { unsigned_abs y ≤ 3 * part_limit }
+    ensures { result ≡ pos 2 *ℤ x +ℤ pos 2 *ℤ y }
+{
+    2 * x + 2 * y
+}
+
+/// The middle coefficient of three that are raised.
+#[inline]
+fn middle(x: i64, y: i64, z: i64) -> i64
+    requires x { unsigned_abs x ≤ 3 * part_limit }
+    requires y { unsigned_abs y ≤ 3 * part_limit }
+    requires z { unsigned_abs z ≤ 3 * part_limit }
+    ensures { result ≡ (x +ℤ pos 4 *ℤ y) +ℤ z }
+{
+    x + 4 * y + z
+}
+
+/// The squared length of the axis, raised to degree 4, by the axes at both samples.
+#[inline]
+fn raised(a: &[i64; 3], c: &[i64; 3]) -> [i64; 5]
+    requires a { IsWithin axis_limit a.now }
+    requires c { IsWithin axis_limit c.now }
+    ensures { result ≡ lifted (dot_on_cell a.now c.now a.now c.now) }
+{
+    let first = height(a, a);
+    let both = height(a, c);
+    let last = height(c, c);
+    [
+        first,
+        twice(first, both),
+        middle(first, both, last),
+        twice(both, last),
+        last,
+    ]
+}
+
+/// The limit of a coefficient.
+#[inline]
+fn limit_of(square: i64, raised: i64) -> i128
+    ensures { result ≡ square *ℤ raised }
+{
+    i128::from(square) * i128::from(raised)
+}
+
+/// Whether four times a number is above a limit.
+#[inline]
+fn is_above(limit: i128, number: i128) -> bool
+    requires { unsigned_abs number ≤ 9 * (turn_limit * turn_limit) }
+    ensures { IsTrue result → limit <ℤ (pos 4 *ℤ number) }
+{
+    limit < 4 * number
+}
+
+/// Whether one coefficient is above the limit's for both points and between them.
+#[inline]
+fn are_above(x: &Moments, y: &Moments, i: usize, square: i64, raised: i64) -> bool
+    requires { i < 5 }
+    ensures { let x = x.now in let y = y.now in IsTrue result → AreAbove square raised
+        (at (vector_product x.start x.middle x.end x.start x.middle x.end) i)
+        (at (vector_product x.start x.middle x.end y.start y.middle y.end) i)
+        (at (vector_product y.start y.middle y.end y.start y.middle y.end) i) }
+{
+    if raised < 0 {
+        return false;
+    }
+    let limit = limit_of(square, raised);
+    if !is_above(limit, x.times(x, i)) {
+        return false;
+    }
+    if !is_above(limit, y.times(y, i)) {
+        return false;
+    }
+    is_above(limit, x.times(y, i))
+}
+
+/// Whether the points are beside a diameter throughout. The ends of a stretch are the likeliest to be near it.
+#[inline]
+fn are_beside(x: &Moments, y: &Moments, square: i64, raised: &[i64; 5]) -> bool
+    ensures { let x = x.now in let y = y.now in IsTrue result → (i : ℕ) → i < 5 → AreAbove square (at raised.now i)
+        (at (vector_product x.start x.middle x.end x.start x.middle x.end) i)
+        (at (vector_product x.start x.middle x.end y.start y.middle y.end) i)
+        (at (vector_product y.start y.middle y.end y.start y.middle y.end) i) }
+{
+    if !are_above(x, y, 4, square, raised[4]) {
+        return false;
+    }
+    if !are_above(x, y, 0, square, raised[0]) {
+        return false;
+    }
+    if !are_above(x, y, 3, square, raised[3]) {
+        return false;
+    }
+    if !are_above(x, y, 1, square, raised[1]) {
+        return false;
+    }
+    are_above(x, y, 2, square, raised[2])
+}
+
+/// Whether both points are behind the tip throughout.
+#[inline]
+fn are_behind(start: &Pair, end: &Pair) -> bool
+    ensures { let s = start.now in let e = end.now in IsTrue result
+        → (IsBehind s.first.offset e.first.offset s.first.axis e.first.axis
+        × IsBehind s.last.offset e.last.offset s.first.axis e.first.axis) }
+{
+    let a = &start.first.axis;
+    let c = &end.first.axis;
+    if !is_behind(&start.first.offset, &end.first.offset, a, c) {
+        return false;
+    }
+    is_behind(&start.last.offset, &end.last.offset, a, c)
+}
+
+/// Whether all points between two are behind the tip between two samples, or beside a diameter whose scaled square is given.
+pub fn are_apart(start: &Pair, end: &Pair, square: i64) -> bool
+    ensures { let s = start.now in let e = end.now in IsTrue result
+        → AreApart square s.first.offset e.first.offset s.last.offset e.last.offset s.first.axis e.first.axis }
+{
+    if are_behind(start, end) {
+        return true;
+    }
+    let a = &start.first.axis;
+    let c = &end.first.axis;
+    let x = Moments::between(&start.first.offset, &end.first.offset, a, c);
+    let y = Moments::between(&start.last.offset, &end.last.offset, a, c);
+    are_beside(&x, &y, square, &raised(a, c))
+}
