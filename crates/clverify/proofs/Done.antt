@@ -11,8 +11,8 @@ use Rattle.clverify.specs.declared.answer.Answer.{Answer}
 use Rattle.job_inputs.specs.declared.stopped.Stopped.{Stopped}
 
 -- the facts of a task that is the same
-pub facts_made : (done : Result JobFacts NoMemory) (made task : Task) → made ≡ task → IfOk done (λ facts. facts ≡ facts_of made) → IfOk done (λ facts. facts ≡ facts_of task)
-facts_made done made task same facts = subst (λ (t : Task). IfOk done (λ facts. facts ≡ facts_of t)) same facts
+pub facts_made : (done : Result JobFacts NoMemory) (made task : Task) → IfOk done (λ facts. facts ≡ facts_of made) → made ≡ task → IfOk done (λ facts. facts ≡ facts_of task)
+facts_made done made task facts same = subst (λ (t : Task). IfOk done (λ facts. facts ≡ facts_of t)) same facts
 
 -- a report of the facts of a valid task is a true one
 pub report_is_true : (report : Result Answer Stopped) (task : Task) (facts : JobFacts) → facts ≡ facts_of task → IsPlan task.job.plan

@@ -1,5 +1,7 @@
-ghost use Rattle.std.specs.Prelude.{◌≡◌, IfOk, IsTrue};
+ghost use Rattle.std.specs.Prelude.{◌≡◌, All, IfOk, IsTrue, length};
+ghost use Rattle.edit_plan.specs.Queries.{IsQuery};
 ghost use Rattle.job_facts.specs.Facts.{are_answered};
+ghost use Rattle.job_inputs.specs.Ready.{task_ready};
 ghost use Rattle.job_model.specs.Report.{facts_of};
 ghost use Rattle.job_model.specs.Tasks.{IsPlan};
 ghost use Rattle.clverify.specs.Asked.{AreWorkers};
@@ -13,18 +15,18 @@ use std::thread::Threads;
 use vf_io::NoMemory;
 use worker_gate::Gate;
 
-/// Does the task by so many workers, and gives what is so of its job.
-pub(crate) fn do_task<R: Threads + Wait + Sync, G: Gate + Sync>(
+/// Does a task that is ready.
+fn do_ready<R: Threads + Wait + Sync, G: Gate + Sync>(
     rt: &R,
     alloc: Global,
-    inputs: TaskInputs,
+    ready: ReadyTask,
     workers: u32,
     gate: &G,
 ) -> Result<Facts, NoMemory>
-    requires { AreWorkers workers }
-    ensures facts { IfOk result (λ facts. facts ≡ facts_of inputs) }
+    requires queries { All (IsQuery ready.plan.grid (length ready.plan.edits)) ready.queries }
+    requires workers { AreWorkers workers }
+    ensures facts { IfOk result (λ facts. facts ≡ facts_of (task_ready ready)) }
     ensures answered { IfOk result (λ facts. IsTrue (are_answered facts.answers)) }
-    ensures valid { IfOk result (λ _. IsPlan inputs.job.plan) }
 {
     let ReadyTask {
         plan,
@@ -33,7 +35,7 @@ pub(crate) fn do_task<R: Threads + Wait + Sync, G: Gate + Sync>(
         fixture,
         passed,
         queries,
-    } = make_ready(alloc, inputs)?;
+    } = ready;
     let bodies = JobBodies {
         stock,
         part,
@@ -49,4 +51,21 @@ pub(crate) fn do_task<R: Threads + Wait + Sync, G: Gate + Sync>(
         workers,
         gate,
     )
+}
+
+/// Does the task by so many workers, and gives what is so of its job.
+pub(crate) fn do_task<R: Threads + Wait + Sync, G: Gate + Sync>(
+    rt: &R,
+    alloc: Global,
+    inputs: TaskInputs,
+    workers: u32,
+    gate: &G,
+) -> Result<Facts, NoMemory>
+    requires { AreWorkers workers }
+    ensures facts { IfOk result (λ facts. facts ≡ facts_of inputs) }
+    ensures answered { IfOk result (λ facts. IsTrue (are_answered facts.answers)) }
+    ensures valid { IfOk result (λ _. IsPlan inputs.job.plan) }
+{
+    let ready = make_ready(alloc, inputs)?;
+    do_ready(rt, alloc, ready, workers, gate)
 }
