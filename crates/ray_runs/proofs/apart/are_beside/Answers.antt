@@ -1,4 +1,4 @@
-use Rattle.std.proofs.Common.{ℕ, ℤ, FitsSigned, refl, rules}
+use Rattle.std.proofs.Common.{FitsSigned, refl, rules}
 use mir.Syntax.{w64}
 use Rattle.space.specs.Vectors.{at}
 use Rattle.ray_runs.specs.Apart.{AreAbove}
