@@ -1,5 +1,5 @@
 -- What is apart is excluded on the box of the stretch and the points, for every slab that is no wider.
-use Rattle.std.proofs.Common.{◌≡◌, Bool, true, false, not, ◌||◌, ◌&&◌, ℕ, zero, suc, ◌+◌, ◌-◌, ◌*◌, ◌^◌, ◌<◌, ◌≤◌, [], ◌∷◌, List, get_or, ℤ, pos, ◌+ℤ◌, ◌*ℤ◌, ◌-ℤ◌, ◌≤ℤ◌, ◌<ℤ◌, inl, inr, arith, refl, subst, sym, ap, ⊎_elim, ◌∙◌}
+use Rattle.std.proofs.Common.{◌≡◌, Bool, true, false, not, ℕ, zero, suc, ◌+◌, ◌-◌, ◌^◌, ◌<◌, [], ◌∷◌, List, get_or, ℤ, pos, ◌+ℤ◌, ◌*ℤ◌, ◌-ℤ◌, ◌≤ℤ◌, ◌<ℤ◌, inl, inr, arith, refl, subst, sym, ap, ⊎_elim, ◌∙◌}
 use Rattle.std.specs.List.{All, list_any}
 use Rattle.std.proofs.lemmas.Int.{ints}
 use Rattle.std.proofs.lemmas.List.Folds.{list_any_none}
@@ -10,19 +10,18 @@ use Rattle.space.proofs.Terms.{sub, dots, from}
 use Rattle.bern_form.specs.Between.{d_between, is_left_between, n_between, u_between}
 use Rattle.bern_form.specs.Cells.{dot_on_cell, scaled_square}
 use Rattle.bern_form.specs.Forms.{lifted}
-use Rattle.bern_form.specs.Grids.{columns21, rows_negative, rows_positive}
+use Rattle.bern_form.specs.Grids.{columns21}
 use Rattle.bern_form.specs.Marks.{some_holds}
 use Rattle.bern_form.specs.Slab.{SlabSize}
 use Rattle.bern_form.proofs.HalfSigns.{all_three}
 use Rattle.bern_form.proofs.Relations.{AllNegative, AllPositive}
-use Rattle.bern_form.proofs.Squares.{decides_rows_negative, decides_rows_positive}
 use Rattle.box_bisect.specs.Between.{IsOutWithin}
 use Rattle.box_bisect.specs.RayBoxes.{grid_less, is_excluded_across, is_excluded_in_box, is_undecided, width_column}
 use Rattle.box_bisect.specs.Stretches.{AreFormsBetween}
 use Rattle.box_bisect.proofs.RayExcluded.{decides_across}
 use Rattle.box_bisect.proofs.RayLines.{IsLine, decided_at}
 use Rattle.box_bisect.proofs.Searching.{dropped, halved, out_both}
-use Rattle.ray_runs.specs.Apart.{AreAbove, AreApart, AreBeside, AreOut, AreOutBeside, IsBehind, IsNoWider, IsPairAt}
+use Rattle.ray_runs.specs.Apart.{AreAbove, AreApart, AreBeside, AreOutBeside, IsBehind, IsNoWider, IsPairAt}
 use Rattle.ray_runs.specs.Moments.{moment_product}
 use Rattle.ray_runs.proofs.Convex.{product_natural, squares_rise}
 use Rattle.ray_runs.proofs.Lagrange.{lagrange_at, less_squares}

@@ -2,7 +2,7 @@
 -- e n - u v.
 use Rattle.std.proofs.Common.{◌≡◌, ℕ, zero, suc, ◌<◌, [], ◌∷◌, List, ℤ, arith, refl}
 use Rattle.space.specs.Vectors.{at}
-use Rattle.space.proofs.Solver.{Term, var, add, mul, ring}
+use Rattle.space.proofs.Solver.{Term, add, mul, ring}
 use Rattle.space.proofs.Terms.{sub, dots, from}
 use Rattle.bern_form.specs.Cells.{dot_on_cell}
 use Rattle.bern_form.specs.Forms.{difference4, product22}

@@ -4,4 +4,4 @@ pub mod Fits
 pub mod Lagrange
 pub mod Boxes
 pub mod ClearPoints
-pub mod Tests
+pub mod StretchTests

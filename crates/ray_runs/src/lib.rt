@@ -12,3 +12,6 @@ mod slab_at;
 
 pub use clear::are_clear;
 pub use run::{Run, sure_run};
+
+#[cfg(test)]
+mod tests;

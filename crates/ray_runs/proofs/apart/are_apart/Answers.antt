@@ -2,7 +2,7 @@ use Rattle.std.proofs.Common.{ℤ, inr, subst}
 use Rattle.std.proofs.lemmas.Int.{to_z-of_z}
 use mir.Syntax.{w64}
 use Rattle.ray_runs.specs.Apart.{AreBeside}
-use Rattle.ray_runs.proofs.Tests.{beside_of}
+use Rattle.ray_runs.proofs.StretchTests.{beside_of}
 use Rattle.ray_runs.proofs.apart.are_apart.Goals as goal
 
 pub returns : goal.returns

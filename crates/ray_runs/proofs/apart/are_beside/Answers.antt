@@ -1,9 +1,9 @@
-use Rattle.std.proofs.Common.{ℕ, ℤ, FitsSigned, refl, rules}
+use Rattle.std.proofs.Common.{FitsSigned, refl, rules}
 use mir.Syntax.{w64}
 use Rattle.space.specs.Vectors.{at}
 use Rattle.ray_runs.specs.Apart.{AreAbove}
 use Rattle.ray_runs.specs.Moments.{vector_product}
-use Rattle.ray_runs.proofs.Tests.{above_fitting, five_cases}
+use Rattle.ray_runs.proofs.StretchTests.{above_fitting, five_cases}
 use Rattle.ray_runs.proofs.apart.are_beside.Goals as goal
 
 pub returns : goal.returns

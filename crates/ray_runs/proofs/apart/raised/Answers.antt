@@ -1,7 +1,7 @@
-use Rattle.std.proofs.Common.{◌≡◌, ℤ, pos, ◌+ℤ◌, ◌*ℤ◌, FitsSigned, rules, ◌∙◌}
+use Rattle.std.proofs.Common.{◌≡◌, pos, ◌+ℤ◌, ◌*ℤ◌, FitsSigned, rules, ◌∙◌}
 use Rattle.std.proofs.lemmas.Int.{to_z-of_z}
 use mir.Syntax.{w64}
-use Rattle.ray_runs.proofs.Tests.{raised_same}
+use Rattle.ray_runs.proofs.StretchTests.{raised_same}
 use Rattle.ray_runs.proofs.apart.raised.Goals as goal
 
 pub returns : goal.returns

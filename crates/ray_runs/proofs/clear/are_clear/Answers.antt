@@ -1,5 +1,4 @@
-use Rattle.std.proofs.Common.{◌≡◌, true, ℕ, ◌+◌, ◌^◌, List, ℤ, FitsSigned, arith, rules, sym, subst, ◌∙◌}
-use Rattle.std.specs.List.{All}
+use Rattle.std.proofs.Common.{◌≡◌, true, ℕ, ◌+◌, ◌^◌, List, FitsSigned, arith, rules, sym, subst, ◌∙◌}
 use Rattle.std.proofs.lemmas.Int.{to_z-of_z}
 use mir.Syntax.{w32, w64}
 use Rattle.space.specs.Motion.{IsSweep}
@@ -8,7 +7,7 @@ use Rattle.bern_form.specs.Marks.{held_at_sample}
 use Rattle.bern_form.specs.Slab.{SlabSize}
 use Rattle.cutter_slabs.specs.Stacks.{outer_stack}
 use Rattle.ray_grid.specs.Lattice.{point_of}
-use Rattle.ray_runs.specs.Apart.{AreOut, IsNoWider, IsPairAt}
+use Rattle.ray_runs.specs.Apart.{AreOut, IsPairAt}
 use Rattle.ray_runs.specs.Between.{AreClear}
 use Rattle.ray_runs.proofs.ClearPoints.{clear_of}
 use Rattle.ray_runs.proofs.clear.are_clear.Goals as goal

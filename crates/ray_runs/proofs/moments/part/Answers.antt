@@ -1,4 +1,4 @@
-use Rattle.std.proofs.Common.{◌≤◌, ◌*◌, ℤ, ◌*ℤ◌, FitsSigned, unsigned_abs, to_z, of_z, arith, ap, ap₂, subst, sym, ◌∙◌}
+use Rattle.std.proofs.Common.{◌≤◌, ℤ, ◌*ℤ◌, FitsSigned, unsigned_abs, to_z, of_z, arith, ap₂, subst, sym, ◌∙◌}
 use Rattle.std.proofs.lemmas.Int.{ints, to_z-of_z}
 use borrow.Author.Differences.{abs_is}
 use mir.Syntax.{w64}
