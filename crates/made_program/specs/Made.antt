@@ -28,7 +28,8 @@ place_from state = place_by (draw 1 state) (draw 2 state) (draw 3 state) (draw 4
 unfoldable pub place_after : ℕ → ℕ → Place
 place_after number zero = first_place
 place_after number (suc i) =
-    place_by (draw (5 * i + 1) number) (draw (5 * i + 2) number) (draw (5 * i + 3) number) (draw (5 * i + 4) number) (draw (5 * i + 5) number)
+    place_by (draw (5 * i + 1) number) (draw (5 * i + 2) number) (draw (5 * i + 3) number)
+    (draw (5 * i + 4) number) (draw (5 * i + 5) number)
 
 -- the move with i ahead of it, on the line of its own number
 abbrev pub made_move : ℕ → ℕ → Move
