@@ -1,13 +1,14 @@
 -- Between two points of a ray that a cylinder holds it holds every point.
 use Rattle.std.proofs.Common.{◌≡◌, ◌⊎◌, inl, inr, ⊎_elim, true, ℕ, ◌-◌, ◌≤◌, ℤ, pos, negsuc, ◌+ℤ◌, ◌*ℤ◌, ◌-ℤ◌, ◌≤ℤ◌, ◌<ℤ◌, arith, sym, subst}
 use Rattle.std.proofs.lemmas.Int.{ints}
+use Rattle.space.proofs.Tests.{decides_le}
 use Rattle.near_points.specs.declared.hold.Hold.{Hold}
 use Rattle.near_points.specs.declared.stance.Stance.{Stance}
 use Rattle.near_points.specs.declared.step.Step.{Step}
-use Rattle.near_points.specs.Lines.{is_held_after, second_at, third_at, width_at}
+use Rattle.near_points.specs.Lines.{is_held_after, is_high_after, is_narrow_after, second_at, third_at, width_at}
 use Rattle.near_points.proofs.Growing.{growth_at, grows_back, grows_on, less_between, more_between, two_squares}
 use Rattle.near_points.proofs.Leaving.{on_to}
-use Rattle.near_points.proofs.Told.{held_by_parts, held_parts}
+use Rattle.near_points.proofs.Told.{held_by_parts, high_parts}
 
 sign : (g : ℤ) → (pos 0 ≤ℤ g) ⊎ (g <ℤ pos 0)
 sign (pos n) = inl (omega (arith, ints))
@@ -43,9 +44,12 @@ at_most_between : (h t y : ℤ) (l x m : ℕ) → l ≤ x → x ≤ m → (h +�
 at_most_between h t y l x m from to first last =
     let less = less_between h t (y +ℤ pos 1) l x m from to (omega (arith, ints, first)) (omega (arith, ints, last)) in omega (arith, ints, less)
 
-pub held_amid : (hold : Hold) (s : Stance) (t : Step) (l x m : ℕ) → l ≤ x → x ≤ m → is_held_after hold s t (pos l) ≡ true → is_held_after hold s t (pos m) ≡ true
-    → is_held_after hold s t (pos x) ≡ true
-held_amid hold s t l x m from to first last =
-    let a = held_parts hold s t (pos l) first in let b = held_parts hold s t (pos m) last in
-    held_by_parts hold s t (pos x) (narrow_between s t hold.square l x m from to a.0 b.0) (at_least_between s.height t.height hold.least l x m from to a.1 b.1)
-    (at_most_between s.height t.height hold.most l x m from to a.2 b.2)
+-- a point is held that lies between two heights that are held, and between two moments that aren't too long
+pub held_amid : (hold : Hold) (s : Stance) (t : Step) (bottom from x to top : ℕ) → bottom ≤ from → from ≤ x → x ≤ to → to ≤ top → is_high_after hold s t (pos bottom) ≡ true → is_high_after hold s t (pos top) ≡ true
+    → is_narrow_after hold s t (pos from) ≡ true → is_narrow_after hold s t (pos to) ≡ true → is_held_after hold s t (pos x) ≡ true
+held_amid hold s t bottom from x to top first before behind last low high near far =
+    let a = high_parts hold s t (pos bottom) low in let b = high_parts hold s t (pos top) high in
+    let up : bottom ≤ x = omega (arith, first, before) in let down : x ≤ top = omega (arith, behind, last) in
+    held_by_parts hold s t (pos x)
+    (narrow_between s t hold.square from x to before behind ((decides_le (width_at s t (pos from)) hold.square).0 near) ((decides_le (width_at s t (pos to)) hold.square).0 far))
+    (at_least_between s.height t.height hold.least bottom x top up down a.0 b.0) (at_most_between s.height t.height hold.most bottom x top up down a.1 b.1)

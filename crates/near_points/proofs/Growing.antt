@@ -1,5 +1,5 @@
 -- The square of the moment of the points of a ray is a quadratic in their index, and the height is linear in it.
-use Rattle.std.proofs.Common.{◌≡◌, ℕ, zero, suc, ◌+◌, ◌*◌, ◌≤◌, [], ◌∷◌, ℤ, pos, negsuc, ◌+ℤ◌, ◌*ℤ◌, ◌-ℤ◌, ◌≤ℤ◌, ◌<ℤ◌, unsigned_abs, arith, refl, ap, ap₂, subst, ◌∙◌}
+use Rattle.std.proofs.Common.{◌≡◌, ℕ, zero, suc, ◌+◌, ◌-◌, ◌*◌, ◌<◌, ◌≤◌, [], ◌∷◌, ℤ, pos, negsuc, ◌+ℤ◌, ◌*ℤ◌, ◌-ℤ◌, ◌≤ℤ◌, ◌<ℤ◌, unsigned_abs, arith, refl, ap, ap₂, subst, ◌∙◌}
 use Rattle.std.proofs.lemmas.Int.{ints}
 use Rattle.std.proofs.Math.Nat.{mul-le-mul}
 use borrow.Author.Differences.{abs_is}
@@ -38,6 +38,30 @@ pub height_next : (s : Stance) (t : Step) (l : ℤ) → height_at s t l +ℤ t.h
 height_next s t l =
     let H = var 0 in let T = var 1 in let L = var 2 in
     ring (s.height ∷ t.height ∷ l ∷ []) (add (add H (mul L T)) T) (add H (mul (add L (num (pos 1))) T)) refl
+
+-- what the square grows by to the point before
+abbrev pub back_at : Stance → Step → ℤ → ℤ
+back_at s t l = (t.second *ℤ t.second +ℤ t.third *ℤ t.third) -ℤ pos 2 *ℤ (second_at s t l *ℤ t.second +ℤ third_at s t l *ℤ t.third)
+
+abbrev back_term : Term → Term → Term → Term → Term
+back_term p q b d = sub (add (square b) (square d)) (mul (num (pos 2)) (add (mul p b) (mul q d)))
+
+pub width_back : (s : Stance) (t : Step) (l : ℤ) → width_at s t l +ℤ back_at s t l ≡ width_at s t (l -ℤ pos 1)
+width_back s t l =
+    let A = var 0 in let P = var 1 in let Q = var 2 in let B = var 3 in let D = var 4 in let L = var 5 in
+    let p = add P (mul L B) in let q = add Q (mul L D) in let n = sub L (num (pos 1)) in
+    ring (s.along ∷ s.second ∷ s.third ∷ t.second ∷ t.third ∷ l ∷ []) (add (width_term A p q) (back_term p q B D)) (width_term A (add P (mul n B)) (add Q (mul n D))) refl
+
+pub back_next : (s : Stance) (t : Step) (l : ℤ) → back_at s t l +ℤ pos 2 *ℤ (t.second *ℤ t.second +ℤ t.third *ℤ t.third) ≡ back_at s t (l -ℤ pos 1)
+back_next s t l =
+    let P = var 0 in let Q = var 1 in let B = var 2 in let D = var 3 in let L = var 4 in let n = sub L (num (pos 1)) in
+    ring (s.second ∷ s.third ∷ t.second ∷ t.third ∷ l ∷ []) (add (back_term (add P (mul L B)) (add Q (mul L D)) B D) (mul (num (pos 2)) (add (square B) (square D))))
+    (back_term (add P (mul n B)) (add Q (mul n D)) B D) refl
+
+pub height_back : (s : Stance) (t : Step) (l : ℤ) → height_at s t l -ℤ t.height ≡ height_at s t (l -ℤ pos 1)
+height_back s t l =
+    let H = var 0 in let T = var 1 in let L = var 2 in
+    ring (s.height ∷ t.height ∷ l ∷ []) (sub (add H (mul L T)) T) (add H (mul (sub L (num (pos 1))) T)) refl
 
 -- the quadratic n steps on
 grown : (a p q b d n : ℤ)
@@ -128,6 +152,9 @@ slope_small p q b d hp hq hb hd =
 pub growth_small : (c g : ℤ) → unsigned_abs c ≤ 2 * (moment_limit * moment_limit) → unsigned_abs g ≤ 4 * (moment_limit * moment_limit) → unsigned_abs (c +ℤ g) ≤ 6 * (moment_limit * moment_limit)
 growth_small c g h k = let s = abs_add c g in omega (arith, s, h, k)
 
+less_small : (c g : ℤ) → unsigned_abs c ≤ 2 * (moment_limit * moment_limit) → unsigned_abs g ≤ 4 * (moment_limit * moment_limit) → unsigned_abs (c -ℤ g) ≤ 6 * (moment_limit * moment_limit)
+less_small c g h k = omega (arith, ints, abs_is c, abs_is g, abs_is (c -ℤ g), h, k)
+
 -- sums of equal parts
 pub three_by : (a b c x y z : ℤ) → a ≡ x → b ≡ y → c ≡ z → (a +ℤ b) +ℤ c ≡ (x +ℤ y) +ℤ z
 three_by a b c x y z e f g = ap₂ (λ u v. (u +ℤ v) +ℤ c) e f ∙ ap (λ u. (x +ℤ y) +ℤ u) g
@@ -143,5 +170,14 @@ growth_fits s t l h =
     growth_small (t.second *ℤ t.second +ℤ t.third *ℤ t.third) (pos 2 *ℤ (second_at s t l *ℤ t.second +ℤ third_at s t l *ℤ t.third))
     (subst (λ (z : ℤ). unsigned_abs z ≤ 2 * (moment_limit * moment_limit)) t.curve_is t.curve_small) (slope_small (second_at s t l) (third_at s t l) t.second t.third h.second h.third t.second_small t.third_small)
 
-pub next_index : (start b : ℕ) → pos (start + b) +ℤ pos 1 ≡ pos (start + (b + 1))
-next_index start b = omega (arith, ints)
+pub back_fits : (s : Stance) (t : Step) (l : ℤ) → FitsAfter s t l → unsigned_abs (back_at s t l) ≤ 6 * (moment_limit * moment_limit)
+back_fits s t l h =
+    let slope = pos 2 *ℤ (second_at s t l *ℤ t.second +ℤ third_at s t l *ℤ t.third) in
+    less_small (t.second *ℤ t.second +ℤ t.third *ℤ t.third) slope
+    (subst (λ (z : ℤ). unsigned_abs z ≤ 2 * (moment_limit * moment_limit)) t.curve_is t.curve_small) (slope_small (second_at s t l) (third_at s t l) t.second t.third h.second h.third t.second_small t.third_small)
+
+pub next_index : (l : ℕ) → pos l +ℤ pos 1 ≡ pos (l + 1)
+next_index l = omega (arith, ints)
+
+pub index_before : (l : ℕ) → 0 < l → pos l -ℤ pos 1 ≡ pos (l - 1)
+index_before l some = omega (arith, ints, some)

@@ -1,6 +1,6 @@
 pub mod Growing
 pub mod Told
-pub mod Taken
+pub mod Walking
 pub mod Leaving
 pub mod Between
 pub mod Turning

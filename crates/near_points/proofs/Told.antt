@@ -1,17 +1,19 @@
 -- What the tests of a point say.
-use Rattle.std.proofs.Common.{◌≡◌, ◌⊎◌, inl, inr, Bool, true, false, ◌&&◌, ℕ, suc, ◌*◌, ◌≤◌, ℤ, pos, negsuc, ◌*ℤ◌, ◌-ℤ◌, ◌≤ℤ◌, ◌<ℤ◌, int_le, arith, refl, ap, subst, ◌∙◌}
+use Rattle.std.proofs.Common.{◌≡◌, inl, inr, Bool, true, false, ◌&&◌, ℕ, ◌≤◌, ℤ, pos, ◌≤ℤ◌, ◌<ℤ◌, int_le, arith, refl, ap, subst, ◌∙◌}
 use Rattle.std.proofs.lemmas.Int.{ints}
 use Rattle.std.proofs.lemmas.Bool.{and_parts}
-use Rattle.std.proofs.Math.Nat.{mul-le-mul}
 use Rattle.space.proofs.Tests.{decides_le}
 use Rattle.near_points.specs.declared.hold.Hold.{Hold}
 use Rattle.near_points.specs.declared.stance.Stance.{Stance}
 use Rattle.near_points.specs.declared.step.Step.{Step}
-use Rattle.near_points.specs.Lines.{AreBeyond, height_at, is_held_after, width_at}
+use Rattle.near_points.specs.Lines.{AreBeyond, height_at, is_held_after, is_high_after, is_narrow_after, width_at}
 use Rattle.near_points.proofs.Growing.{less_between, more_between}
 
 pub above_false : (x y : ℤ) → y <ℤ x → int_le x y ≡ false
 above_false x y h = grind (arith, ints)
+
+pub below_if_not : (x y : ℤ) → int_le x y ≡ false → y <ℤ x
+below_if_not x y h = grind (arith, ints)
 
 pub first_false : (a b : Bool) → a ≡ false → (a && b) ≡ false
 first_false a b h = ap (λ x. x && b) h
@@ -20,10 +22,7 @@ pub second_false : (a b : Bool) → b ≡ false → (a && b) ≡ false
 second_false true b h = h
 second_false false b h = refl
 
--- a moment that is too long, and a height that is too low or too high
-pub too_wide : (hold : Hold) (s : Stance) (t : Step) (l : ℤ) → hold.square <ℤ width_at s t l → is_held_after hold s t l ≡ false
-too_wide hold s t l h = first_false (int_le (width_at s t l) hold.square) (int_le hold.least (height_at s t l) && int_le (height_at s t l) hold.most) (above_false (width_at s t l) hold.square h)
-
+-- a height that is too low or too high
 too_low : (hold : Hold) (s : Stance) (t : Step) (l : ℤ) → height_at s t l <ℤ hold.least → is_held_after hold s t l ≡ false
 too_low hold s t l h =
     second_false (int_le (width_at s t l) hold.square) (int_le hold.least (height_at s t l) && int_le (height_at s t l) hold.most)
@@ -56,10 +55,15 @@ held_by_parts hold s t l w low high =
     both_true (int_le (width_at s t l) hold.square) (int_le hold.least (height_at s t l) && int_le (height_at s t l) hold.most) ((decides_le (width_at s t l) hold.square).1 w)
     (both_true (int_le hold.least (height_at s t l)) (int_le (height_at s t l) hold.most) ((decides_le hold.least (height_at s t l)).1 low) ((decides_le (height_at s t l) hold.most).1 high))
 
--- a number that is further from zero than another has a greater square
-pub longer : (m x : ℤ) → pos 0 ≤ℤ m → (m <ℤ x) ⊎ (x <ℤ (pos 0 -ℤ m)) → (m *ℤ m) <ℤ (x *ℤ x)
-longer (pos m) (pos n) h (inl more) = let p : suc m * suc m ≤ n * n = mul-le-mul (omega (arith, ints, more)) (omega (arith, ints, more)) in omega (arith, ints, p)
-longer (pos m) (negsuc n) h (inl more) = absurd (omega (arith, ints, more))
-longer (pos m) (pos n) h (inr less) = absurd (omega (arith, ints, less))
-longer (pos m) (negsuc n) h (inr less) = let p : suc m * suc m ≤ suc n * suc n = mul-le-mul (omega (arith, ints, less)) (omega (arith, ints, less)) in omega (arith, ints, p)
-longer (negsuc m) x h k = absurd (omega (arith, ints, h))
+-- a height that is held, by its parts
+pub high_parts : (hold : Hold) (s : Stance) (t : Step) (l : ℤ) → is_high_after hold s t l ≡ true → (hold.least ≤ℤ height_at s t l) × (height_at s t l ≤ℤ hold.most)
+high_parts hold s t l h =
+    let two = and_parts (int_le hold.least (height_at s t l)) (int_le (height_at s t l) hold.most) h in
+    ((decides_le hold.least (height_at s t l)).0 two.0, (decides_le (height_at s t l) hold.most).0 two.1)
+
+-- a point whose moment is too long, or whose height isn't held
+pub unheld_wide : (hold : Hold) (s : Stance) (t : Step) (l : ℤ) → is_narrow_after hold s t l ≡ false → is_held_after hold s t l ≡ false
+unheld_wide hold s t l h = first_false (is_narrow_after hold s t l) (is_high_after hold s t l) h
+
+pub unheld_beyond : (hold : Hold) (s : Stance) (t : Step) (l : ℤ) → is_high_after hold s t l ≡ false → is_held_after hold s t l ≡ false
+unheld_beyond hold s t l h = second_false (is_narrow_after hold s t l) (is_high_after hold s t l) h

@@ -1,5 +1,5 @@
 -- The points of the rays of a strip against a cylinder: from ray to ray and from point to point their stances grow evenly.
-use Rattle.std.proofs.Common.{◌≡◌, ℕ, ◌*◌, ◌^◌, ◌≤◌, ◌<◌, List, [], ◌∷◌, ℤ, pos, ◌+ℤ◌, ◌*ℤ◌, ◌-ℤ◌, ◌≤ℤ◌, ◌<ℤ◌, unsigned_abs, arith, refl, sym, ap, ap₂, subst, ◌∙◌}
+use Rattle.std.proofs.Common.{◌≡◌, ℕ, ◌*◌, ◌^◌, ◌≤◌, ◌<◌, List, [], ◌∷◌, ℤ, pos, ◌+ℤ◌, ◌*ℤ◌, ◌-ℤ◌, ◌≤ℤ◌, unsigned_abs, arith, refl, sym, ap, ap₂, subst, ◌∙◌}
 use Rattle.std.proofs.lemmas.Int.{ints}
 use Rattle.std.proofs.Math.Nat.{mul-le-mul}
 use borrow.Author.Differences.{abs_is as size_is}
@@ -7,7 +7,7 @@ use Rattle.space.specs.Ranges.{IsPoint, IsWithin, metre}
 use Rattle.space.specs.Vectors.{at, dot}
 use Rattle.space.proofs.Solver.{Term, var, num, add, mul, ring}
 use Rattle.space.proofs.Terms.{dots, from, square, sub}
-use Rattle.space.proofs.Naturals.{abs_mul, abs_sub, square_not_negative}
+use Rattle.space.proofs.Naturals.{abs_mul, abs_sub}
 use Rattle.bern_form.proofs.Sizes.{dot_small}
 use Rattle.ray_grid.specs.Grids.{GridSize}
 use Rattle.ray_grid.specs.declared.ray.Family.{Family}
@@ -23,8 +23,8 @@ use Rattle.near_points.specs.declared.hold.Hold.{Hold}
 use Rattle.near_points.specs.declared.stance.Stance.{Stance}
 use Rattle.near_points.specs.declared.step.Step.{Step}
 use Rattle.near_points.specs.Limits.{moment_limit}
-use Rattle.near_points.specs.Lines.{FitsMoved, IsMoved, height_at, second_at, third_at, width_at}
-use Rattle.near_points.specs.Rays.{IsBeside, NearStripOf, near_ray_at}
+use Rattle.near_points.specs.Lines.{FitsMoved, IsMoved, height_at, second_at, third_at}
+use Rattle.near_points.specs.Rays.{NearStripOf, near_ray_at}
 use Rattle.near_points.specs.Ready.{IsReadyRay, IsReadyStrip, offset_of}
 use Rattle.near_points.specs.Stances.{IsStance, IsStep, IsStepLike}
 use Rattle.near_points.specs.Turned.{turned, way_across, way_along}
@@ -290,17 +290,6 @@ ready_ray start across first step hold s j ready there moved =
           ∙ width_turned f (offset_of c (point_at s.grid f s.i j l)) c.axis;
       heights = λ l within. (has l).height ∙ height_turned f (offset_of c (point_at s.grid f s.i j l)) c.axis;
     }
-
--- one component of the moment is too long
-too_long : (a p q w x m y : ℤ) → w ≡ (a *ℤ a +ℤ p *ℤ p) +ℤ q *ℤ q → w ≡ x → y <ℤ (a *ℤ a) → x ≤ℤ m → m ≡ y → ⊥
-too_long a p q w x m y e f long held same = omega (arith, ints, e, f, long, held, same, square_not_negative p, square_not_negative q)
-
-pub beside_all : (start across first : Stance) (step : Step) (hold : Hold) (s : NearStripOf) (j : ℕ) → IsReadyStrip start across step hold s → j < nodes_of s.grid (second_axis s.family) → IsMoved first start across (pos j)
-    → hold.square <ℤ (first.along *ℤ first.along) → IsBeside (near_ray_at s j)
-beside_all start across first step hold s j ready there moved long = λ l within held.
-    let ray = ready_ray start across first step hold s j ready there moved in
-    too_long first.along (second_at first step (pos l)) (third_at first step (pos l)) (width_at first step (pos l)) _ (s.cylinder.moment *ℤ s.cylinder.moment) hold.square refl (ray.widths l within) long held.beside
-    (sym (hold.square_is ∙ ap (λ z. z *ℤ z) ready.hold_is.moment))
 
 -- a step by the stance of its way
 pub step_by : (t : Step) (way : Stance) (v a : List ℤ) → IsStepLike t way → IsStance way v a → IsStep t v a

@@ -31,10 +31,17 @@ pub record FitsAfter (s : Stance) (t : Step) (l : ℤ) : Type 0 where
   pub third : unsigned_abs (third_at s t l) ≤ moment_limit
   pub height : unsigned_abs (height_at s t l) ≤ moment_limit
 
--- the point is held: the square of its moment is at most that of the cylinder, and its height from the least to the most
+-- the square of its moment is at most that of the cylinder
+abbrev pub is_narrow_after : Hold → Stance → Step → ℤ → Bool
+is_narrow_after hold s t l = int_le (width_at s t l) hold.square
+
+-- its height is from the least to the most
+abbrev pub is_high_after : Hold → Stance → Step → ℤ → Bool
+is_high_after hold s t l = int_le hold.least (height_at s t l) && int_le (height_at s t l) hold.most
+
+-- the point is held: both
 abbrev pub is_held_after : Hold → Stance → Step → ℤ → Bool
-is_held_after hold s t l =
-    int_le (width_at s t l) hold.square && (int_le hold.least (height_at s t l) && int_le (height_at s t l) hold.most)
+is_held_after hold s t l = is_narrow_after hold s t l && is_high_after hold s t l
 
 -- two heights are beyond the same end
 abbrev pub AreBeyond : ℤ → ℤ → ℤ → ℤ → Type 0

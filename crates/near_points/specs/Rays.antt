@@ -29,10 +29,6 @@ near_ray_at s j = record { cylinder = s.cylinder; grid = s.grid; ray = record { 
 abbrev pub IsHeldAt : NearRayOf → ℕ → Type 0
 IsHeldAt r l = IsInCylinder r.cylinder (point_of r.grid r.ray l)
 
--- it holds no point of the ray
-abbrev pub IsBeside : NearRayOf → Type 0
-IsBeside r = (l : ℕ) → l < points_of r.grid r.ray.family → IsHeldAt r l → ⊥
-
 -- each bit of the word, the lowest of which is the index `first`, is a point of the ray
 abbrev pub AreOnRay : NearRayOf → ℕ → ℕ → Type 0
 AreOnRay r first wanted = (b : ℕ) → b < 64 → has_bit wanted b ≡ true → first + b < points_of r.grid r.ray.family

@@ -1,4 +1,4 @@
-ghost use Rattle.std.specs.Prelude.{◌≡◌, ◌*ℤ◌, ◌≤ℤ◌, ◌<ℤ◌, ◌&&◌, IsTrue, int_le, pos};
+ghost use Rattle.std.specs.Prelude.{◌≡◌, ◌*ℤ◌, ◌≤ℤ◌, ◌&&◌, int_le, pos};
 
 use sweep_boxes::BoundingCylinder;
 
@@ -29,25 +29,19 @@ impl Hold {
         }
     }
 
-    /// Whether one component of a moment is longer than the moment that holds a point.
+    /// Whether a point with this square of the moment isn't too far from the axis to be held.
     #[inline]
-    pub fn is_exceeded(&self, along: i64) -> bool
-        ensures { IsTrue result → self.now.square <ℤ (along *ℤ along) }
+    pub fn has_width(&self, width: i128) -> bool
+        ensures { result ≡ int_le width self.now.square }
     {
-        if self.moment < along {
-            return true;
-        }
-        along < -self.moment
+        width <= self.square
     }
 
-    /// Whether a point with this square of the moment and this height is held.
+    /// Whether a point at this height is high enough to be held, and low enough.
     #[inline]
-    pub fn holds(&self, width: i128, height: i64) -> bool
-        ensures { result ≡ (int_le width self.now.square && (int_le self.now.least height && int_le height self.now.most)) }
+    pub fn has_height(&self, height: i64) -> bool
+        ensures { result ≡ (int_le self.now.least height && int_le height self.now.most) }
     {
-        if self.square < width {
-            return false;
-        }
         if height < self.least {
             return false;
         }

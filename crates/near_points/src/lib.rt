@@ -3,13 +3,11 @@
 
 mod hold;
 mod offset;
-mod ray;
 mod scan;
 mod stance;
 mod step;
 mod strip;
 
-pub use ray::NearRay;
 pub use strip::NearStrip;
 
 #[cfg(test)]

@@ -1,12 +1,12 @@
-ghost use Rattle.std.specs.Prelude.{◌≡◌, ℕ, ◌+◌, ◌^◌, ◌<◌, ◌≤◌, ◌<ℤ◌, ◌≤ℤ◌, ◌⊎◌, pos, false, IsTrue};
+ghost use Rattle.std.specs.Prelude.{◌≡◌, ℕ, ◌+◌, ◌^◌, ◌<◌, ◌≤◌, ◌<ℤ◌, ◌≤ℤ◌, ◌⊎◌, pos, true, false, IsTrue};
 ghost use Rattle.vf_spans.specs.Words.{has_bit};
 ghost use Rattle.near_points.specs.declared.stance.Stance.{Stance};
-ghost use Rattle.near_points.specs.Lines.{AreBeyond, FitsAfter, IsAfter, is_held_after};
+ghost use Rattle.near_points.specs.Lines.{AreBeyond, FitsAfter, IsAfter, is_held_after, is_high_after, is_narrow_after};
 
 use crate::hold::Hold;
 use crate::stance::{Stance, moved};
 use crate::step::Step;
-use vf_spans::bits::{bits_from, with_bit};
+use vf_spans::bits::{bits_from, lowest_bits};
 
 /// Whether two heights are both below the least one that is held, or both above the most.
 #[inline]
@@ -30,79 +30,150 @@ fn is_leaving(hold: &Hold, width: i128, growth: i128) -> bool
 #[inline]
 fn are_left_before(step: &Step, hold: &Hold, to: &Stance) -> bool
     ensures { IsTrue result → (first : Stance) (m : ℕ) → IsAfter to.now first step.now (pos m)
-        → (x : ℕ) → x ≤ m → is_held_after hold.now first step.now (pos x) ≡ false }
+        → (x : ℕ) → x ≤ m → is_narrow_after hold.now first step.now (pos x) ≡ false }
 {
     is_leaving(hold, to.width(), step.curve - step.slope(to))
 }
 
-/// Whether no point from one to another is held: the heights at both are beyond the same end, or the moment is too long at one of them
-/// and no shorter at the next point towards the other. The far point's moment is only looked at where the first one's is too long.
+/// The first point from one on up to another with a height that is held, or the one behind them where there is none.
 #[inline]
-fn are_left_out(first: &Stance, step: &Step, hold: &Hold, l: u32, m: u32) -> bool
-    requires from { FitsAfter first.now step.now (pos l) }
-    requires to { FitsAfter first.now step.now (pos m) }
-    ensures { IsTrue result → (x : ℕ) → l ≤ x → x ≤ m → is_held_after hold.now first.now step.now (pos x) ≡ false }
+fn first_high(first: &Stance, step: &Step, hold: &Hold, l: u32, m: u32) -> u32
+    requires order { l ≤ m }
+    requires few { m + 1 < 2 ^ 32 }
+    requires fits { (x : ℕ) → l ≤ x → x ≤ m → FitsAfter first.now step.now (pos x) }
+    ensures from { l ≤ result }
+    ensures to { result ≤ m + 1 }
+    ensures ahead { (x : ℕ) → l ≤ x → x < result → is_high_after hold.now first.now step.now (pos x) ≡ false }
+    ensures there { result ≤ m → is_high_after hold.now first.now step.now (pos result) ≡ true }
+{
+    let mut height = moved(first.height, l, step.height);
+    let mut at = l;
+    while at <= m {
+        if hold.has_height(height) {
+            return at;
+        }
+        height += step.height;
+        at += 1;
+    }
+    at
+}
+
+/// The last such point, where the first one is given.
+#[inline]
+fn last_high(first: &Stance, step: &Step, hold: &Hold, l: u32, m: u32) -> u32
+    requires order { l ≤ m }
+    requires high { is_high_after hold.now first.now step.now (pos l) ≡ true }
+    requires fits { (x : ℕ) → l ≤ x → x ≤ m → FitsAfter first.now step.now (pos x) }
+    ensures from { l ≤ result }
+    ensures to { result ≤ m }
+    ensures behind { (x : ℕ) → result < x → x ≤ m → is_high_after hold.now first.now step.now (pos x) ≡ false }
+    ensures there { is_high_after hold.now first.now step.now (pos result) ≡ true }
+{
+    let mut height = moved(first.height, m, step.height);
+    let mut at = m;
+    while l < at {
+        if hold.has_height(height) {
+            return at;
+        }
+        height -= step.height;
+        at -= 1;
+    }
+    at
+}
+
+/// The first point from one on up to another whose moment isn't too long, or the one behind them where there is none. Where the moment
+/// is too long and no shorter at the next point, there is none from there on. The far point's is only looked at where the near one's is
+/// too long.
+#[inline]
+fn first_narrow(first: &Stance, step: &Step, hold: &Hold, l: u32, m: u32) -> u32
+    requires order { l ≤ m }
+    requires few { m + 1 < 2 ^ 32 }
+    requires fits { (x : ℕ) → l ≤ x → x ≤ m → FitsAfter first.now step.now (pos x) }
+    ensures from { l ≤ result }
+    ensures to { result ≤ m + 1 }
+    ensures ahead { (x : ℕ) → l ≤ x → x ≤ m → x < result → is_narrow_after hold.now first.now step.now (pos x) ≡ false }
+    ensures there { result ≤ m → is_narrow_after hold.now first.now step.now (pos result) ≡ true }
 {
     let from = step.after(first, l);
-    let last = moved(first.height, m, step.height);
-    if are_beyond(hold, from.height, last) {
-        return true;
+    let mut width = from.width();
+    if hold.has_width(width) {
+        return l;
     }
-    let width = from.width();
-    if width <= hold.square {
-        return false;
+    let mut growth = step.curve + step.slope(&from);
+    if growth < 0 && are_left_before(step, hold, &step.after(first, m)) {
+        return m + 1;
     }
-    if is_leaving(hold, width, step.curve + step.slope(&from)) {
-        return true;
+    let bend = 2 * step.curve;
+    let mut at = l;
+    while at <= m {
+        if hold.has_width(width) {
+            return at;
+        }
+        if 0 <= growth {
+            return m + 1;
+        }
+        width += growth;
+        growth += bend;
+        at += 1;
     }
-    let to = step.after(first, m);
-    are_left_before(step, hold, &to)
+    at
 }
 
-/// Whether a point is held.
+/// The last such point, where the first one is given.
 #[inline]
-fn is_held(first: &Stance, step: &Step, hold: &Hold, l: u32) -> bool
-    requires { FitsAfter first.now step.now (pos l) }
-    ensures { result ≡ is_held_after hold.now first.now step.now (pos l) }
+fn last_narrow(first: &Stance, step: &Step, hold: &Hold, l: u32, m: u32) -> u32
+    requires order { l ≤ m }
+    requires narrow { is_narrow_after hold.now first.now step.now (pos l) ≡ true }
+    requires fits { (x : ℕ) → l ≤ x → x ≤ m → FitsAfter first.now step.now (pos x) }
+    ensures from { l ≤ result }
+    ensures to { result ≤ m }
+    ensures behind { (x : ℕ) → result < x → x ≤ m → is_narrow_after hold.now first.now step.now (pos x) ≡ false }
+    ensures there { is_narrow_after hold.now first.now step.now (pos result) ≡ true }
 {
-    let at = step.after(first, l);
-    hold.holds(at.width(), at.height)
+    let to = step.after(first, m);
+    let mut width = to.width();
+    if hold.has_width(width) {
+        return m;
+    }
+    let bend = 2 * step.curve;
+    let mut rise = step.curve - step.slope(&to);
+    let mut at = m;
+    while l < at {
+        if hold.has_width(width) {
+            return at;
+        }
+        width += rise;
+        rise += bend;
+        at -= 1;
+    }
+    at
 }
 
-/// The bits from `lo` to `hi` of the points that are held. Bit b is the point at the index `start + b`. Where the moment is too long
-/// and no shorter at the next point, none is held from there on; and where the last point is held, each one behind the first that is.
+/// The bits from `lo` to `hi` of the points that are held. Bit b is the point at the index `start + b`. They are those between the first
+/// one that is held and the last.
 #[inline]
 pub fn held_between(first: &Stance, step: &Step, hold: &Hold, start: u32, lo: u32, hi: u32) -> u64
     requires order { lo ≤ hi }
     requires within { hi < 64 }
-    requires few { start + hi < 2 ^ 32 }
+    requires few { start + hi + 1 < 2 ^ 32 }
     requires fits { (b : ℕ) → lo ≤ b → b ≤ hi → FitsAfter first.now step.now (pos (start + b)) }
     ensures { (b : ℕ) → lo ≤ b → b ≤ hi → has_bit result b ≡ is_held_after hold.now first.now step.now (pos (start + b)) }
 {
-    if are_left_out(first, step, hold, start + lo, start + hi) {
+    let (l, m) = (start + lo, start + hi);
+    let low = moved(first.height, l, step.height);
+    let high = moved(first.height, m, step.height);
+    if are_beyond(hold, low, high) {
         return 0;
     }
-    let last_held = is_held(first, step, hold, start + hi);
-    let from = step.after(first, start + lo);
-    let bend = 2 * step.curve;
-    let mut width = from.width();
-    let mut growth = step.curve + step.slope(&from);
-    let mut height = from.height;
-    let mut bits = 0u64;
-    let mut b = lo;
-    while b <= hi {
-        if hold.holds(width, height) {
-            if last_held {
-                return bits | bits_from(b);
-            }
-            bits = with_bit(bits, b);
-        } else if is_leaving(hold, width, growth) {
-            return bits;
-        }
-        width += growth;
-        growth += bend;
-        height += step.height;
-        b += 1;
+    let bottom = first_high(first, step, hold, l, m);
+    if m < bottom {
+        return 0;
     }
-    bits
+    let top = last_high(first, step, hold, bottom, m);
+    let from = first_narrow(first, step, hold, bottom, top);
+    if top < from {
+        return 0;
+    }
+    let to = last_narrow(first, step, hold, from, top);
+    bits_from(from - start) & lowest_bits(to - start + 1)
 }

@@ -1,11 +1,12 @@
 use crate::hold::Hold;
 use crate::offset::{offset_from, scaled, turned, way_across};
-use crate::ray::NearRay;
+use crate::scan::held_between;
 use crate::stance::Stance;
 use crate::step::Step;
 use ray_grid::{Family, Grid, Ray};
 use std::marker::Model;
 use sweep_boxes::BoundingCylinder;
+use vf_spans::bits::{highest_bit, lowest_bit};
 
 /// A bounding cylinder, ready for the points of the rays of one strip of a grid: those of a family with the node i.
 #[derive(Drop)]
@@ -32,11 +33,11 @@ impl<'a> Model for NearStrip<'a> {
 }
 
 impl<'a> NearStrip<'a> {
-    ghost use Rattle.std.specs.Prelude.{◌≡◌, ◌<◌};
-    ghost use Rattle.std.specs.Option.{IfNone, IfSome};
+    ghost use Rattle.std.specs.Prelude.{◌≡◌, ℕ, ◌<◌, ◌↔◌, true};
     ghost use Rattle.ray_grid.specs.Families.{first_axis, second_axis};
     ghost use Rattle.ray_grid.specs.Lattice.{nodes_of};
-    ghost use Rattle.near_points.specs.Rays.{IsBeside, near_ray_at};
+    ghost use Rattle.vf_spans.specs.Words.{has_bit};
+    ghost use Rattle.near_points.specs.Rays.{AreOnRay, IsHeldBit, near_ray_at};
 
     /// For the rays of a family with the node i.
     pub fn new(
@@ -67,23 +68,31 @@ impl<'a> NearStrip<'a> {
         }
     }
 
-    /// For the points of the ray with the node j. None only where the whole ray is beside the cylinder, which is told by the component of
-    /// the moment along the ray, the same at all of its points.
+    /// Those of the wanted points of a word of the ray with the node j that the cylinder holds: bit b is the point at the index
+    /// `first + b`. Each wanted bit is a point of the ray.
     #[inline]
-    pub fn on_ray(&'a self, j: u32) -> Option<NearRay<'a>>
-        requires { j < nodes_of self.now.grid (second_axis self.now.family) }
-        ensures beside { IfNone result (IsBeside (near_ray_at self.now j)) }
-        ensures ready { IfSome result (λ ray. ray ≡ near_ray_at self.now j) }
+    pub fn near(&self, j: u32, first: u32, wanted: u64) -> u64
+        requires node { j < nodes_of self.now.grid (second_axis self.now.family) }
+        requires on_ray { AreOnRay (near_ray_at self.now j) first wanted }
+        ensures { (b : ℕ) → b < 64 → (has_bit result b ≡ true) ↔ IsHeldBit (near_ray_at self.now j) first wanted b }
     {
-        let first = self.start.moved(&self.across, j);
-        if self.hold.is_exceeded(first.along) {
-            return None;
+        if wanted == 0 {
+            return 0;
         }
-        let ray = Ray {
-            family: self.family,
-            i: self.i,
-            j,
-        };
-        Some(NearRay::new(self.cylinder, self.grid, ray, first, &self.step, &self.hold))
+        self.near_some(j, first, wanted)
+    }
+
+    /// The same where some point is wanted. It stands apart so that what asks about each word stays little code.
+    #[inline(never)]
+    fn near_some(&self, j: u32, first: u32, wanted: u64) -> u64
+        requires node { j < nodes_of self.now.grid (second_axis self.now.family) }
+        requires some { 0 < wanted }
+        requires on_ray { AreOnRay (near_ray_at self.now j) first wanted }
+        ensures { (b : ℕ) → b < 64 → (has_bit result b ≡ true) ↔ IsHeldBit (near_ray_at self.now j) first wanted b }
+    {
+        let start = self.start.moved(&self.across, j);
+        let lo = lowest_bit(wanted);
+        let hi = highest_bit(wanted);
+        held_between(&start, &self.step, &self.hold, first, lo, hi) & wanted
     }
 }

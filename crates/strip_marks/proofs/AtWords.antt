@@ -22,7 +22,7 @@ use Rattle.ray_words.specs.Rays.{IsBelow, IsWordAt, is_wanted_at}
 use Rattle.wanted_marks.specs.Rays.{RayOf, is_possible_at, is_sure_at, is_sure_bit, is_told_at, is_told_bit}
 use Rattle.strip_marks.specs.Marks.{seen_on}
 use Rattle.near_points.specs.Rays.{NearRayOf}
-use Rattle.strip_marks.specs.RayMarks.{AreAsked, AreAskedIn, HasNoneAhead, HasNoneAsked, IsAskedAt, IsIdle, IsNearOf, IsWindow}
+use Rattle.strip_marks.specs.RayMarks.{AreAsked, AreAskedIn, IsAskedAt, IsIdle, IsNearOf, IsWindow}
 use Rattle.strip_marks.specs.Words.{AreSetsOf}
 use Rattle.strip_marks.proofs.Counting.{found_as, found_none, inside_or}
 use Rattle.strip_marks.proofs.Idle.{none_of_three, past, unmarked_meets_none}
@@ -74,24 +74,6 @@ idle_at r d lo hi l h w none lt =
 -- the bits are the wanted indices of the window
 abbrev pub AreWantedIn : Sets → ℕ → ℕ → ℕ → ℕ → Type 0
 AreWantedIn d n lo hi wanted = (b : ℕ) → b < 64 → has_bit wanted b ≡ (is_wanted_at d (64 * n + b) && in_range (64 * n + b) (lo, hi))
-
--- where there is no bit, none is wanted
-pub none_wanted : (d : Sets) (n lo hi wanted : ℕ) → AreWantedIn d n lo hi wanted → wanted ≡ 0 → (l : ℕ) → 64 * n ≤ l → l < 64 * (n + 1)
-    → in_range l (lo, hi) ≡ true → is_wanted_at d l ≡ false
-none_wanted d n lo hi wanted is zero l ge lt t =
-    let e : 64 * n + (l - 64 * n) ≡ l = omega arith in
-    sym (and_yes (is_wanted_at d l) (in_range l (lo, hi)) t)
-    ∙ ap (λ k. is_wanted_at d k && in_range k (lo, hi)) (sym e)
-    ∙ sym (is (l - 64 * n) (omega arith))
-    ∙ unmarked_bit wanted (l - 64 * n) zero
-
--- ahead of a word ahead of which no point of the window is wanted there is none that the move is asked about
-pub unwanted_ahead : (near : NearRayOf) (d : Sets) (window : ℕ × ℕ) (word : ℕ) → HasNoneAhead d window word → HasNoneAsked near d window word
-unwanted_ahead near d window word ahead = record {
-  from = ahead.from;
-  to = ahead.to;
-  none = λ l lt at. let no = ahead.none l lt at.in_window in let yes = at.wanted in cc;
-}
 
 -- where no bit is set the move is asked about none of the word
 pub none_asked : (near : NearRayOf) (d : Sets) (window : ℕ × ℕ) (n asked : ℕ) → AreAskedIn near d window n asked → asked ≡ 0 → (l : ℕ) → 64 * n ≤ l

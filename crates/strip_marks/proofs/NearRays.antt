@@ -10,7 +10,7 @@ use Rattle.ray_grid.specs.Families.{second_axis}
 use Rattle.ray_grid.specs.Lattice.{IsRay, nodes_of, point_of, points_of}
 use Rattle.ray_grid.specs.Strips.{strip_at, strips_of}
 use Rattle.vf_spans.specs.Words.{words_below}
-use Rattle.near_points.specs.Rays.{IsBeside, NearRayOf, NearStripOf, near_ray_at}
+use Rattle.near_points.specs.Rays.{NearRayOf, NearStripOf, near_ray_at}
 use Rattle.ray_words.specs.Rays.{KeptSets}
 use Rattle.job_facts.specs.Counts.{no_counts}
 use Rattle.dexel_rays.specs.Sets.{Sets}
@@ -19,7 +19,7 @@ use Rattle.strip_plan.specs.Plans.{HasNumber}
 use Rattle.strip_plan.specs.Windows.{HoldsMet}
 use Rattle.strip_marks.specs.Marks.{AreRays, kept_of, points_at, possible_there, ray_of, sets_of, sure_there}
 use Rattle.strip_marks.specs.declared.marked.Marked.{Marked}
-use Rattle.strip_marks.specs.RayMarks.{Adds, HasNoneAhead, IsIdle, IsNearOf, IsRayMarked, IsUnasked, IsWindow}
+use Rattle.strip_marks.specs.RayMarks.{Adds, HasNoneAsked, IsIdle, IsNearOf, IsRayMarked, IsUnasked, IsWindow}
 use Rattle.strip_marks.specs.RowMarks.{AreRaysMarked, AreSetsAt, IsNearStripOf}
 use Rattle.strip_marks.proofs.AtWords.{idle_unasked, in_range_below}
 use Rattle.strip_marks.proofs.Counting.{plus_none}
@@ -65,16 +65,9 @@ near_of plan number strip s cylinder grid first e g there on holds =
     (subst (λ (x : GridSize). slice_get (strip_at x strip) 0 ≡ Some first) g there) in
     subst (λ (x : NearStripOf). IsNearStripOf plan number strip x) (sym e) (record { grid = g; rays = rays; holds = holds })
 
--- where no index of the window is wanted, or the whole ray is beside the cylinder, the move is asked about none
-pub unasked_unwanted : (near : NearRayOf) (d : Sets) (window : ℕ × ℕ) (word : ℕ) → HasNoneAhead d window word → words_below window.1 ≤ word
-    → IsUnasked near d window
-unasked_unwanted near d window word ahead le l at =
-    let below = in_range_below window.0 window.1 l at.in_window in
-    let no = ahead.none l (omega (arith, below, le)) at.in_window in let yes = at.wanted in cc
-
-pub unasked_beside : (near : NearRayOf) (d : Sets) (window : ℕ × ℕ) → IsBeside near → window.1 ≤ points_of near.grid near.ray.family → IsUnasked near d window
-unasked_beside near d window beside on l at =
-    let below = in_range_below window.0 window.1 l at.in_window in beside l (omega (arith, below, on)) at.held
+-- where ahead of the last word of the window the move is asked about none, it is asked about none at all
+pub unasked_all : (near : NearRayOf) (d : Sets) (window : ℕ × ℕ) (word : ℕ) → HasNoneAsked near d window word → words_below window.1 ≤ word → IsUnasked near d window
+unasked_all near d window word ahead le l at = let below = in_range_below window.0 window.1 l at.in_window in ahead.none l (omega (arith, below, le)) at
 
 -- a ray that the move is asked about no point of is idle
 pub idle_on : (plan : PlanOf) (number strip n lo hi : ℕ) (move : JobMove) (s : NearStripOf) (ray : KeptSets) → IsNearStripOf plan number strip s

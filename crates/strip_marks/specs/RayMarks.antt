@@ -29,12 +29,6 @@ pub record Adds (before after : Marked) (fact : List WordChange → Counts → T
 abbrev pub CanCount : ℕ → Counts → Type 0
 CanCount points counts = AreWithin (most_count - points) counts
 
--- a word from the first one on that a window enters, up to the one behind its last; ahead of it no index of the window is wanted
-pub record HasNoneAhead (d : Sets) (window : ℕ × ℕ) (word : ℕ) : Type 0 where
-  pub from : window.0 / 64 ≤ word
-  pub to : word ≤ words_below window.1
-  pub none : (l : ℕ) → l < 64 * word → in_range l window ≡ true → is_wanted_at d l ≡ false
-
 -- an index that a move is asked about: it is wanted, it lies in the move's window, and the move's cylinder holds its point
 pub record IsAskedAt (near : NearRayOf) (d : Sets) (window : ℕ × ℕ) (l : ℕ) : Type 0 where
   pub wanted : is_wanted_at d l ≡ true

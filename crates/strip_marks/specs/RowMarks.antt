@@ -9,16 +9,14 @@ use Rattle.ray_grid.specs.Strips.{strip_at, strip_of}
 use Rattle.job_facts.specs.declared.counts.Counts.{Counts}
 use Rattle.dexel_rays.specs.Sets.{HaveBound, Sets}
 use Rattle.ray_words.specs.Rays.{KeptSets}
-use Rattle.near_points.specs.Rays.{NearRayOf, NearStripOf}
+use Rattle.near_points.specs.Rays.{NearStripOf}
 use Rattle.wanted_marks.specs.Strips.{StripOf}
 use Rattle.job_model.specs.Sums.{sum_counts}
 use Rattle.job_model.specs.Tasks.{JobMove, PlanOf}
 use Rattle.strip_plan.specs.Plans.{HasNumber, move_in}
 use Rattle.strip_plan.specs.Windows.{HoldsMet, IsCommonWindow}
-use Rattle.strip_marks.specs.declared.asked_word.AskedRay.{AskedRay}
 use Rattle.strip_marks.specs.declared.change.WordChange.{WordChange}
 use Rattle.strip_marks.specs.declared.shared.Shared.{Shared}
-use Rattle.strip_marks.specs.RayMarks.{IsFirstAsked}
 use Rattle.strip_marks.specs.Marks.{AreInOrder, IsChangeOn, among, points_at, possible_of, possible_there, ray_found, sets_of, sure_of, sure_there}
 
 -- the sets are those of ray n of the strip, and no point is sure that isn't possible
@@ -31,11 +29,6 @@ pub record IsMarkerOf (plan : PlanOf) (number strip : ℕ) (s : StripOf) : Type 
   pub grid : s.grid ≡ plan.grid
   pub rays : strip_at plan.grid strip ≡ strip_of plan.grid s.family s.i
   pub sweep : (move : JobMove) → HasNumber plan number move → s.sweep ≡ move_in plan move
-
--- what a move is asked about on a ray: by the cylinder there, from the first word on
-pub record IsAskedRay (near : NearRayOf) (d : Sets) (window : ℕ × ℕ) (asked : AskedRay) : Type 0 where
-  pub there : asked.near ≡ near
-  pub start : IsFirstAsked near d window asked.first
 
 -- the cylinder is that of the plan's move with a number, on the rays of a strip
 pub record IsNearStripOf (plan : PlanOf) (number strip : ℕ) (s : NearStripOf) : Type 0 where

@@ -52,16 +52,7 @@ fn mark_at<'x>(
         None => Ok(()),
         Some(asked) => {
             let on_ray = marker.on_ray(n);
-            mark_ray(
-                &on_ray,
-                &asked.near,
-                ray,
-                n,
-                asked.first,
-                window,
-                shared.rapid,
-                marked,
-            )?;
+            mark_ray(&on_ray, near, ray, n, asked, window, shared.rapid, marked)?;
             Ok(())
         }
     }

@@ -1,7 +1,9 @@
 ghost use Rattle.std.specs.Prelude.{◌≡◌, ℕ, ◌+◌, ◌*◌, ◌/◌, ◌<◌, ◌≤◌, ◌^◌, ◌&&◌, ◌++◌, OnOk, length};
 ghost use Rattle.vf_spans.specs.Members.{in_range};
 ghost use Rattle.vf_spans.specs.Words.{has_bit};
-ghost use Rattle.ray_grid.specs.Lattice.{points_of};
+ghost use Rattle.ray_grid.specs.Families.{second_axis};
+ghost use Rattle.ray_grid.specs.Lattice.{nodes_of, points_of};
+ghost use Rattle.near_points.specs.Rays.{near_ray_at};
 ghost use Rattle.ray_words.specs.Rays.{is_wanted_at};
 ghost use Rattle.wanted_marks.specs.Rays.{is_possible_at, is_sure_at};
 ghost use Rattle.strip_marks.specs.RayMarks.{Adds, AreAsked, AreAskedIn, AreWordsMarked, CanCount};
@@ -11,7 +13,7 @@ use crate::asked_word::AskedWord;
 use crate::change::WordChange;
 use crate::marked::Marked;
 use dexel_rays::{WordDelta, WordSets};
-use near_points::NearRay;
+use near_points::NearStrip;
 use ray_words::WordRay;
 use vf_io::NoMemory;
 use vf_spans::bits::bits_of_range;
@@ -27,15 +29,16 @@ pub fn wanted_in(ray: &WordRay, word: u32, window: (u32, u32)) -> u64
     ray.wanted(word) & bits_of_range(word, window.0, window.1)
 }
 
-/// The points of a word of a ray that a move is asked about: those wanted ones in its window that its cylinder holds.
+/// The points of a word of ray n that a move is asked about: those wanted ones in its window that its cylinder holds.
 #[inline]
-pub fn asked_in(near: &NearRay<'_>, ray: &WordRay, word: u32, window: (u32, u32)) -> u64
+pub fn asked_in(near: &NearStrip<'_>, ray: &WordRay, n: u32, word: u32, window: (u32, u32)) -> u64
+    requires n { n < nodes_of near.now.grid (second_axis near.now.family) }
     requires from { window.0 / 64 ≤ word }
     requires to { 64 * word < window.1 }
-    requires on { window.1 ≤ points_of near.now.grid near.now.ray.family }
-    ensures { AreAskedIn near.now ray.now.sets window word result }
+    requires on { window.1 ≤ points_of near.now.grid near.now.family }
+    ensures { AreAskedIn (near_ray_at near.now n) ray.now.sets window word result }
 {
-    near.near(64 * word, wanted_in(ray, word, window))
+    near.near(n, 64 * word, wanted_in(ray, word, window))
 }
 
 /// Notes what changes at a word, if anything does.

@@ -1,18 +1,17 @@
-use Rattle.std.proofs.Common.{◌*◌, ◌<◌, ◌≤◌, arith, ⊎_elim}
-use Rattle.std.proofs.lemmas.Bool.{cases_lt}
-use Rattle.strip_marks.proofs.AtWords.{none_wanted}
+use Rattle.std.proofs.Common.{arith}
+use Rattle.near_points.specs.Rays.{near_ray_at}
+use Rattle.strip_marks.proofs.AskedWords.{none_asked_next}
+use Rattle.strip_marks.proofs.NearRays.{unasked_all}
 use Rattle.strip_marks.proofs.asked.asked_on.Goals as goal
 
-pub loop-word-preserved : goal.loop-word-preserved
-loop-word-preserved c =
+pub loop-window-preserved : goal.loop-window-preserved
+loop-window-preserved c =
     let a = c.args in
-    let word = c.loop-word.word in
-    let ahead = c.loop-word.invariant in
-    record {
-      from = omega (arith, ahead.from);
-      to = omega arith;
-      none = λ l lt t.
-          ⊎_elim (λ (before : l < 64 * word). ahead.none l before t)
-          (λ (here : 64 * word ≤ l). none_wanted a.ray.now.sets word a.window.0 a.window.1 c.wanted_in-wanted.result c.wanted_in-wanted.ensures
-          c.if-wanted-ne0.false l here lt t) (cases_lt l (64 * word));
-    }
+    none_asked_next (near_ray_at a.near.now a.n) a.ray.now.sets a.window c.loop-window.word c.asked_in-points.result c.loop-window.invariant
+    (omega (arith, c.loop-window-test.true)) c.asked_in-points.ensures c.if-points-ne0.false
+
+pub returns-clause-none : goal.returns-clause-none
+returns-clause-none c =
+    let a = c.args in
+    unasked_all (near_ray_at a.near.now a.n) a.ray.now.sets a.window c.loop-window.word c.loop-window.invariant
+    (omega (arith, c.loop-window-test.false))

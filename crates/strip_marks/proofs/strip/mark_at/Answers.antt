@@ -1,7 +1,7 @@
 use Rattle.std.proofs.Common.{◌≤◌, ℕ, arith, ap, sym, ◌∙◌, subst, IfSome}
 use Rattle.ray_grid.specs.declared.ray.Family.{Family}
 use Rattle.ray_grid.specs.declared.ray.Ray.{Ray}
-use Rattle.near_points.specs.Rays.{NearRayOf, near_ray_at}
+use Rattle.near_points.specs.Rays.{near_ray_at}
 use Rattle.wanted_marks.specs.Rays.{RayOf}
 use Rattle.strip_plan.specs.Windows.{IsCommonWindow}
 use Rattle.strip_marks.specs.RayMarks.{IsNearOf, IsWindow}
@@ -60,14 +60,16 @@ mark_ray-requires-clause-window c =
     (window_on a.plan.now a.number some.0 a.strip a.n found.result.0 found.result.1 c.requires.plan some.1 c.requires.strip c.requires.n
     e.order e.within (e.holds some.0 some.1))
 
+pub mark_ray-requires-clause-n : goal.mark_ray-requires-clause-n
+mark_ray-requires-clause-n c = near_node c.args.plan.now c.args.number c.args.strip c.args.n c.args.near.now c.requires.near c.requires.n
+
 pub mark_ray-requires-clause-near : goal.mark_ray-requires-clause-near
 mark_ray-requires-clause-near c =
     let a = c.args in
     let some = some_move a.plan.now a.number c.requires.number in
-    subst (λ (near : NearRayOf). IsNearOf near c.on_ray-on_ray.result) (sym c.in-Some.ensures.some.there)
-    (subst (λ (r : RayOf). IsNearOf (near_ray_at a.near.now a.n) r)
+    subst (λ (r : RayOf). IsNearOf (near_ray_at a.near.now a.n) r)
     (sym (c.on_ray-on_ray.ensures ∙ marker_is a.plan.now a.number a.strip a.n some.0 a.marker.now c.requires.marker some.1 c.requires.n))
-    (near_on a.plan.now a.number a.strip a.n some.0 a.near.now c.requires.near some.1 c.requires.strip c.requires.n))
+    (near_on a.plan.now a.number a.strip a.n some.0 a.near.now c.requires.near some.1 c.requires.strip c.requires.n)
 
 pub returns-in_ok-mark_ray-in-Some-clause-marked : goal.returns-in_ok-mark_ray-in-Some-clause-marked
 returns-in_ok-mark_ray-in-Some-clause-marked c = λ move has.

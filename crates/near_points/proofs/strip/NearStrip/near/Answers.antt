@@ -1,0 +1,10 @@
+use Rattle.std.proofs.Common.{◌≡◌, ℕ, true, subst}
+use Rattle.vf_spans.specs.Words.{has_bit}
+use Rattle.vf_spans.proofs.WordBits.{has_bit-zero}
+use Rattle.near_points.proofs.strip.NearStrip.near.Goals as goal
+
+not_set : (b : ℕ) → has_bit 0 b ≡ true → ⊥
+not_set b set = let none = has_bit-zero b in cc
+
+pub returns-then-wanted-eq0 : goal.returns-then-wanted-eq0
+returns-then-wanted-eq0 c = λ b below. (λ set. absurd (not_set b set), λ held. absurd (not_set b (subst (λ (z : ℕ). has_bit z b ≡ true) c.if-wanted-eq0.true held.0)))
