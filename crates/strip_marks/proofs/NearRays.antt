@@ -89,15 +89,13 @@ rays_idle plan move strip lo n rays are from lt few h idle =
     (rays_more plan move strip lo n rays rays (kept_of rays n) [] [] no_counts no_counts are (same_self rays) (record { sets = refl; kept = λ k kept. kept }) from lt h
     next no_counts [] (sym (plus_none no_counts)) refl)
 
--- on a ray that the move is asked about no point of it changes nothing
-pub untouched : (plan : PlanOf) (number strip n lo hi : ℕ) (move : JobMove) (s : NearStripOf) (ray : KeptSets) (marked : Marked)
-    → IsNearStripOf plan number strip s → HasNumber plan number move → strip < length (strips_of plan.grid) → n < length (strip_at plan.grid strip)
-    → AreSetsAt plan.grid strip n ray.sets → IsWindow (move_on plan move strip n) lo hi → IsUnasked (near_ray_at s n) ray.sets (lo, hi)
+-- on an idle ray a move changes nothing
+pub untouched : (plan : PlanOf) (move : JobMove) (strip n : ℕ) (ray : KeptSets) (marked : Marked) → AreSetsAt plan.grid strip n ray.sets
+    → ((l : ℕ) → l < length ray.sets.stock → IsIdle ray.sets (sure_there plan move strip n) (possible_there plan move strip n) l)
     → length ray.sets.stock < 2 ^ 32
     → Adds marked marked (λ added found. IsRayMarked ray (sure_there plan move strip n)
     (possible_there plan move strip n) move.rapid n added found)
-untouched plan number strip n lo hi move s ray marked near has within lt h w none few =
+untouched plan move strip n ray marked h idle few =
     adds_none marked
     (λ added found. IsRayMarked ray (sure_there plan move strip n) (possible_there plan move strip n) move.rapid n added found)
-    (idle_ray ray (sure_there plan move strip n) (possible_there plan move strip n) move.rapid n h.ordered few
-    (idle_on plan number strip n lo hi move s ray near has within lt h w none))
+    (idle_ray ray (sure_there plan move strip n) (possible_there plan move strip n) move.rapid n h.ordered few idle)

@@ -1,5 +1,5 @@
 -- What a move changes on neighbouring rays of a strip, and what it finds there.
-use Rattle.std.specs.Prelude.{◌≡◌, ℕ, ◌-◌, ◌<◌, ◌≤◌, true, not, ◌&&◌, List, map, All}
+use Rattle.std.specs.Prelude.{◌≡◌, ℕ, ◌-◌, ◌<◌, ◌≤◌, true, not, ◌&&◌, List, [], length, map, All}
 use Rattle.std.specs.List.{range_with_len}
 use Rattle.std.specs.Option.{IfSome}
 use Rattle.vf_spans.specs.Members.{has}
@@ -7,17 +7,20 @@ use Rattle.ray_grid.specs.Grids.{GridSize}
 use Rattle.ray_grid.specs.declared.ray.Family.{Family}
 use Rattle.ray_grid.specs.Strips.{strip_at, strip_of}
 use Rattle.job_facts.specs.declared.counts.Counts.{Counts}
+use Rattle.job_facts.specs.Counts.{no_counts}
 use Rattle.dexel_rays.specs.Sets.{HaveBound, Sets}
 use Rattle.ray_words.specs.Rays.{KeptSets}
-use Rattle.near_points.specs.Rays.{NearStripOf}
+use Rattle.near_points.specs.Rays.{NearRayOf, NearStripOf, near_ray_at}
 use Rattle.wanted_marks.specs.Strips.{StripOf}
 use Rattle.job_model.specs.Sums.{sum_counts}
 use Rattle.job_model.specs.Tasks.{JobMove, PlanOf}
 use Rattle.strip_plan.specs.Plans.{HasNumber, move_in}
-use Rattle.strip_plan.specs.Windows.{HoldsMet, IsCommonWindow}
+use Rattle.strip_plan.specs.Windows.{HoldsMet, HoldsPossible, IsCommonWindow}
+use Rattle.strip_marks.specs.declared.asked_word.AskedRay.{AskedRay}
 use Rattle.strip_marks.specs.declared.change.WordChange.{WordChange}
 use Rattle.strip_marks.specs.declared.shared.Shared.{Shared}
-use Rattle.strip_marks.specs.Marks.{AreInOrder, IsChangeOn, among, points_at, possible_of, possible_there, ray_found, sets_of, sure_of, sure_there}
+use Rattle.strip_marks.specs.RayMarks.{IsFirstAsked, IsIdle}
+use Rattle.strip_marks.specs.Marks.{AreInOrder, IsChangeOn, among, points_at, possible_of, possible_there, ray_found, ray_of, sets_of, sure_of, sure_there}
 
 -- the sets are those of ray n of the strip, and no point is sure that isn't possible
 pub record AreSetsAt (grid : GridSize) (strip n : ℕ) (d : Sets) : Type 0 where
@@ -41,6 +44,19 @@ pub record IsShared (plan : PlanOf) (number : ℕ) (family : Family) (shared : S
   pub window : IfSome shared.window (IsCommonWindow plan number family)
   pub rapid : (move : JobMove) → HasNumber plan number move → shared.rapid ≡ move.rapid
 
+-- what a move is asked about on ray n of a strip: by its window there, which holds each point at which it is possible
+pub record IsAskedRay (plan : PlanOf) (number strip n : ℕ) (near : NearRayOf) (d : Sets) (asked : AskedRay) : Type 0 where
+  pub order : asked.window.0 ≤ asked.window.1
+  pub within : asked.window.1 ≤ points_at plan.grid strip n
+  pub holds : (move : JobMove) → HasNumber plan number move
+      → HoldsPossible plan move (ray_of plan.grid strip n) asked.window.0 asked.window.1
+  pub start : IsFirstAsked near d asked.window asked.first
+
+-- the move changes and finds nothing on ray n of a strip, by the ray's sets
+abbrev pub IsIdleRay : PlanOf → ℕ → ℕ → ℕ → Sets → Type 0
+IsIdleRay plan number strip n d = (move : JobMove) → HasNumber plan number move → (l : ℕ) → l < length d.stock
+    → IsIdle d (sure_there plan move strip n) (possible_there plan move strip n) l
+
 -- a change on one of the rays from the one number on and below the other
 pub record IsChangeFrom (rays : List KeptSets) (lo hi : ℕ) (change : WordChange) : Type 0 where
   pub on : IsChangeOn rays change
@@ -57,3 +73,11 @@ pub record AreRaysMarked (plan : PlanOf) (move : JobMove) (strip : ℕ) (before 
   pub each : All (IsChangeFrom after lo hi) changes
   pub order : AreInOrder changes
   pub found : counts ≡ sum_counts (map (ray_found plan move strip before) (range_with_len lo (hi - lo)))
+
+-- the first of those rays on which the move is asked about a point, and what it is asked about there
+pub record IsFirstRay (plan : PlanOf) (number strip : ℕ) (near : NearStripOf) (rays : List KeptSets) (lo hi : ℕ) (found : ℕ × AskedRay)
+    : Type 0 where
+  pub from : lo ≤ found.0
+  pub below : found.0 < hi
+  pub nothing : (move : JobMove) → HasNumber plan number move → AreRaysMarked plan move strip rays rays lo found.0 [] no_counts
+  pub asked : IsAskedRay plan number strip found.0 (near_ray_at near found.0) (sets_of rays found.0) found.1

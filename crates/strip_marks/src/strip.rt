@@ -1,16 +1,19 @@
 ghost use Rattle.std.specs.Prelude.{◌≡◌, [], ◌<◌, ◌≤◌, ◌^◌, IfOk, OnOk, length};
+ghost use Rattle.std.specs.Option.{IfNone, IfSome};
 ghost use Rattle.job_facts.specs.Counts.{no_counts};
 ghost use Rattle.ray_grid.specs.Strips.{strip_at, strips_of};
 ghost use Rattle.job_model.specs.Tasks.{IsPlan, JobMove};
+ghost use Rattle.near_points.specs.Rays.{near_ray_at};
 ghost use Rattle.strip_plan.specs.Plans.{HasNumber};
 ghost use Rattle.strip_marks.specs.Marks.{AreRays, HaveSameSets, IsMarkedStrip, possible_there, sure_there};
 ghost use Rattle.strip_marks.specs.RayMarks.{Adds, CanCount, HasSameSets, IsRayMarked};
-ghost use Rattle.strip_marks.specs.RowMarks.{AreRaysMarked, AreSetsAt, IsMarkerOf, IsNearStripOf, IsShared};
+ghost use Rattle.strip_marks.specs.RowMarks.{AreRaysMarked, AreSetsAt, IsAskedRay, IsFirstRay, IsMarkerOf, IsNearStripOf, IsShared};
 
-use crate::asked::asked_on;
+use crate::asked::asked_at;
+use crate::asked_word::AskedRay;
 use crate::marked::Marked;
 use crate::ray::mark_ray;
-use crate::shared::{Shared, shared_by, window_at};
+use crate::shared::{Shared, shared_by};
 use job_facts::Counts;
 use near_points::NearStrip;
 use ray_words::WordRay;
@@ -20,7 +23,7 @@ use vf_io::NoMemory;
 use wanted_marks::StripMarker;
 
 /// Takes in what the move changes on ray n of the strip, and what it finds there. A ray on which it is asked about no point isn't made
-/// ready for marks.
+/// ready for marks. What it is asked about there is given where it is known already.
 fn mark_at<'x>(
     marker: &'x StripMarker<'x>,
     near: &'x NearStrip<'x>,
@@ -30,6 +33,7 @@ fn mark_at<'x>(
     strip: u32,
     n: u32,
     shared: Shared,
+    known: Option<AskedRay>,
     marked: &mut Marked,
 ) -> Result<(), NoMemory>
     requires plan { IsPlan plan.now }
@@ -39,7 +43,8 @@ fn mark_at<'x>(
     requires ray { AreSetsAt plan.now.grid strip n ray.old.sets }
     requires marker { IsMarkerOf plan.now number strip marker.now }
     requires near { IsNearStripOf plan.now number strip near.now }
-    requires shared { IsShared plan.now number marker.now.family shared }
+    requires shared { IsShared plan.now number near.now.family shared }
+    requires known { IfSome known (IsAskedRay plan.now number strip n (near_ray_at near.now n) ray.old.sets) }
     requires room { CanCount (2 ^ 33) marked.old.counts }
     ensures same { HasSameSets ray.old ray.new }
     ensures marked { OnOk result ((move : JobMove) → HasNumber plan.now number move → Adds marked.old marked.new (λ added found.
@@ -47,19 +52,27 @@ fn mark_at<'x>(
 {
     // The bound fits.
     let _bound = ray.bound();
-    let window = window_at(shared.window, plan, number, strip, n);
-    match asked_on(near, ray, n, window) {
+    match asked_at(known, near, ray, plan, number, strip, n, shared) {
         None => Ok(()),
         Some(asked) => {
             let on_ray = marker.on_ray(n);
-            mark_ray(&on_ray, near, ray, n, asked, window, shared.rapid, marked)?;
+            mark_ray(
+                &on_ray,
+                near,
+                ray,
+                n,
+                asked.first,
+                asked.window,
+                shared.rapid,
+                marked,
+            )?;
             Ok(())
         }
     }
 }
 
-/// The first ray of a strip, from the one number on and below the other, on which a move is asked about a point, or else that other
-/// number: on the rays ahead of it the move changes and finds nothing.
+/// The first ray of a strip, from the one number on and below the other, on which a move is asked about a point, and what it is asked
+/// about there: on the rays ahead of it the move changes and finds nothing. Where there is none, on all of them.
 fn first_ray<'x>(
     near: &'x NearStrip<'x>,
     rays: &[WordRay],
@@ -68,7 +81,7 @@ fn first_ray<'x>(
     strip: u32,
     shared: Shared,
     window: (u32, u32),
-) -> u32
+) -> Option<(u32, AskedRay)>
     requires plan { IsPlan plan.now }
     requires number { number < length plan.now.moves }
     requires strip { strip < length (strips_of plan.now.grid) }
@@ -77,21 +90,19 @@ fn first_ray<'x>(
     requires shared { IsShared plan.now number near.now.family shared }
     requires order { window.0 ≤ window.1 }
     requires within { window.1 ≤ length rays.now }
-    ensures from { window.0 ≤ result }
-    ensures to { result ≤ window.1 }
-    ensures nothing { (move : JobMove) → HasNumber plan.now number move
-        → AreRaysMarked plan.now move strip rays.now rays.now window.0 result [] no_counts }
+    ensures none { IfNone result ((move : JobMove) → HasNumber plan.now number move
+        → AreRaysMarked plan.now move strip rays.now rays.now window.0 window.1 [] no_counts) }
+    ensures some { IfSome result (IsFirstRay plan.now number strip near.now rays.now window.0 window.1) }
 {
     for n in window.0..window.1 {
         let ray = &rays[n as usize];
         // The bound fits.
         let _bound = ray.bound();
-        let span = window_at(shared.window, plan, number, strip, n);
-        if let Some(_asked) = asked_on(near, ray, n, span) {
-            return n;
+        if let Some(asked) = asked_at(None, near, ray, plan, number, strip, n, shared) {
+            return Some((n, asked));
         }
     }
-    window.1
+    None
 }
 
 /// What the move changes on the rays of the strip from the one number on and below the other, and what it finds there. A move
@@ -123,12 +134,13 @@ fn mark_rays(
         changes: Vec::new(alloc),
         counts: Counts::none(),
     };
-    let from = first_ray(&near, rays, plan, number, strip, shared, window);
-    if from == window.1 {
-        return Ok(marked);
-    }
+    let (from, asked) = match first_ray(&near, rays, plan, number, strip, shared, window) {
+        None => return Ok(marked),
+        Some(found) => found,
+    };
     let mover = plan.marker(number);
     let marker = mover.on_strip(grid, first.family, first.i);
+    let mut known = Some(asked);
     for n in from..window.1 {
         mark_at(
             &marker,
@@ -139,8 +151,10 @@ fn mark_rays(
             strip,
             n,
             shared,
+            known,
             &mut marked,
         )?;
+        known = None;
     }
     Ok(marked)
 }

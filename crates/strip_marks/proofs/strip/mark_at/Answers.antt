@@ -1,42 +1,16 @@
-use Rattle.std.proofs.Common.{◌≤◌, ℕ, arith, ap, sym, ◌∙◌, subst, IfSome}
-use Rattle.ray_grid.specs.declared.ray.Family.{Family}
-use Rattle.ray_grid.specs.declared.ray.Ray.{Ray}
+use Rattle.std.proofs.Common.{arith, sym, ◌∙◌, subst}
 use Rattle.near_points.specs.Rays.{near_ray_at}
 use Rattle.wanted_marks.specs.Rays.{RayOf}
-use Rattle.strip_plan.specs.Windows.{IsCommonWindow}
 use Rattle.strip_marks.specs.RayMarks.{IsNearOf, IsWindow}
-use Rattle.strip_marks.proofs.NearRays.{near_node, near_on, near_points_of, untouched}
+use Rattle.strip_marks.proofs.NearRays.{near_node, near_on, untouched}
 use Rattle.strip_marks.proofs.OneRay.{marked_by, sets_for}
-use Rattle.strip_marks.proofs.OnStrips.{marker_is, node_within, ray_is, some_move, window_on}
+use Rattle.strip_marks.proofs.OnStrips.{marker_is, node_within, some_move, window_on}
 use Rattle.strip_marks.proofs.strip.mark_at.Goals as goal
-
-pub window_at-window-requires-clause-common : goal.window_at-window-requires-clause-common
-window_at-window-requires-clause-common c =
-    let a = c.args in
-    subst (λ (f : Family). IfSome a.shared.window (IsCommonWindow a.plan.now a.number f))
-    (sym (ap (λ (r : Ray). r.family)
-    (ray_is a.plan.now.grid a.strip a.n a.marker.now.family a.marker.now.i c.requires.marker.rays c.requires.n)))
-    c.requires.shared.window
-
-pub asked_on-requires-clause-n : goal.asked_on-requires-clause-n
-asked_on-requires-clause-n c = near_node c.args.plan.now c.args.number c.args.strip c.args.n c.args.near.now c.requires.near c.requires.n
-
-pub asked_on-requires-clause-on : goal.asked_on-requires-clause-on
-asked_on-requires-clause-on c =
-    let a = c.args in
-    let e = near_points_of a.plan.now a.number a.strip a.n a.near.now c.requires.near c.requires.n in
-    let within = c.window_at-window.ensures.within in
-    subst (λ (k : ℕ). c.window_at-window.result.1 ≤ k) (sym e) within
 
 pub returns-in-None-clause-marked : goal.returns-in-None-clause-marked
 returns-in-None-clause-marked c = λ move has.
     let a = c.args in
-    let found = c.window_at-window in
-    let e = found.ensures in
-    let w = window_on a.plan.now a.number move a.strip a.n found.result.0 found.result.1 c.requires.plan has c.requires.strip c.requires.n
-    e.order e.within (e.holds move has) in
-    untouched a.plan.now a.number a.strip a.n found.result.0 found.result.1 move a.near.now a.ray.now a.marked.now c.requires.near has c.requires.strip c.requires.n
-    c.requires.ray w c.in-None.ensures.none (omega (arith, c.bound-bound.ensures.points))
+    untouched a.plan.now move a.strip a.n a.ray.now a.marked.now c.requires.ray (c.in-None.ensures.none move has) (omega (arith, c.bound-bound.ensures.points))
 
 pub on_ray-on_ray-requires : goal.on_ray-on_ray-requires
 on_ray-on_ray-requires c = node_within c.args.plan.now c.args.number c.args.strip c.args.n c.args.marker.now c.requires.marker c.requires.n
@@ -52,12 +26,12 @@ mark_ray-requires-clause-ray c =
 pub mark_ray-requires-clause-window : goal.mark_ray-requires-clause-window
 mark_ray-requires-clause-window c =
     let a = c.args in
-    let found = c.window_at-window in
-    let e = found.ensures in
+    let asked = c.in-Some.asked in
+    let e = c.in-Some.ensures.some in
     let some = some_move a.plan.now a.number c.requires.number in
-    subst (λ (r : RayOf). IsWindow r found.result.0 found.result.1)
+    subst (λ (r : RayOf). IsWindow r asked.window.0 asked.window.1)
     (sym (c.on_ray-on_ray.ensures ∙ marker_is a.plan.now a.number a.strip a.n some.0 a.marker.now c.requires.marker some.1 c.requires.n))
-    (window_on a.plan.now a.number some.0 a.strip a.n found.result.0 found.result.1 c.requires.plan some.1 c.requires.strip c.requires.n
+    (window_on a.plan.now a.number some.0 a.strip a.n asked.window.0 asked.window.1 c.requires.plan some.1 c.requires.strip c.requires.n
     e.order e.within (e.holds some.0 some.1))
 
 pub mark_ray-requires-clause-n : goal.mark_ray-requires-clause-n

@@ -1,15 +1,14 @@
-use Rattle.std.proofs.Common.{◌≡◌, ℕ, ◌+◌, ◌-◌, ◌*◌, ◌<◌, List, [], length, get_or, arith, ap, sym, subst}
+use Rattle.std.proofs.Common.{rules, IfSome, ◌≡◌, ℕ, ◌+◌, ◌-◌, ◌*◌, ◌<◌, List, [], length, get_or, arith, sym, subst}
 use Rattle.std.proofs.lemmas.List.{get_or_default}
 use Rattle.job_facts.specs.declared.counts.Counts.{Counts}
 use Rattle.job_facts.specs.Counts.{AreWithin, most_count, no_counts}
 use Rattle.job_model.specs.Tasks.{JobMove, PlanOf}
-use Rattle.ray_grid.specs.declared.ray.Family.{Family}
+use Rattle.near_points.specs.Rays.{near_ray_at}
 use Rattle.ray_words.specs.Rays.{KeptSets}
-use Rattle.wanted_marks.specs.Strips.{StripOf}
 use Rattle.strip_marks.specs.declared.change.WordChange.{WordChange}
 use Rattle.strip_marks.specs.Marks.{kept_of}
 use Rattle.strip_marks.specs.RayMarks.{HasSameSets}
-use Rattle.strip_marks.specs.RowMarks.{AreRaysMarked, AreSetsAt, IsShared}
+use Rattle.strip_marks.specs.RowMarks.{AreRaysMarked, AreSetsAt, IsAskedRay}
 use Rattle.strip_marks.proofs.Counting.{within_more}
 use Rattle.strip_marks.proofs.MoreRays.{no_sets, same_again, same_self, same_with, sets_at}
 use Rattle.strip_marks.proofs.NearRays.{near_of}
@@ -48,11 +47,6 @@ mark_at-requires-clause-marker c =
     c.on_strip-marker.ensures c.grid-grid.ensures
     c.strip_ray-first.ensures.there c.strip_ray-first.ensures.ray c.marker-mover.ensures.marker
 
-pub mark_at-requires-clause-shared : goal.mark_at-requires-clause-shared
-mark_at-requires-clause-shared c =
-    subst (λ (f : Family). IsShared c.args.plan.now c.args.number f c.shared_by-shared.result)
-    (sym (ap (λ (s : StripOf). s.family) c.on_strip-marker.ensures)) c.shared_by-shared.ensures
-
 pub mark_at-requires-clause-ray : goal.mark_at-requires-clause-ray
 mark_at-requires-clause-ray c =
     let a = c.args in
@@ -81,6 +75,9 @@ loop-n-preserved c =
     let some = some_move a.plan.now a.number c.requires.number in
     let own = own_of k.rays k.n c.index-rays-n.result c.mark_at.new.ray (omega arith) c.in_ok-mark_at.ensures.same in
     record {
+      from = omega (arith, k.invariant.from);
+      to = omega arith;
+      known = search rules;
       same = same_again a.rays.now k.rays _ k.invariant.same (same_with k.rays k.n c.mark_at.new.ray (omega arith) own);
       within =
           within_more (span + 4294967295) ((k.n + 1 - a.window.0) * 4294967295) c.mark_at.new.marked.counts (omega arith)
@@ -100,32 +97,42 @@ returns-clause-marked c = λ move has.
     c.loop-n.marked.counts)
     e (c.loop-n.invariant.marked move has)
 
-pub first_ray-from-requires-clause-near : goal.first_ray-from-requires-clause-near
-first_ray-from-requires-clause-near c =
+pub first_ray-requires-clause-near : goal.first_ray-requires-clause-near
+first_ray-requires-clause-near c =
     let a = c.args in
     near_of a.plan.now a.number a.strip c.new-near.result c.cylinder.result.now c.grid-grid.result.now c.strip_ray-first.result
     c.new-near.ensures c.grid-grid.ensures c.strip_ray-first.ensures.there c.strip_ray-first.ensures.ray c.cylinder.ensures
 
-pub returns-then-from-window-clause-marked : goal.returns-then-from-window-clause-marked
-returns-then-from-window-clause-marked c = λ move has.
+pub returns-in-None-clause-marked : goal.returns-in-None-clause-marked
+returns-in-None-clause-marked c = λ move has.
     let a = c.args in
-    let e : c.first_ray-from.result ≡ a.window.1 = c.if-from-window.true in
     nothing_yet a.plan.now move a.strip a.window.0 a.window.1 a.rays.now c.new.result.items c.none.result c.new.ensures.items c.none.ensures
-    (subst (λ (n : ℕ). AreRaysMarked a.plan.now move a.strip a.rays.now a.rays.now a.window.0 n [] no_counts) e (c.first_ray-from.ensures.nothing move has))
+    (c.in-None.ensures.none move has)
 
 pub loop-n-init : goal.loop-n-init
 loop-n-init c =
     let a = c.args in
-    let from = c.first_ray-from.result in
+    let found = c.in-Some.ensures.some in
+    let from = c.in-Some.found.0 in
     record {
+      from = found.from;
+      to = omega (arith, found.below);
+      known = found.asked;
       same = same_self a.rays.now;
       within =
           within_more 0 ((from - a.window.0) * 4294967295) c.none.result (omega arith)
           (subst (λ (n : Counts). AreWithin 0 n) (sym c.none.ensures) none_within);
       marked = λ move has.
           nothing_yet a.plan.now move a.strip a.window.0 from a.rays.now c.new.result.items c.none.result c.new.ensures.items c.none.ensures
-          (c.first_ray-from.ensures.nothing move has);
+          (found.nothing move has);
     }
+
+pub mark_at-requires-clause-known : goal.mark_at-requires-clause-known
+mark_at-requires-clause-known c =
+    let a = c.args in
+    let k = c.loop-n in
+    subst (λ (r : KeptSets). IfSome k.known (IsAskedRay a.plan.now a.number a.strip k.n (near_ray_at c.new-near.result k.n) r.sets))
+    (sym (get_or_default k.rays k.n c.index-rays-n.result no_sets (omega arith))) k.invariant.known
 
 pub mark_at-requires-clause-near : goal.mark_at-requires-clause-near
 mark_at-requires-clause-near c =
