@@ -1,4 +1,5 @@
 ghost use Rattle.std.specs.Prelude.{◌≡◌, ℕ, ◌<◌, ◌≤◌, ◌↔◌, ◌&&◌, nat_lt, IsTrue, IfOk, All, length};
+ghost use Rattle.std.specs.Option.{IfSome};
 ghost use Rattle.vf_spans.specs.Members.{has};
 ghost use Rattle.ray_grid.specs.Lattice.{IsRay, points_of, point_of};
 ghost use Rattle.ray_grid.specs.Selects.{Selects};
@@ -19,12 +20,15 @@ use vf_spans::Spans;
 /// The points of a ray of the grid that lie in some of the bodies.
 ///
 /// A body is the meet of its planes, so on a ray it holds one interval of points. The intervals of
-/// all bodies are laid beside each other in order.
+/// all bodies are laid beside each other in order: as they come, where that is their order already.
 pub fn body_spans(alloc: Global, bodies: &[Body], grid: &Grid, ray: &Ray) -> Result<Spans, NoMemory>
     requires { IsRay grid.now ray.now }
     ensures { IfOk result (HoldsPointsOf grid.now ray.now (in_bodies bodies.now)) }
 {
     let line = Line::of(grid, ray);
+    if let Some(set) = set_in_turn(alloc, bodies, &line)? {
+        return Ok(set);
+    }
     let mut parts = parts_in(alloc, bodies, &line)?;
     cover(alloc, line.points, &mut parts)
 }
@@ -46,6 +50,38 @@ fn part_in(planes: &[Plane], line: &Line) -> Interval
         part = plane.cut(line, part);
     }
     part
+}
+
+/// The set of the parts of a line that lie in the bodies, in one walk over the bodies, where no part begins ahead of the last stretch
+/// of those before it. Of each part what lies beyond them is added. Of other bodies it tells nothing, which costs only time.
+fn set_in_turn(alloc: Global, bodies: &[Body], line: &Line) -> Result<Option<Spans>, NoMemory>
+    ensures bound { IfOk result (λ found. IfSome found (λ s. length s ≡ line.now.points)) }
+    ensures exact { IfOk result (λ found. IfSome found (λ s.
+        (l : ℕ) → has s l ≡ (nat_lt l line.now.points && in_bodies bodies.now (point_on line.now l)))) }
+{
+    let mut set = Spans::new(alloc, line.points);
+    // The set has each index from the first of the last stretch on and below its end, and none beyond it.
+    let mut first = 0;
+    let mut end = 0;
+    for body in bodies {
+        let part = part_in(body.planes(), line);
+        if part.lo >= part.hi {
+            continue;
+        }
+        if part.lo < first {
+            return Ok(None);
+        }
+        let lo = part.lo.max(end);
+        if lo >= part.hi {
+            continue;
+        }
+        if end < lo {
+            first = lo;
+        }
+        set.push_range(lo, part.hi)?;
+        end = part.hi;
+    }
+    Ok(Some(set))
 }
 
 /// The parts of a line that lie in the bodies, those that are not empty.
