@@ -19,10 +19,11 @@ use Rattle.strip_plan.specs.Passing.{AppliesNone, ArePassed, HasNone, IsPassed, 
 use Rattle.strip_plan.specs.Plans.{HasNumber}
 use Rattle.strip_plan.proofs.Rows.{ray_is}
 
+-- a box that has nothing
 no_ranges : AxisRanges
 no_ranges = record { nodes = (0, 0); points = (0, 0) }
 
-no_box : IndexBox
+pub no_box : IndexBox
 no_box = record { x = no_ranges; y = no_ranges; z = no_ranges }
 
 -- the boxes of a plan's moves, and a strip by its family and its first node

@@ -168,14 +168,10 @@ impl Plan {
         ensures within { result.1 ≤ points_of self.now.grid ray.now.family }
         ensures holds { (move : JobMove) → HasNumber self.now number move → HoldsPossible self.now move ray.now result.0 result.1 }
     {
-        let window = self.boxes.hulls[number as usize].ray_window(ray);
-        if window.0 == window.1 {
-            return window;
-        }
         let start = self.boxes.starts[number as usize];
         let end = self.boxes.starts[number as usize + 1];
         if start == end {
-            return window;
+            return self.boxes.hulls[number as usize].ray_window(ray);
         }
         boxes_ray_window(&self.boxes.boxes, start, end, ray)
     }
