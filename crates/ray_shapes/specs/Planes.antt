@@ -1,5 +1,5 @@
 -- Which points a plane, a body and a list of bodies hold.
-use Rattle.std.specs.Prelude.{ℤ, ◌+ℤ◌, ◌*ℤ◌, int_le, Bool, List}
+use Rattle.std.specs.Prelude.{◌≡◌, ◌-◌, ◌≤◌, ℤ, pos, negsuc, ◌+ℤ◌, ◌*ℤ◌, int_le, Bool, List, length, slice_index_or}
 use Rattle.std.specs.List.{list_all, list_any}
 use Rattle.space.specs.Vectors.{at}
 use Rattle.ray_grid.specs.declared.ray.Family.{Family}
@@ -27,3 +27,17 @@ in_body body point = list_all (λ plane. plane_holds plane point) body
 -- the points of a list of bodies are those of any of them
 abbrev pub in_bodies : List (List Plane) → List ℤ → Bool
 in_bodies bodies point = list_any (λ body. in_body body point) bodies
+
+-- the coefficients of a plane
+abbrev pub IsSide : ℤ → ℤ → ℤ → Plane → Type 0
+IsSide a b c plane = (plane.a ≡ a) × (plane.b ≡ b) × (plane.c ≡ c)
+
+-- the last six planes of a body are the sides of a box along the axes, two for each axis, that at its upper end first
+pub record EndsInBox (planes : List Plane) : Type 0 where
+  pub many : 6 ≤ length planes
+  pub upper_x : (d : Plane) → IsSide (pos 1) (pos 0) (pos 0) (slice_index_or planes (length planes - 6) d)
+  pub lower_x : (d : Plane) → IsSide (negsuc 0) (pos 0) (pos 0) (slice_index_or planes (length planes - 5) d)
+  pub upper_y : (d : Plane) → IsSide (pos 0) (pos 1) (pos 0) (slice_index_or planes (length planes - 4) d)
+  pub lower_y : (d : Plane) → IsSide (pos 0) (negsuc 0) (pos 0) (slice_index_or planes (length planes - 3) d)
+  pub upper_z : (d : Plane) → IsSide (pos 0) (pos 0) (pos 1) (slice_index_or planes (length planes - 2) d)
+  pub lower_z : (d : Plane) → IsSide (pos 0) (pos 0) (negsuc 0) (slice_index_or planes (length planes - 1) d)

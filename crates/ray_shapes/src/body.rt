@@ -1,27 +1,60 @@
-ghost use Rattle.std.specs.Prelude.{◌≡◌, List, IfOk};
+ghost use Rattle.std.specs.Prelude.{◌≡◌, ◌<◌, List, ℤ, IfOk, IsTrue, length};
 ghost use Rattle.ray_shapes.specs.declared.plane.Plane.{Plane};
+ghost use Rattle.ray_shapes.specs.Planes.{EndsInBox, IsSide};
 
 use crate::plane::Plane;
 use std::marker::Model;
 use vf_io::NoMemory;
 
-/// The points that all its planes hold; with no plane, every point.
+/// The points that all its planes hold; with no plane, every point. It knows of its last six planes whether they are the sides of a
+/// box along the axes.
 #[derive(Debug, Drop)]
 pub struct Body {
     planes: Vec<Plane>,
+    is_boxed: bool,
 }
 
 impl Model for Body {
+    ghost use Rattle.std.specs.Prelude.{IsTrue, List};
+    ghost use Rattle.ray_shapes.specs.declared.plane.Plane.{Plane};
+    ghost use Rattle.ray_shapes.specs.Planes.{EndsInBox};
+
     ghost Value = { List Plane };
 
     ghost view = { λ b. b.planes.items };
+
+    ghost invariant = { λ b. IsTrue b.is_boxed → EndsInBox b.planes.items };
+}
+
+/// Whether a plane has these coefficients.
+fn is_side(plane: &Plane, a: i32, b: i32, c: i32) -> bool
+    ensures { IsTrue result → IsSide a b c plane.now }
+{
+    plane.a == a && plane.b == b && plane.c == c
+}
+
+/// Whether the last six planes are seen to be the sides of a box along the axes.
+fn ends_in_box(planes: &[Plane]) -> bool
+    ensures { IsTrue result → EndsInBox planes.now }
+{
+    let end = planes.len();
+    if end < 6 {
+        return false;
+    }
+    is_side(&planes[end - 6], 1, 0, 0)
+        && is_side(&planes[end - 5], -1, 0, 0)
+        && is_side(&planes[end - 4], 0, 1, 0)
+        && is_side(&planes[end - 3], 0, -1, 0)
+        && is_side(&planes[end - 2], 0, 0, 1)
+        && is_side(&planes[end - 1], 0, 0, -1)
 }
 
 impl Body {
     pub fn new(planes: Vec<Plane>) -> Body
         ensures { result ≡ planes.items }
     {
-        Body { planes }
+        let is_boxed = ends_in_box(&planes);
+        Body { planes, is_boxed }
     }
 
     pub fn planes(&self) -> &[Plane]
@@ -30,12 +63,23 @@ impl Body {
         self.planes.as_slice()
     }
 
+    /// Whether the last six planes are known to be the sides of a box along the axes.
+    #[inline]
+    pub(crate) fn is_boxed(&self) -> bool
+        ensures { IsTrue result → EndsInBox self.now }
+    {
+        self.is_boxed
+    }
+
     /// The same body.
     pub fn copy(&self) -> Result<Body, NoMemory>
         ensures { IfOk result (λ b. b ≡ self.now) }
     {
         let planes = Vec::from_slice(*self.planes.allocator(), self.planes.as_slice())?;
-        Ok(Body { planes })
+        Ok(Body {
+            planes,
+            is_boxed: self.is_boxed,
+        })
     }
 
     pub fn into_planes(self) -> Vec<Plane>

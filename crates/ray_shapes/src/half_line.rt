@@ -34,6 +34,9 @@ impl Ramp {
         ensures exact { Selects result.lo result.hi (λ l. (part.lo ≤ l) × (l < part.hi)
             × ((self.now.start +ℤ (self.now.slope *ℤ pos l)) ≤ℤ self.now.limit)) }
     {
+        if self.slope == 0 {
+            return self.all_or_none(part);
+        }
         let last = part.hi - 1;
         if self.is_within(part.lo) {
             if self.is_within(last) {
@@ -49,6 +52,25 @@ impl Ramp {
                 lo: last - self.steps_down(part.lo, last),
                 hi: part.hi,
             };
+        }
+        Interval {
+            lo: part.lo,
+            hi: part.lo,
+        }
+    }
+
+    /// The part of an interval where a value that is the same at each index is at most the limit: all of it, or nothing.
+    #[inline]
+    fn all_or_none(&self, part: Interval) -> Interval
+        requires level { self.now.slope ≡ pos 0 }
+        requires some { part.lo < part.hi }
+        ensures order { result.lo ≤ result.hi }
+        ensures within { result.hi ≤ part.hi }
+        ensures exact { Selects result.lo result.hi (λ l. (part.lo ≤ l) × (l < part.hi)
+            × ((self.now.start +ℤ (self.now.slope *ℤ pos l)) ≤ℤ self.now.limit)) }
+    {
+        if self.start <= self.limit {
+            return part;
         }
         Interval {
             lo: part.lo,

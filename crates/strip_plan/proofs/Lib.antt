@@ -9,3 +9,4 @@ pub mod Windowed
 pub mod Rows
 pub mod Cylindered
 pub mod Passed
+pub mod Grouped

@@ -1,8 +1,7 @@
 -- Edits whose moves have a hull with nothing in a strip leave it alone.
-use Rattle.std.proofs.Common.{◌≡◌, ◌∙◌, ℕ, ◌+◌, ◌-◌, ◌<◌, ◌≤◌, List, Some, length, slice_get, get_or, arith, subst}
+use Rattle.std.proofs.Common.{◌≡◌, ℕ, ◌+◌, ◌<◌, ◌≤◌, List, Some, length, slice_get, get_or, arith, subst}
 use Rattle.std.specs.Prelude.{All}
-use Rattle.std.specs.List.{AllWithin, slice_range}
-use Rattle.std.proofs.lemmas.List.{get_or-drop, get_or-take}
+use Rattle.std.specs.List.{AllWithin}
 use Rattle.std.proofs.lemmas.List.Elements.{All-get_or}
 use Rattle.std.proofs.lemmas.Option.{slice_get-get_or}
 use Rattle.ray_grid.specs.declared.ray.Family.{Family}
@@ -20,10 +19,11 @@ use Rattle.strip_plan.specs.Passing.{AppliesNone, ArePassed, HasNone, IsPassed, 
 use Rattle.strip_plan.specs.Plans.{HasNumber}
 use Rattle.strip_plan.proofs.Rows.{ray_is}
 
+-- a box that has nothing
 no_ranges : AxisRanges
 no_ranges = record { nodes = (0, 0); points = (0, 0) }
 
-no_box : IndexBox
+pub no_box : IndexBox
 no_box = record { x = no_ranges; y = no_ranges; z = no_ranges }
 
 -- the boxes of a plan's moves, and a strip by its family and its first node
@@ -45,13 +45,10 @@ module _ (plan : PlanOf) (hulls boxes : List IndexBox) (starts : List ℕ) (stri
   passed_by version Redo is low none = absurd none
 
   -- so many edits from a version on
-  pub passed_from : (version most count : ℕ) → version + most ≤ length plan.edits → count ≤ most
-      → All (AppliesBelow (length plan.moves)) plan.edits
-      → AllWithin (AppliesNone hulls family i) (slice_range plan.edits version (version + most)) 0 count
-      → ArePassed plan strip version count
-  passed_from version most count within less named none k low =
-      let inside : version + k < length plan.edits = omega (arith, within, less, low) in
-      let same = get_or-take (version + most - version) _ k Undo (omega (arith, less, low)) ∙ get_or-drop version plan.edits k Undo in
+  pub passed_from : (version count : ℕ) → version + count ≤ length plan.edits → All (AppliesBelow (length plan.moves)) plan.edits
+      → AllWithin (AppliesNone hulls family i) plan.edits version (version + count) → ArePassed plan strip version count
+  passed_from version count within named none k low =
+      let inside : version + k < length plan.edits = omega (arith, within, low) in
       passed_by (version + k) (get_or plan.edits (version + k) Undo) (slice_get-get_or plan.edits (version + k) Undo inside)
       (All-get_or (AppliesBelow (length plan.moves)) plan.edits (version + k) Undo inside named)
-      (subst (AppliesNone hulls family i) same (none k Undo (omega arith) low))
+      (none (version + k) Undo (omega arith) (omega (arith, low)))

@@ -1,5 +1,8 @@
 -- Edits that leave a strip alone.
-use Rattle.std.specs.Prelude.{◌≡◌, ℕ, ◌+◌, ◌<◌, List, Some, length, slice_get, slice_index_or}
+use Rattle.std.specs.Prelude.{◌≡◌, ℕ, ◌+◌, ◌*◌, ◌<◌, List, Option, None, Some, length, slice_get, slice_index_or}
+use Rattle.std.specs.List.{AllWithin}
+use Rattle.std.specs.Option.{IfSome}
+use Rattle.ray_grid.specs.declared.ray.Ray.{Ray}
 use Rattle.ray_grid.specs.declared.ray.Family.{Family}
 use Rattle.edit_plan.specs.declared.edit.Edit.{Edit}
 use Rattle.edit_plan.specs.declared.edit.Edit.TheVariants.{Apply, Undo, Redo}
@@ -33,3 +36,15 @@ abbrev pub AppliesNone : List IndexBox → Family → ℕ → Edit → Type 0
 AppliesNone hulls family i (Apply number) = (d : IndexBox) → HasNone (slice_index_or hulls number d) family i
 AppliesNone hulls family i Undo = ⊥
 AppliesNone hulls family i Redo = ⊥
+
+-- an edit applies a move whose box, one of these, has only points that another box has
+abbrev pub IsAppliedIn : List IndexBox → IndexBox → Edit → Type 0
+IsAppliedIn hulls group (Apply number) = (d : IndexBox) (ray : Ray) (l : ℕ) → HasPoint (slice_index_or hulls number d) ray l → HasPoint group ray l
+IsAppliedIn hulls group Undo = ⊥
+IsAppliedIn hulls group Redo = ⊥
+
+-- where the eight edits from the eight-fold of a number on have a box, each of them applies a move of which this holds the box
+abbrev pub AreGroups : List IndexBox → List Edit → List (Option IndexBox) → Type 0
+AreGroups hulls edits groups =
+    (n : ℕ) → n < length groups
+    → IfSome (slice_index_or groups n None) (λ group. AllWithin (IsAppliedIn hulls group) edits (8 * n) (8 * n + 8))

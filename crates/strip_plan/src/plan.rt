@@ -12,7 +12,8 @@ ghost use Rattle.strip_plan.specs.Windows.{HoldsEntered, HoldsMet, HoldsPossible
 use crate::boxes::{Boxes, boxes_of};
 use crate::cutters::{Cutters, cutters_of};
 use crate::cylinders::cylinders_of;
-use crate::passing::count_alone;
+use crate::index_box::IndexBox;
+use crate::passing::{count_alone, groups_of};
 use crate::plan_move::PlanMove;
 use crate::windows::{boxes_ray_window, boxes_strip_window, row};
 use edit_plan::{Edit, Edits};
@@ -32,6 +33,7 @@ pub struct Plan {
     edits: Edits,
     cutters: Cutters,
     boxes: Boxes,
+    groups: Vec<Option<IndexBox>>,
     cylinders: Vec<BoundingCylinder>,
 }
 
@@ -43,6 +45,7 @@ impl Model for Plan {
     ghost use Rattle.strip_plan.specs.Boxed.{HasBoxes};
     ghost use Rattle.strip_plan.specs.Cutters.{HasStacks};
     ghost use Rattle.strip_plan.specs.Cylinders.{HasCylinders};
+    ghost use Rattle.strip_plan.specs.Passing.{AreGroups};
 
     ghost Value = { PlanOf };
 
@@ -54,7 +57,8 @@ impl Model for Plan {
         × HasBoxes p.grid p.cutters.slabs p.depth p.moves.items p.boxes.hulls.items p.boxes.boxes.items p.boxes.starts.items
         (length p.moves.items)
         × HasCylinders p.grid p.cutters.slabs p.depth p.moves.items p.cylinders.items (length p.moves.items)
-        × IsPlan record { grid = p.grid; slabs = p.cutters.slabs; depth = p.depth; moves = p.moves.items; edits = p.edits } };
+        × IsPlan record { grid = p.grid; slabs = p.cutters.slabs; depth = p.depth; moves = p.moves.items; edits = p.edits }
+        × AreGroups p.boxes.hulls.items p.edits p.groups.items };
 }
 
 impl Plan {
@@ -77,6 +81,7 @@ impl Plan {
     {
         let cutters = cutters_of(alloc, &moves, slabs)?;
         let boxes = boxes_of(alloc, &grid, depth, &moves, &cutters)?;
+        let groups = groups_of(alloc, &boxes.hulls, edits.as_slice())?;
         let cylinders = cylinders_of(alloc, &grid, &moves, &cutters)?;
         Ok(Plan {
             grid,
@@ -85,6 +90,7 @@ impl Plan {
             edits,
             cutters,
             boxes,
+            groups,
             cylinders,
         })
     }
@@ -162,14 +168,10 @@ impl Plan {
         ensures within { result.1 ≤ points_of self.now.grid ray.now.family }
         ensures holds { (move : JobMove) → HasNumber self.now number move → HoldsPossible self.now move ray.now result.0 result.1 }
     {
-        let window = self.boxes.hulls[number as usize].ray_window(ray);
-        if window.0 == window.1 {
-            return window;
-        }
         let start = self.boxes.starts[number as usize];
         let end = self.boxes.starts[number as usize + 1];
         if start == end {
-            return window;
+            return self.boxes.hulls[number as usize].ray_window(ray);
         }
         boxes_ray_window(&self.boxes.boxes, start, end, ray)
     }
@@ -227,7 +229,8 @@ impl Plan {
     {
         let (family, i) = row(&self.grid, strip);
         let from = version as usize;
-        let edits = &self.edits.as_slice()[from..from + most as usize];
-        count_alone(&self.boxes.hulls, edits, family, i) as u32
+        let to = from + most as usize;
+        let edits = self.edits.as_slice();
+        count_alone(&self.boxes.hulls, &self.groups, edits, from, to, family, i) as u32
     }
 }

@@ -23,9 +23,9 @@ pub fn row(grid: &Grid, strip: u32) -> (Family, u32)
 }
 
 /// From the one to the other index lie the points of a ray that are in one of the boxes from a place on and ahead of another.
-// Most moves have one box, and shall not pay for the loop.
-#[inline(never)]
-pub fn boxes_ray_window(boxes: &[IndexBox], start: usize, end: usize, ray: &Ray) -> (u32, u32)
+// Written into each of its calls, so that the family is not asked for each box.
+#[inline(always)]
+fn ray_window_of(boxes: &[IndexBox], start: usize, end: usize, ray: &Ray) -> (u32, u32)
     requires { end ≤ length boxes.now }
     ensures range { (grid : GridSize) → AreBoxesOf grid boxes.now → IsRangeOf (points_of grid ray.now.family) result }
     ensures has { (l : ℕ) → IsInOneOf boxes.now start end ray.now l → IsIn result l }
@@ -37,11 +37,54 @@ pub fn boxes_ray_window(boxes: &[IndexBox], start: usize, end: usize, ray: &Ray)
     window
 }
 
+/// From the one to the other index lie the points of a ray that are in one of the boxes from a place on and ahead of another.
+// Most moves have one box, and shall not pay for the loops.
+#[inline(never)]
+pub fn boxes_ray_window(boxes: &[IndexBox], start: usize, end: usize, ray: &Ray) -> (u32, u32)
+    requires { end ≤ length boxes.now }
+    ensures range { (grid : GridSize) → AreBoxesOf grid boxes.now → IsRangeOf (points_of grid ray.now.family) result }
+    ensures has { (l : ℕ) → IsInOneOf boxes.now start end ray.now l → IsIn result l }
+{
+    let (i, j) = (ray.i, ray.j);
+    match ray.family {
+        Family::X => ray_window_of(
+            boxes,
+            start,
+            end,
+            &Ray {
+                family: Family::X,
+                i,
+                j,
+            },
+        ),
+        Family::Y => ray_window_of(
+            boxes,
+            start,
+            end,
+            &Ray {
+                family: Family::Y,
+                i,
+                j,
+            },
+        ),
+        Family::Z => ray_window_of(
+            boxes,
+            start,
+            end,
+            &Ray {
+                family: Family::Z,
+                i,
+                j,
+            },
+        ),
+    }
+}
+
 /// From the one to the other number stand the rays of a strip, that of a family's rays with the first node `i`, with a point in one
 /// of the boxes from a place on and ahead of another.
-// Most moves have one box, and shall not pay for the loop.
-#[inline(never)]
-pub fn boxes_strip_window(
+// Written into each of its calls, so that the family is not asked for each box.
+#[inline(always)]
+fn strip_window_of(
     boxes: &[IndexBox],
     start: usize,
     end: usize,
@@ -57,4 +100,26 @@ pub fn boxes_strip_window(
         window = hull(window, boxes[place].strip_window(family, i));
     }
     window
+}
+
+/// From the one to the other number stand the rays of a strip, that of a family's rays with the first node `i`, with a point in one
+/// of the boxes from a place on and ahead of another.
+// Most moves have one box, and shall not pay for the loops.
+#[inline(never)]
+pub fn boxes_strip_window(
+    boxes: &[IndexBox],
+    start: usize,
+    end: usize,
+    family: Family,
+    i: u32,
+) -> (u32, u32)
+    requires { end ≤ length boxes.now }
+    ensures range { (grid : GridSize) → AreBoxesOf grid boxes.now → IsRangeOf (nodes_of grid (second_axis family)) result }
+    ensures has { (j l : ℕ) → IsInOneOf boxes.now start end record { family = family; i = i; j = j } l → IsIn result j }
+{
+    match family {
+        Family::X => strip_window_of(boxes, start, end, Family::X, i),
+        Family::Y => strip_window_of(boxes, start, end, Family::Y, i),
+        Family::Z => strip_window_of(boxes, start, end, Family::Z, i),
+    }
 }

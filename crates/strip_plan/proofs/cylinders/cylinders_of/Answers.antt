@@ -1,4 +1,4 @@
-use Rattle.std.proofs.Common.{◌≡◌, true, ◌<◌, ◌^◌, List, ℤ, ap, length, rules, subst, sym}
+use Rattle.std.proofs.Common.{◌≡◌, true, ◌<◌, ◌^◌, List, ℤ, ap, length, rules, subst}
 use Rattle.space.specs.Motion.{Motion}
 use Rattle.cutter_marks.specs.MarkBy.{is_possible_by}
 use Rattle.cutter_slabs.specs.Stacks.{StacksOf}

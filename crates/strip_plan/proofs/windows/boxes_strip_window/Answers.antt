@@ -1,17 +1,34 @@
-use Rattle.std.proofs.Common.{⊎_elim, arith}
-use Rattle.strip_plan.proofs.Boxed.{before_or_at, up_to}
+use Rattle.std.proofs.Common.{subst, sym}
+use Rattle.ray_grid.specs.Families.{second_axis}
+use Rattle.ray_grid.specs.Lattice.{nodes_of}
+use Rattle.ray_grid.specs.declared.ray.Family.{Family}
+use Rattle.strip_plan.specs.Boxed.{IsInOneOf}
+use Rattle.strip_plan.specs.Ranges.{IsRangeOf}
 use Rattle.strip_plan.proofs.windows.boxes_strip_window.Goals as goal
 
-pub loop-place-preserved : goal.loop-place-preserved
-loop-place-preserved c =
-    let before = c.loop-place.invariant in (
-      λ grid fit.
-          c.hull-window.ensures.range _ (before.0 grid fit) (c.strip_window.ensures.range grid (fit c.loop-place.place _ (omega (arith, c.loop-place-test.true, c.requires)))),
-      λ j x is.
-          ⊎_elim (λ less. c.hull-window.ensures.of_one j (before.1 j x less))
-          (λ here. c.hull-window.ensures.of_other j (c.strip_window.ensures.has j x (here _)))
-          (before_or_at c.args.boxes.now c.args.start c.loop-place.place _ x is),
-    )
+pub returns-in-X-clause-range : goal.returns-in-X-clause-range
+returns-in-X-clause-range c grid fit =
+    subst (λ (f : Family). IsRangeOf (nodes_of grid (second_axis f)) c.strip_window_of.result) (sym c.in-X.is) (c.strip_window_of.ensures.range grid fit)
 
-pub returns-clause-has : goal.returns-clause-has
-returns-clause-has c j x is = c.loop-place.invariant.1 j x (up_to c.args.boxes.now c.args.start c.args.end c.loop-place.place _ x c.loop-place-test.false is)
+pub returns-in-X-clause-has : goal.returns-in-X-clause-has
+returns-in-X-clause-has c j l is =
+    c.strip_window_of.ensures.has j l
+    (subst (λ (f : Family). IsInOneOf c.args.boxes.now c.args.start c.args.end (record { family = f; i = c.args.i; j = j }) l) c.in-X.is is)
+
+pub returns-in-Y-clause-range : goal.returns-in-Y-clause-range
+returns-in-Y-clause-range c grid fit =
+    subst (λ (f : Family). IsRangeOf (nodes_of grid (second_axis f)) c.strip_window_of-in-Y.result) (sym c.in-Y.is) (c.strip_window_of-in-Y.ensures.range grid fit)
+
+pub returns-in-Y-clause-has : goal.returns-in-Y-clause-has
+returns-in-Y-clause-has c j l is =
+    c.strip_window_of-in-Y.ensures.has j l
+    (subst (λ (f : Family). IsInOneOf c.args.boxes.now c.args.start c.args.end (record { family = f; i = c.args.i; j = j }) l) c.in-Y.is is)
+
+pub returns-in-Z-clause-range : goal.returns-in-Z-clause-range
+returns-in-Z-clause-range c grid fit =
+    subst (λ (f : Family). IsRangeOf (nodes_of grid (second_axis f)) c.strip_window_of-in-Z.result) (sym c.in-Z.is) (c.strip_window_of-in-Z.ensures.range grid fit)
+
+pub returns-in-Z-clause-has : goal.returns-in-Z-clause-has
+returns-in-Z-clause-has c j l is =
+    c.strip_window_of-in-Z.ensures.has j l
+    (subst (λ (f : Family). IsInOneOf c.args.boxes.now c.args.start c.args.end (record { family = f; i = c.args.i; j = j }) l) c.in-Z.is is)

@@ -1,7 +1,6 @@
-use Rattle.std.proofs.Common.{◌≡◌, ◌∙◌, ◌+◌, ◌-◌, ◌≤◌, List, ap, arith, drop, length, subst}
+use Rattle.std.proofs.Common.{◌≡◌, ◌∙◌, ◌+◌, ◌≤◌, List, ap, arith, length, subst}
 use Rattle.std.specs.Prelude.{All}
-use Rattle.std.specs.List.{AllWithin, slice_range}
-use Rattle.std.proofs.lemmas.List.{length-take}
+use Rattle.std.specs.List.{AllWithin}
 use Rattle.ray_grid.specs.Grids.{GridSize}
 use Rattle.ray_grid.specs.Strips.{strip_at, strip_of}
 use Rattle.edit_plan.specs.declared.edit.Edit.{Edit}
@@ -23,12 +22,12 @@ returns-clause-alone c =
     let i = c.row-family.result.1 in
     let row = subst (λ (g : GridSize). strip_at g c.args.strip ≡ strip_of g family i) (ap (λ (p : PlanOf). p.grid) c.self.view_is) c.row-family.ensures in
     let from = c.args.version in
-    let to = c.args.version + c.args.most in
-    let edits = c.as_slice.ensures ∙ ap (λ (p : PlanOf). p.edits) c.self.view_is in
-    let own_hulls = subst (λ (hulls : List IndexBox). AllWithin (AppliesNone hulls family i) (slice_range c.as_slice.result.now from to) 0 c.count_alone.result)
+    let count = c.count_alone.result in
+    let edits = c.as_slice-edits.ensures ∙ ap (λ (p : PlanOf). p.edits) c.self.view_is in
+    let own_hulls = subst (λ (hulls : List IndexBox). AllWithin (AppliesNone hulls family i) c.as_slice-edits.result.now from (from + count))
     c.deref.ensures.value c.count_alone.ensures.alone in
-    let none = subst (λ (all : List Edit). AllWithin (AppliesNone own.hulls.items family i) (slice_range all from to) 0 c.count_alone.result) edits own_hulls in
-    let low = c.count_alone.ensures.within in
-    let within : c.count_alone.result ≤ c.args.most = omega (arith, low, length-take (to - from) (drop from c.as_slice.result.now)) in
-    passed_from plan own.hulls.items own.boxes.items own.starts.items c.args.strip family i has row from c.args.most c.count_alone.result
-    c.requires.edits within named none
+    let none = subst (λ (all : List Edit). AllWithin (AppliesNone own.hulls.items family i) all from (from + count)) edits own_hulls in
+    let most = c.count_alone.ensures.within in
+    let end = c.requires.edits in
+    let within : from + count ≤ length plan.edits = omega (arith, most, end) in
+    passed_from plan own.hulls.items own.boxes.items own.starts.items c.args.strip family i has row from count within named none

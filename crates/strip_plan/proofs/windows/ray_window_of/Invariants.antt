@@ -4,7 +4,7 @@ use Rattle.ray_grid.specs.Lattice.{points_of}
 use Rattle.strip_plan.specs.Boxed.{IsInOneOf}
 use Rattle.strip_plan.specs.IndexBoxes.{AreBoxesOf}
 use Rattle.strip_plan.specs.Ranges.{IsIn, IsRangeOf}
-use Rattle.strip_plan.proofs.windows.boxes_ray_window.Given as goal
+use Rattle.strip_plan.proofs.windows.ray_window_of.Given as goal
 
 abbrev pub invariant-loop-place : goal.invariant-loop-place
 invariant-loop-place l =
