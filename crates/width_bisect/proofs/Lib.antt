@@ -10,3 +10,4 @@ pub mod Beginning
 pub mod Closing
 pub mod Answering
 pub mod Bounding
+pub mod Parts
