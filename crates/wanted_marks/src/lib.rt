@@ -9,6 +9,7 @@ mod long;
 mod move_marker;
 mod narrow;
 mod near;
+mod on_stretch;
 mod part;
 mod peak;
 mod ray_marker;
