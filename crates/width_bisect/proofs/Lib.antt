@@ -11,3 +11,4 @@ pub mod Closing
 pub mod Answering
 pub mod Bounding
 pub mod Parts
+pub mod Beside

@@ -17,6 +17,7 @@ use box_bisect::mark_point_uncounted;
 use cutter_slabs::Stacks;
 
 /// What is asked of a point that is not behind the tip throughout the part.
+#[inline]
 fn mark_ahead(
     sweep: &Sweep,
     stacks: &Stacks,
@@ -61,6 +62,7 @@ fn mark_ahead(
 /// it is only asked whether the point is sure, a mark that is Removed exactly where that one is. A point that is behind the tip
 /// throughout, as most are that stand below a tool's way, costs next to nothing. `near` is the number from which the slab at the
 /// point's height is looked for: any is right, best that of a point beside it. The one that is found comes in its place.
+#[inline]
 pub fn mark_on_part(
     sweep: &Sweep,
     stacks: &Stacks,
