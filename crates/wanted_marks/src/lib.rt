@@ -16,6 +16,7 @@ mod ray_marker;
 mod scaled;
 mod sets;
 mod sheet;
+mod sides;
 mod start;
 mod strip_marker;
 mod turn;

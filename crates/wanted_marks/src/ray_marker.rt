@@ -3,6 +3,7 @@ use crate::line::Line;
 use crate::move_marker::MoveMarker;
 use crate::near::Near;
 use crate::part::Part;
+use crate::sides::{Sides, is_few};
 use crate::word::{WordMarks, asked_at, bits_between, bits_without, chosen_bits};
 use axis_cells::Mark;
 use ray_grid::{Grid, Ray};
@@ -273,7 +274,7 @@ impl<'a> RayMarker<'a> {
     {
         // The points are few by the type, which is known where a field is seen.
         let _few = &self.ray;
-        if wanted == 0 {
+        if wanted == 0 || is_few(wanted) {
             return 0;
         }
         let from = first + lowest_bit(wanted);
@@ -282,6 +283,34 @@ impl<'a> RayMarker<'a> {
             None => 0,
             Some(run) => bits_between(wanted, run.first - first, run.last - first),
         }
+    }
+
+    /// The same by three samples: one for all, and one for what it leaves below and above.
+    fn sure_on_sides(&self, first: u32, wanted: u64) -> u64
+        requires { AreOnRay self.now first wanted }
+        ensures wanted { (b : ℕ) → b < 64 → has_bit result b ≡ true → has_bit wanted b ≡ true }
+        ensures sure { (b : ℕ) → b < 64 → has_bit result b ≡ true
+            → IsRemovedBy self.now.sweep (point_of self.now.grid self.now.ray (first + b)) }
+    {
+        let sure = self.sure_bits(first, wanted);
+        let sides = Sides::beside(bits_without(wanted, sure), sure);
+        let below = self.sure_bits(first, sides.below);
+        let above = self.sure_bits(first, sides.above);
+        sure | below | above
+    }
+
+    /// The same by seven samples: one for all, and three for what it leaves below and above.
+    fn sure_by_samples(&self, first: u32, wanted: u64) -> u64
+        requires { AreOnRay self.now first wanted }
+        ensures wanted { (b : ℕ) → b < 64 → has_bit result b ≡ true → has_bit wanted b ≡ true }
+        ensures sure { (b : ℕ) → b < 64 → has_bit result b ≡ true
+            → IsRemovedBy self.now.sweep (point_of self.now.grid self.now.ray (first + b)) }
+    {
+        let sure = self.sure_bits(first, wanted);
+        let sides = Sides::beside(bits_without(wanted, sure), sure);
+        let below = self.sure_on_sides(first, sides.below);
+        let above = self.sure_on_sides(first, sides.above);
+        sure | below | above
     }
 
     /// The part of the move outside of which the points of these bits are clear, for which all points from the lowest of them to the
@@ -357,14 +386,14 @@ impl<'a> RayMarker<'a> {
         }
     }
 
-    /// The same, where what one sample shows to be sure isn't asked point by point.
+    /// The same, where what some samples show to be sure isn't asked point by point.
     fn mark_by_runs(&self, first: u32, wanted: u64, sure_only: u64) -> WordMarks
         requires { AreOnRay self.now first wanted }
         ensures sure { (b : ℕ) → b < 64 → has_bit result.sure b ≡ is_sure_bit self.now first wanted b }
         ensures possible { (b : ℕ) → b < 64 → has_bit sure_only b ≡ false
             → has_bit result.possible b ≡ is_possible_bit self.now first wanted b }
     {
-        let sure = self.sure_bits(first, wanted);
+        let sure = self.sure_by_samples(first, wanted);
         let rest = bits_without(wanted, sure);
         self.mark_by_parts(first, rest, sure_only).with_sure(sure)
     }
