@@ -1,5 +1,5 @@
 -- What is apart is excluded on the box of the stretch and the points, for every slab that is no wider.
-use Rattle.std.proofs.Common.{◌≡◌, Bool, true, false, not, ℕ, zero, suc, ◌+◌, ◌-◌, ◌^◌, ◌<◌, [], ◌∷◌, List, get_or, ℤ, pos, ◌+ℤ◌, ◌*ℤ◌, ◌-ℤ◌, ◌≤ℤ◌, ◌<ℤ◌, inl, inr, arith, refl, subst, sym, ap, ⊎_elim, ◌∙◌}
+use Rattle.std.proofs.Common.{◌≡◌, Bool, true, false, not, ℕ, zero, suc, ◌+◌, ◌-◌, ◌^◌, ◌<◌, [], ◌∷◌, List, get_or, ℤ, pos, ◌+ℤ◌, ◌*ℤ◌, ◌-ℤ◌, ◌≤ℤ◌, ◌<ℤ◌, inl, inr, arith, refl, subst, sym, ⊎_elim}
 use Rattle.std.specs.List.{All, list_any}
 use Rattle.std.proofs.lemmas.Int.{ints}
 use Rattle.std.proofs.lemmas.List.Folds.{list_any_none}
@@ -20,7 +20,7 @@ use Rattle.box_bisect.specs.RayBoxes.{grid_less, is_excluded_across, is_excluded
 use Rattle.box_bisect.specs.Stretches.{AreFormsBetween}
 use Rattle.box_bisect.proofs.RayExcluded.{decides_across}
 use Rattle.box_bisect.proofs.RayLines.{IsLine, decided_at}
-use Rattle.box_bisect.proofs.Searching.{dropped, halved, out_both}
+use Rattle.box_bisect.proofs.Searching.{dropped}
 use Rattle.ray_runs.specs.Apart.{AreAbove, AreApart, AreBeside, AreOutBeside, IsBehind, IsNoWider, IsPairAt}
 use Rattle.ray_runs.specs.Moments.{moment_product}
 use Rattle.ray_runs.proofs.Convex.{product_natural, squares_rise}
@@ -90,7 +90,7 @@ rows_beside f g p p' q q' a c h beside =
     rows_of_five AllPositive _ _ _ _ _ (row 0 (omega arith)) (row 1 (omega arith)) (row 2 (omega arith)) (row 3 (omega arith)) (row 4 (omega arith))
 
 -- behind the tip
-middle_is : (p p' a c : List ℤ) → at (dot_on_cell p p' a c) 1 ≡ dot p c +ℤ dot p' a
+pub middle_is : (p p' a c : List ℤ) → at (dot_on_cell p p' a c) 1 ≡ dot p c +ℤ dot p' a
 middle_is p p' a c =
     let P = from 0 in let Q = from 3 in let A = from 6 in let C = from 9 in
     let x = λ (k : ℕ). add (mul (P k) (C k)) (mul (Q k) (A k)) in
@@ -159,11 +159,3 @@ pub apart_out : (m : Motion) (point : ℕ → List ℤ) (S from to j levels : �
     → IsPairAt m point from to (j + 2 ^ levels) S p' q' c → AreApart f p p' q q' a c → AreOutBeside f m point S from to j (j + 2 ^ levels)
 apart_out m point S from to j levels f p q a p' q' c line some x y apart =
     apart_at m point S from to j levels f line some (apart_same f p p' q q' a c _ _ _ _ _ _ x.first y.first x.last y.last x.axis y.axis apart)
-
--- and on both halves, so on the whole
-pub halves_out : (f : ℤ) (m : Motion) (point : ℕ → List ℤ) (S from to j levels n i : ℕ) → levels ≡ n + 1 → i ≡ j + 2 ^ n → AreOutBeside f m point S from to i (i + 2 ^ n) → AreOutBeside f m point S from to j i
-    → AreOutBeside f m point S from to j (j + 2 ^ levels)
-halves_out f m point S from to j levels n i el ei late early slabs most e narrow l after before =
-    let h = halved levels n j el in let end : i + 2 ^ n ≡ j + 2 ^ levels = ap (λ x. x + 2 ^ n) ei ∙ h.end in
-    out_both slabs m (point l) j i (j + 2 ^ levels) S (early slabs most e narrow l after before)
-    (subst (λ k. IsOutWithin slabs m (point l) i k S) end (late slabs most e narrow l after before))

@@ -5,3 +5,4 @@ pub mod Lagrange
 pub mod Boxes
 pub mod ClearPoints
 pub mod StretchTests
+pub mod Open

@@ -2,3 +2,4 @@ pub mod Sizes
 pub mod Between
 pub mod Moments
 pub mod Apart
+pub mod Open

@@ -13,7 +13,7 @@ use crate::pair::Pair;
 
 /// The sum of two heights.
 #[inline]
-fn total(x: i64, y: i64) -> i64
+pub fn total(x: i64, y: i64) -> i64
     requires x { unsigned_abs x ≤ 3 * part_limit }
     requires y { unsigned_abs y ≤ 3 * part_limit }
     ensures { result ≡ x +ℤ y }

@@ -1,10 +1,12 @@
-ghost use Rattle.std.specs.Prelude.{◌≡◌, ℕ, ◌+◌, ◌^◌, ◌<◌, ◌≤◌, All, IsTrue, pos, false, unsigned_abs};
+ghost use Rattle.std.specs.Prelude.{◌≡◌, ℕ, ◌+◌, ◌^◌, ◌<◌, ◌≤◌, All, pos, false, unsigned_abs};
+ghost use Rattle.std.specs.Option.{MatchOption};
 ghost use Rattle.space.specs.Motion.{axis_at, offset_at};
 ghost use Rattle.bern_form.specs.Sizes.{scale_limit};
 ghost use Rattle.cutter_slabs.specs.Rising.{IsRising};
 ghost use Rattle.ray_grid.specs.Lattice.{IsRay, point_of, points_of};
 ghost use Rattle.ray_runs.specs.Apart.{AreOutBeside, IsNoWider, IsPairAt};
 ghost use Rattle.ray_runs.specs.Between.{AreClear};
+ghost use Rattle.ray_runs.specs.Open.{AreOutBut, IsOpenOnly, joined_stretch};
 
 use crate::apart::are_apart;
 use crate::length::scaled_square;
@@ -13,6 +15,13 @@ use axis_cells::{Sweep, cells_of};
 use bern_form::Slab;
 use cutter_slabs::Stacks;
 use ray_grid::{Grid, Ray};
+
+/// A part of a move: 2^`levels` cells, from the sample `first` on.
+#[derive(Clone, Copy, Debug, PartialEq, Eq)]
+pub struct OpenStretch {
+    pub first: u32,
+    pub levels: u32,
+}
 
 /// The diameter of the widest of the slabs, which is the highest.
 fn widest(slabs: &[Slab]) -> i32
@@ -27,10 +36,29 @@ fn widest(slabs: &[Slab]) -> i32
     highest.dia
 }
 
-/// Whether no slab that is no wider than a diameter is left between the sample `j` and the one 2^`levels` after it, for the points from
-/// one index to another. Where that is not found by the stretch itself, both its halves are asked, down to a cell.
+/// The least stretch that has what is open of both halves of one.
+#[inline]
+fn joined(
+    early: Option<OpenStretch>,
+    late: Option<OpenStretch>,
+    whole: OpenStretch,
+) -> Option<OpenStretch>
+    ensures { result ≡ joined_stretch early late whole }
+{
+    match early {
+        None => late,
+        Some(early) => match late {
+            None => Some(early),
+            Some(_late) => Some(whole),
+        },
+    }
+}
+
+/// The part of the stretch between the sample `j` and the one 2^`levels` after it outside of which no slab that is no wider than a
+/// diameter is left, for the points from one index to another: none where they are clear throughout. Where that is not found by the
+/// stretch itself, both its halves are asked, down to stretches of 2^`stop` cells.
 #[cycle(halves)]
-fn are_out(
+fn open_in(
     sweep: &Sweep,
     grid: &Grid,
     ray: &Ray,
@@ -42,7 +70,8 @@ fn are_out(
     end: &Pair,
     j: u32,
     levels: u32,
-) -> bool
+    stop: u32,
+) -> Option<OpenStretch>
     requires ray { IsRay grid.now ray.now }
     requires order { from ≤ to }
     requires within { to < points_of grid.now ray.now.family }
@@ -54,17 +83,18 @@ fn are_out(
         IsPairAt sweep.now (point_of grid.now ray.now) from to j scale s.first.offset s.last.offset s.first.axis }
     requires end { let e = end.now in
         IsPairAt sweep.now (point_of grid.now ray.now) from to (j + 2 ^ levels) scale e.first.offset e.last.offset e.first.axis }
-    ensures { IsTrue result → AreOutBeside square sweep.now (point_of grid.now ray.now) scale from to j (j + 2 ^ levels) }
+    ensures { AreOutBut result square sweep.now (point_of grid.now ray.now) scale from to j (j + 2 ^ levels) }
 {
     if are_apart(start, end, square) {
-        return true;
+        return None;
     }
-    if levels == 0 {
-        return false;
+    let whole = OpenStretch { first: j, levels };
+    if levels <= stop {
+        return Some(whole);
     }
     let middle = j + cells_of(levels - 1);
     let pair = Pair::at_sample(sweep, grid, ray, from, to, middle, scale);
-    if !are_out(
+    let late = open_in(
         sweep,
         grid,
         ray,
@@ -76,10 +106,9 @@ fn are_out(
         end,
         middle,
         levels - 1,
-    ) {
-        return false;
-    }
-    are_out(
+        stop,
+    );
+    let early = open_in(
         sweep,
         grid,
         ray,
@@ -91,12 +120,15 @@ fn are_out(
         &pair,
         j,
         levels - 1,
-    )
+        stop,
+    );
+    joined(early, late, whole)
 }
 
-/// Whether all points from one index to another are clear of a move: none is sure, and none is possible. A yes is right; a no says
-/// nothing.
-pub fn are_clear(
+/// The part of a move outside of which all points from one index to another are clear of it. Where there is none they are clear: none
+/// is sure, and none is possible. That the part is as short as it could be isn't said. It is looked for down to a part in 32 of
+/// the move.
+pub fn open_stretch(
     sweep: &Sweep,
     stacks: &Stacks,
     depth: u32,
@@ -104,12 +136,13 @@ pub fn are_clear(
     ray: &Ray,
     from: u32,
     to: u32,
-) -> bool
+) -> Option<OpenStretch>
     requires ray { IsRay grid.now ray.now }
     requires depth { depth ≤ 10 }
     requires order { from ≤ to }
     requires within { to < points_of grid.now ray.now.family }
-    ensures { IsTrue result → AreClear stacks.now sweep.now (point_of grid.now ray.now) (2 ^ depth) from to }
+    ensures { MatchOption result (AreClear stacks.now sweep.now (point_of grid.now ray.now) (2 ^ depth) from to)
+        (λ s. IsOpenOnly s stacks.now sweep.now (point_of grid.now ray.now) (2 ^ depth) from to) }
 {
     // A sweep is valid by its type, which is known where a field of it is seen. What is sure is possible, by the inner stack.
     let _valid = &sweep.from;
@@ -118,7 +151,8 @@ pub fn are_clear(
     let square = scaled_square(scale, widest(stacks.outer()));
     let start = Pair::at_sample(sweep, grid, ray, from, to, 0, scale);
     let end = Pair::at_sample(sweep, grid, ray, from, to, scale, scale);
-    are_out(
-        sweep, grid, ray, from, to, scale, square, &start, &end, 0, depth,
+    let stop = depth.saturating_sub(5);
+    open_in(
+        sweep, grid, ray, from, to, scale, square, &start, &end, 0, depth, stop,
     )
 }

@@ -3,6 +3,7 @@
 
 mod apart;
 mod clear;
+mod forms;
 mod length;
 mod likely;
 mod moments;
@@ -10,7 +11,8 @@ mod pair;
 mod run;
 mod slab_at;
 
-pub use clear::are_clear;
+pub use clear::{OpenStretch, open_stretch};
+pub use forms::{PointForms, forms_between};
 pub use run::{Run, sure_run};
 
 #[cfg(test)]

@@ -1,6 +1,7 @@
-ghost use Rattle.std.specs.Prelude.{◌≡◌, ◌*◌, ◌≤◌, ◌<◌, ◌+ℤ◌, ◌*ℤ◌, ◌-ℤ◌, unsigned_abs};
+ghost use Rattle.std.specs.Prelude.{◌≡◌, ◌*◌, ◌≤◌, ◌<◌, pos, ◌+ℤ◌, ◌*ℤ◌, ◌-ℤ◌, unsigned_abs};
 ghost use Rattle.space.specs.Ranges.{IsWithin};
 ghost use Rattle.space.specs.Vectors.{at, dot};
+ghost use Rattle.bern_form.specs.Forms.{scaled4};
 ghost use Rattle.bern_form.specs.Sizes.{axis_limit, offset_limit};
 ghost use Rattle.ray_runs.specs.Moments.{middle_moment, moment, vector_product, vector_sum};
 ghost use Rattle.ray_runs.specs.Sizes.{part_limit, turn_limit};
@@ -135,6 +136,15 @@ fn three(x: i128, y: i128, z: i128) -> i128
     x + y + z
 }
 
+/// Four times a coefficient of degree 4.
+#[inline]
+fn four(x: i128) -> i128
+    requires { unsigned_abs x ≤ 9 * (turn_limit * turn_limit) }
+    ensures { result ≡ pos 4 *ℤ x }
+{
+    4 * x
+}
+
 /// The moment of a point between two samples, a form of degree 2 by its coefficients.
 #[derive(Drop)]
 pub struct Moments {
@@ -163,6 +173,21 @@ impl Moments {
             middle: sum(&moment(p, c), &moment(q, a)),
             end: moment(q, c),
         }
+    }
+
+    /// Four times the squared length, of degree 4.
+    #[inline]
+    pub fn four_squares(&self) -> [i128; 5]
+        ensures { let x = self.now in
+            result ≡ scaled4 (pos 4) (vector_product x.start x.middle x.end x.start x.middle x.end) }
+    {
+        [
+            four(self.times(self, 0)),
+            four(self.times(self, 1)),
+            four(self.times(self, 2)),
+            four(self.times(self, 3)),
+            four(self.times(self, 4)),
+        ]
     }
 
     /// A coefficient of the scalar product with that of another point, which has degree 4.

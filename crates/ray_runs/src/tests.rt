@@ -1,4 +1,4 @@
-use crate::{are_clear, sure_run};
+use crate::{open_stretch, sure_run};
 use axis_cells::{Mark, Sweep};
 use box_bisect::mark_point_uncounted;
 use cutter_slabs::{Cutter, Stacks};
@@ -52,7 +52,7 @@ fn runs_and_clear_words(rt: HostRuntime) -> Result<(), Fail> {
         assert!(rt; grid.has_point(&ray, to), "ray {i}");
         let run = sure_run(&sweep, &stacks, 10, &grid, &ray, from, to);
         assert_eq!(rt; run.is_some(), want_run, "run on ray {i}");
-        let clear = are_clear(&sweep, &stacks, 10, &grid, &ray, from, to);
+        let clear = open_stretch(&sweep, &stacks, 10, &grid, &ray, from, to).is_none();
         assert_eq!(rt; clear, want_clear, "clear ray {i}");
         for l in from..to + 1 {
             assert!(rt; grid.has_point(&ray, l), "point {l}");

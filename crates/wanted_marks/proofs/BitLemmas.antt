@@ -1,7 +1,7 @@
 -- The bits of a word without one, and of a word made of two.
-use Rattle.std.proofs.Common.{◌≡◌, ◌≢◌, ℕ, ◌-◌, ◌*◌, ◌%◌, ◌^◌, ◌<◌, ◌≤◌, Bool, true, false, not, ◌&&◌, ◌||◌, eqb, ⊎_elim, arith, refl, ap, ◌∙◌, if◌then◌else◌}
+use Rattle.std.proofs.Common.{sym, ◌≡◌, ◌≢◌, ℕ, ◌-◌, ◌*◌, ◌%◌, ◌^◌, ◌<◌, ◌≤◌, Bool, true, false, not, ◌&&◌, ◌||◌, eqb, ⊎_elim, arith, refl, ap, ◌∙◌, if◌then◌else◌}
 use Rattle.std.specs.Prelude.{bit_and, bit_or}
-use Rattle.std.proofs.lemmas.Bool.{cases_eq, eq-eqb, not_from_true, and_right}
+use Rattle.std.proofs.lemmas.Bool.{or_cases, cases_eq, eq-eqb, not_from_true, and_right}
 use Rattle.std.proofs.lemmas.Nat.{and_le_l}
 use Rattle.vf_spans.specs.Words.{has_bit}
 use Rattle.vf_spans.proofs.WordBits.{has_bit-and, has_bit-or, has_bit-not, has_bit-one}
@@ -41,3 +41,21 @@ bits_chosen elsewhere there places k fits below =
     ∙ ap (λ x. x || has_bit (bit_and there places) k) (has_bit-and elsewhere (2 ^ 64 - 1 - places) k ∙ ap (λ x. has_bit elsewhere k && x) (has_bit-not places k fits below))
     ∙ ap (λ x. (has_bit elsewhere k && not (has_bit places k)) || x) (has_bit-and there places k)
     ∙ chosen (has_bit places k) (has_bit elsewhere k) (has_bit there k)
+
+both_first : (a b : Bool) → (a && b) ≡ true → a ≡ true
+both_first true b h = refl
+both_first false b h = absurd (cc)
+
+-- what follows from a bit of each of three words follows from one of all
+pub set_in_three : (a b c k : ℕ) (P : Type 0) → has_bit (bit_or (bit_or a b) c) k ≡ true
+    → (has_bit a k ≡ true → P) → (has_bit b k ≡ true → P) → (has_bit c k ≡ true → P) → P
+set_in_three a b c k P set x y z =
+    ⊎_elim
+    (λ (h : has_bit (bit_or a b) k ≡ true). ⊎_elim x y (or_cases (has_bit a k) (has_bit b k) (sym (has_bit-or a b k) ∙ h)))
+    z (or_cases (has_bit (bit_or a b) k) (has_bit c k) (sym (has_bit-or (bit_or a b) c k) ∙ set))
+
+pub set_without : (word others less k : ℕ) → has_bit less k ≡ (has_bit word k && not (has_bit others k)) → has_bit less k ≡ true → has_bit word k ≡ true
+set_without word others less k is set = both_first (has_bit word k) (not (has_bit others k)) (sym is ∙ set)
+
+pub set_in_both : (a b k : ℕ) → has_bit (bit_and a b) k ≡ true → has_bit a k ≡ true
+set_in_both a b k set = both_first (has_bit a k) (has_bit b k) (sym (has_bit-and a b k) ∙ set)

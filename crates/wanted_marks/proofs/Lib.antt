@@ -17,3 +17,4 @@ pub mod OnRuns
 pub mod Peaking
 pub mod Outside
 pub mod Narrowing
+pub mod Opening

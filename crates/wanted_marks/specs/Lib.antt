@@ -14,3 +14,4 @@ pub mod Limits
 pub mod Ready
 pub mod ReadyRay
 pub mod Strips
+pub mod Opens

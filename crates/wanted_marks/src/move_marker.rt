@@ -4,6 +4,7 @@ use crate::limits::{diameter_of, greatest_diameter, limits_of};
 use crate::line::Line;
 use crate::long::is_long;
 use crate::near::Near;
+use crate::on_stretch::forms_on;
 use crate::peak::Peak;
 use crate::ray_marker::RayMarker;
 use crate::sheet::{Sheet, heights_on, width_on};
@@ -13,9 +14,9 @@ use axis_cells::{Mark, Sweep, cells_of};
 use box_bisect::mark_point_uncounted;
 use cutter_slabs::Stacks;
 use ray_grid::{Family, Grid, Ray};
-use ray_runs::{Run, are_clear, sure_run};
+use ray_runs::{OpenStretch, Run, open_stretch, sure_run};
 use std::marker::Model;
-use width_bisect::{Asked, Sample, WholeForms, mark_by_forms};
+use width_bisect::{Asked, Sample, WholeForms, mark_by_forms, mark_on_part};
 
 /// A move of a cutter, ready to mark points of rays. It keeps what is the same for all of them: how the axis turns, and the
 /// limits beyond which a point is beside every outer slab throughout the move.
@@ -44,7 +45,7 @@ impl<'a> Model for MoveMarker<'a> {
 
 impl<'a> MoveMarker<'a> {
     ghost use Rattle.std.specs.Prelude.{◌≡◌, ◌^◌, ◌<◌, ◌≤◌, ◌-◌, ℕ, ℤ, List, pos, IsTrue, All};
-    ghost use Rattle.std.specs.Option.{IfSome};
+    ghost use Rattle.std.specs.Option.{IfSome, MatchOption};
     ghost use Rattle.space.specs.Ranges.{IsPoint};
     ghost use Rattle.ray_grid.specs.Families.{first_axis};
     ghost use Rattle.ray_grid.specs.Lattice.{IsRay, nodes_of, point_of, points_of};
@@ -53,6 +54,7 @@ impl<'a> MoveMarker<'a> {
     ghost use Rattle.wanted_marks.specs.Lasts.{IsAtLast, IsLastOf};
     ghost use Rattle.wanted_marks.specs.Lines.{FitsAt, HasFormsIn, IsLineOf, bend_over, height_at, width_at};
     ghost use Rattle.wanted_marks.specs.Nears.{IsNear};
+    ghost use Rattle.wanted_marks.specs.Opens.{IsOpenAt};
     ghost use Rattle.wanted_marks.specs.Rays.{IsClearOf, IsRemovedBy, RayOf, is_possible_in, is_sure_in, move_of};
     ghost use Rattle.wanted_marks.specs.Runs.{IsHeldAt, IsHeldIn, IsRun};
     ghost use Rattle.wanted_marks.specs.declared.line.Line.{Line};
@@ -120,16 +122,59 @@ impl<'a> MoveMarker<'a> {
         sure_run(self.sweep, self.stacks, self.depth, grid, ray, from, to)
     }
 
-    /// Whether all points of a ray from one index to another are clear of the move, as the halves of its time show.
-    pub(crate) fn are_clear(&self, grid: &Grid, ray: &Ray, from: u32, to: u32) -> bool
+    /// The part of the move outside of which all points of a ray from one index to another are clear of it, as the halves of its time
+    /// show. Where there is none they are clear throughout.
+    pub(crate) fn open_stretch(
+        &self,
+        grid: &Grid,
+        ray: &Ray,
+        from: u32,
+        to: u32,
+    ) -> Option<OpenStretch>
         requires ray { IsRay grid.now ray.now }
         requires order { from ≤ to }
         requires within { to < points_of grid.now ray.now.family }
-        ensures { IsTrue result → (l : ℕ) → from ≤ l → l ≤ to → IsClearOf self.now (point_of grid.now ray.now l) }
+        ensures { MatchOption result
+            ((l : ℕ) → from ≤ l → l ≤ to → IsClearOf self.now (point_of grid.now ray.now l))
+            (λ s. (l : ℕ) → from ≤ l → l ≤ to → IsOpenAt s self.now (point_of grid.now ray.now l)) }
     {
         // A move is valid by its type, which is known where a field of it is seen.
         let _valid = &self.depth;
-        are_clear(self.sweep, self.stacks, self.depth, grid, ray, from, to)
+        open_stretch(self.sweep, self.stacks, self.depth, grid, ray, from, to)
+    }
+
+    /// Whether a stretch is no longer than a quarter of the move, so that it pays to mark each point on it alone.
+    #[inline]
+    pub(crate) fn is_short(&self, stretch: &OpenStretch) -> bool {
+        stretch.levels <= self.depth.saturating_sub(2)
+    }
+
+    /// What is asked of a point by its forms on the stretch outside of which it is clear. `near` is the number of a slab to look from, in
+    /// whose place comes that of the slab at the point's height, where it is looked for.
+    #[inline]
+    pub(crate) fn mark_on_stretch(
+        &self,
+        point: [i32; 3],
+        stretch: &OpenStretch,
+        near: &mut usize,
+        asked: Asked,
+    ) -> Mark
+        requires point { IsPoint point }
+        requires open { IsOpenAt stretch.now self.now point }
+        ensures sure { tells_sure result ≡ is_sure_in self.now point }
+        ensures possible { asked ≡ Asked.Whole → tells_possible result ≡ is_possible_in self.now point }
+    {
+        let forms = forms_on(self.sweep, &point, stretch, self.scale);
+        mark_on_part(
+            self.sweep,
+            self.stacks,
+            point,
+            &forms,
+            stretch.levels,
+            self.depth,
+            near,
+            asked,
+        )
     }
 
     /// The mark of one point.

@@ -3,9 +3,11 @@ use crate::line::Line;
 use crate::move_marker::MoveMarker;
 use crate::near::Near;
 use crate::part::Part;
+use crate::sides::{Sides, is_few};
 use crate::word::{WordMarks, asked_at, bits_between, bits_without, chosen_bits};
 use axis_cells::Mark;
 use ray_grid::{Grid, Ray};
+use ray_runs::OpenStretch;
 use std::marker::Model;
 use vf_spans::bits::{highest_bit, lowest_bit};
 use width_bisect::Asked;
@@ -37,6 +39,7 @@ impl<'a> RayMarker<'a> {
     ghost use Rattle.vf_spans.specs.Words.{has_bit};
     ghost use Rattle.wanted_marks.specs.Lines.{IsLineOf};
     ghost use Rattle.wanted_marks.specs.Nears.{IsNear};
+    ghost use Rattle.wanted_marks.specs.Opens.{AreOpenAt, IsOpenAt};
     ghost use Rattle.wanted_marks.specs.Parts.{AreAmong, AreFrom, FollowsFrom};
     ghost use Rattle.wanted_marks.specs.Rays.{AreOnRay, IsClearOf, IsRemovedBy};
     ghost use Rattle.wanted_marks.specs.Runs.{IsHeldAt, IsRun};
@@ -271,7 +274,7 @@ impl<'a> RayMarker<'a> {
     {
         // The points are few by the type, which is known where a field is seen.
         let _few = &self.ray;
-        if wanted == 0 {
+        if wanted == 0 || is_few(wanted) {
             return 0;
         }
         let from = first + lowest_bit(wanted);
@@ -282,39 +285,117 @@ impl<'a> RayMarker<'a> {
         }
     }
 
-    /// Whether the points of these bits are clear, for which all points from the lowest of them to the highest have to be.
-    fn are_bits_clear(&self, first: u32, bits: u64) -> bool
+    /// The same by three samples: one for all, and one for what it leaves below and above.
+    fn sure_on_sides(&self, first: u32, wanted: u64) -> u64
+        requires { AreOnRay self.now first wanted }
+        ensures wanted { (b : ℕ) → b < 64 → has_bit result b ≡ true → has_bit wanted b ≡ true }
+        ensures sure { (b : ℕ) → b < 64 → has_bit result b ≡ true
+            → IsRemovedBy self.now.sweep (point_of self.now.grid self.now.ray (first + b)) }
+    {
+        let sure = self.sure_bits(first, wanted);
+        let sides = Sides::beside(bits_without(wanted, sure), sure);
+        let below = self.sure_bits(first, sides.below);
+        let above = self.sure_bits(first, sides.above);
+        sure | below | above
+    }
+
+    /// The same by seven samples: one for all, and three for what it leaves below and above.
+    fn sure_by_samples(&self, first: u32, wanted: u64) -> u64
+        requires { AreOnRay self.now first wanted }
+        ensures wanted { (b : ℕ) → b < 64 → has_bit result b ≡ true → has_bit wanted b ≡ true }
+        ensures sure { (b : ℕ) → b < 64 → has_bit result b ≡ true
+            → IsRemovedBy self.now.sweep (point_of self.now.grid self.now.ray (first + b)) }
+    {
+        let sure = self.sure_bits(first, wanted);
+        let sides = Sides::beside(bits_without(wanted, sure), sure);
+        let below = self.sure_on_sides(first, sides.below);
+        let above = self.sure_on_sides(first, sides.above);
+        sure | below | above
+    }
+
+    /// The part of the move outside of which the points of these bits are clear, for which all points from the lowest of them to the
+    /// highest have to be. Where there is none they are clear throughout.
+    fn open_of_bits(&self, first: u32, bits: u64) -> Option<OpenStretch>
         requires { AreOnRay self.now first bits }
-        ensures { IsTrue result → (b : ℕ) → b < 64 → has_bit bits b ≡ true
-            → IsClearOf self.now.sweep (point_of self.now.grid self.now.ray (first + b)) }
+        ensures { MatchOption result
+            ((b : ℕ) → b < 64 → has_bit bits b ≡ true → IsClearOf self.now.sweep (point_of self.now.grid self.now.ray (first + b)))
+            (λ s. AreOpenAt s self.now first bits) }
     {
         // The points are few by the type, which is known where a field is seen.
         let _few = &self.ray;
         if bits == 0 {
-            return true;
+            return None;
         }
         let from = first + lowest_bit(bits);
         let to = first + highest_bit(bits);
-        self.mover.are_clear(self.grid, &self.ray, from, to)
+        self.mover.open_stretch(self.grid, &self.ray, from, to)
     }
 
-    /// The same as `mark_each` for a long move: what one sample shows to be sure, or the halves of the time to be clear, isn't asked
-    /// point by point.
+    /// What is asked of the point at an index, by its forms on the stretch outside of which it is clear.
+    #[inline]
+    fn mark_on_stretch(&self, stretch: &OpenStretch, l: u32, near: &mut usize, asked: Asked) -> Mark
+        requires within { l < points_of self.now.grid self.now.ray.family }
+        requires open { IsOpenAt stretch.now self.now.sweep (point_of self.now.grid self.now.ray l) }
+        ensures sure { tells_sure result ≡ is_sure_at self.now l }
+        ensures possible { asked ≡ Asked.Whole → tells_possible result ≡ is_possible_at self.now l }
+    {
+        self.mover
+            .mark_on_stretch(self.grid.point(&self.ray, l), stretch, near, asked)
+    }
+
+    /// Which of the wanted points are sure, and which of those that are not in `sure_only` are possible, each by its forms on the
+    /// stretch outside of which all are clear.
+    fn mark_on(&self, stretch: &OpenStretch, first: u32, wanted: u64, sure_only: u64) -> WordMarks
+        requires on_ray { AreOnRay self.now first wanted }
+        requires open { AreOpenAt stretch.now self.now first wanted }
+        ensures sure { (b : ℕ) → b < 64 → has_bit result.sure b ≡ is_sure_bit self.now first wanted b }
+        ensures possible { (b : ℕ) → b < 64 → has_bit sure_only b ≡ false
+            → has_bit result.possible b ≡ is_possible_bit self.now first wanted b }
+    {
+        // The points are few by the type, which is known where a field is seen.
+        let _few = &self.ray;
+        let mut near = 0;
+        let mut part = Part::of_word(wanted);
+        while part.rest != 0 {
+            let b = lowest_bit(part.rest);
+            let mark = self.mark_on_stretch(stretch, first + b, &mut near, asked_at(sure_only, b));
+            part = part.with_mark(b, mark);
+        }
+        part.marks
+    }
+
+    /// The same as `mark_each` for a long move: where the halves of the time show that the points are clear but for a short part of it,
+    /// they are marked on that part alone.
+    fn mark_by_parts(&self, first: u32, wanted: u64, sure_only: u64) -> WordMarks
+        requires { AreOnRay self.now first wanted }
+        ensures sure { (b : ℕ) → b < 64 → has_bit result.sure b ≡ is_sure_bit self.now first wanted b }
+        ensures possible { (b : ℕ) → b < 64 → has_bit sure_only b ≡ false
+            → has_bit result.possible b ≡ is_possible_bit self.now first wanted b }
+    {
+        match self.open_of_bits(first, wanted) {
+            None => WordMarks {
+                sure: 0,
+                possible: 0,
+            },
+            Some(stretch) => {
+                if !self.mover.is_short(&stretch) {
+                    return self.mark_each(first, wanted, sure_only);
+                }
+                self.mark_on(&stretch, first, wanted, sure_only)
+            }
+        }
+    }
+
+    /// The same, where what some samples show to be sure isn't asked point by point.
     fn mark_by_runs(&self, first: u32, wanted: u64, sure_only: u64) -> WordMarks
         requires { AreOnRay self.now first wanted }
         ensures sure { (b : ℕ) → b < 64 → has_bit result.sure b ≡ is_sure_bit self.now first wanted b }
         ensures possible { (b : ℕ) → b < 64 → has_bit sure_only b ≡ false
             → has_bit result.possible b ≡ is_possible_bit self.now first wanted b }
     {
-        let sure = self.sure_bits(first, wanted);
+        let sure = self.sure_by_samples(first, wanted);
         let rest = bits_without(wanted, sure);
-        if self.are_bits_clear(first, rest) {
-            return WordMarks {
-                sure,
-                possible: sure,
-            };
-        }
-        self.mark_each(first, rest, sure_only).with_sure(sure)
+        self.mark_by_parts(first, rest, sure_only).with_sure(sure)
     }
 
     /// Which of the wanted points are sure, and which of those that are not in `sure_only` are possible, by what suits the move.

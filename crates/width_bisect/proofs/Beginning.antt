@@ -1,19 +1,17 @@
 -- Where a search of a whole move begins, and its mark.
-use Rattle.std.proofs.Common.{◌≡◌, Bool, true, false, not, ℕ, ◌+◌, ◌^◌, List, get_or, ℤ, pos, ◌*ℤ◌, ◌≤ℤ◌, arith, subst, sym, ap, ◌∙◌}
+use Rattle.std.proofs.Common.{◌≡◌, Bool, true, false, not, ℕ, ◌+◌, ◌^◌, ◌<◌, ◌≤◌, List, get_or, ℤ, pos, ◌*ℤ◌, ◌≤ℤ◌, arith, subst, sym, ap, ◌∙◌}
 use Rattle.std.proofs.lemmas.Int.{ints}
 use Rattle.space.specs.Motion.{Motion}
 use Rattle.space.specs.Vectors.{at}
 use Rattle.space.proofs.Tests.{decides_le}
-use Rattle.bern_form.specs.Between.{d_between}
 use Rattle.bern_form.specs.Cells.{scaled_square}
 use Rattle.bern_form.specs.Forms.{all_positive, lifted, product22}
 use Rattle.bern_form.specs.Marks.{some_holds}
 use Rattle.bern_form.specs.Slab.{SlabSize}
 use Rattle.axis_cells.specs.declared.mark.Mark.TheVariants.{Removed}
 use Rattle.box_bisect.specs.Between.{IsMarkBetween}
-use Rattle.box_bisect.specs.SlabTests.{TurnsAt, is_below_by, is_left_with, is_reached, no_slab}
+use Rattle.box_bisect.specs.SlabTests.{TurnsAt, is_below_by, is_reached, no_slab}
 use Rattle.box_bisect.proofs.Raised.{not_under}
-use Rattle.box_bisect.proofs.Searching.{some_cells}
 use Rattle.width_bisect.specs.Forms.{AreWidthForms}
 use Rattle.width_bisect.specs.Searches.{IsWidthSearch, is_not_below}
 use Rattle.width_bisect.specs.Turns.{IsReachedBefore}
@@ -38,33 +36,25 @@ begins_at slabs S kept scale j x y raised height u n eS er eh es ex ey turns =
           reached_not_below S u n s (sym (ap (λ z. is_reached (pos z) x y s) es ∙ ap (λ z. is_reached (pos S) z y s) ex ∙ ap (λ z. is_reached (pos S) (at u 2) z s) ey) ∙ turns.before i e);
     }
 
--- the whole move
-pub search_of_whole : (inner outer : List SlabSize) (u n width : List ℤ) (m : Motion) (p : List ℤ) (S high depth : ℕ) → S ≡ 2 ^ depth → AreWidthForms u n width m p 0 S S
+-- a stretch of it
+pub search_of_stretch : (inner outer : List SlabSize) (u n width : List ℤ) (m : Motion) (p : List ℤ) (S high levels j : ℕ) → 0 < S → AreWidthForms u n width m p j (j + 2 ^ levels) S
     → ((i : ℕ) → some_holds inner m p i S ≡ true → some_holds outer m p i S ≡ true) → all_positive (lifted n) ≡ true → TurnsAt (is_not_below S u n) outer high
-    → some_holds inner m p S S ≡ false → some_holds inner m p 0 S ≡ false → IsWidthSearch inner outer u n width m p S high depth 0
-search_of_whole inner outer u n width m p S high depth e forms enclosed above turns last first =
-    let some = some_cells depth in
-    let end : S ≡ 0 + 2 ^ depth = omega (arith, e) in
-    let f = subst (λ k. AreWidthForms u n width m p 0 k S) end forms in record {
-      searched = record {
-        some = omega (arith, e, some);
-        forms = forms_by u n width m p 0 (0 + 2 ^ depth) S f;
-        enclosed = enclosed;
-        first_free = first;
-        last_free = subst (λ k. some_holds inner m p k S ≡ false) end last;
-      };
-      width_is = f.width_is;
-      is_open = above;
-      turns = record { within = turns.within; before = λ i e. absurd (omega (arith, e)); after = turns.after };
-    }
+    → some_holds inner m p (j + 2 ^ levels) S ≡ false → some_holds inner m p j S ≡ false → IsWidthSearch inner outer u n width m p S high levels j
+search_of_stretch inner outer u n width m p S high levels j some f enclosed above turns last first = record {
+  searched = record {
+    some = some;
+    forms = forms_by u n width m p j (j + 2 ^ levels) S f;
+    enclosed = enclosed;
+    first_free = first;
+    last_free = last;
+  };
+  width_is = f.width_is;
+  is_open = above;
+  turns = record { within = turns.within; before = λ i e. absurd (omega (arith, e)); after = turns.after };
+}
 
-pub left_on_whole : (slabs : List SlabSize) (u n : List ℤ) (m : Motion) (p : List ℤ) (S depth : ℕ) → S ≡ 2 ^ depth → is_left_with slabs S u n (d_between m p 0 S S) ≡ true
-    → is_left_with slabs S u n (d_between m p 0 (0 + 2 ^ depth) S) ≡ true
-left_on_whole slabs u n m p S depth e left =
-    let end : S ≡ 0 + 2 ^ depth = omega (arith, e) in subst (λ k. is_left_with slabs S u n (d_between m p 0 k S) ≡ true) end left
+pub last_is_held : (inner outer : List SlabSize) (m : Motion) (p : List ℤ) (j k S : ℕ) → j ≤ k → some_holds inner m p k S ≡ true → IsMarkBetween Removed inner outer m p j k S
+last_is_held inner outer m p j k S h held = record { sample = k; after = h; before = omega arith; held = held }
 
-pub last_is_held : (inner outer : List SlabSize) (m : Motion) (p : List ℤ) (S : ℕ) → some_holds inner m p S S ≡ true → IsMarkBetween Removed inner outer m p 0 S S
-last_is_held inner outer m p S held = record { sample = S; after = omega arith; before = omega arith; held = held }
-
-pub first_is_held : (inner outer : List SlabSize) (m : Motion) (p : List ℤ) (S : ℕ) → some_holds inner m p 0 S ≡ true → IsMarkBetween Removed inner outer m p 0 S S
-first_is_held inner outer m p S held = record { sample = 0; after = omega arith; before = omega arith; held = held }
+pub first_is_held : (inner outer : List SlabSize) (m : Motion) (p : List ℤ) (j k S : ℕ) → j ≤ k → some_holds inner m p j S ≡ true → IsMarkBetween Removed inner outer m p j k S
+first_is_held inner outer m p j k S h held = record { sample = j; after = omega arith; before = h; held = held }

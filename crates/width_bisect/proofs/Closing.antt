@@ -1,5 +1,5 @@
 -- The bounds of a point's forms on a whole move, and the mark of the point by the stacks of a cutter.
-use Rattle.std.proofs.Common.{◌≡◌, Bool, true, false, ℕ, ◌+◌, ◌*◌, ◌^◌, ◌≤◌, List, ℤ, pos, ◌+ℤ◌, ◌*ℤ◌, ◌-ℤ◌, unsigned_abs, arith, subst, sym, ap, ◌∙◌, ⊎_elim}
+use Rattle.std.proofs.Common.{◌≡◌, Bool, true, false, ℕ, ◌+◌, ◌*◌, ◌^◌, ◌<◌, ◌≤◌, List, ℤ, pos, ◌+ℤ◌, ◌*ℤ◌, ◌-ℤ◌, unsigned_abs, arith, subst, sym, ap, ◌∙◌, ⊎_elim}
 use Rattle.std.proofs.lemmas.Bool.{cases_Bool}
 use Rattle.space.specs.Motion.{IsSweep, Motion, axis_at, offset_at}
 use Rattle.space.specs.Ranges.{IsPoint}
@@ -21,9 +21,9 @@ use Rattle.cutter_slabs.specs.Cutter.{CutterSize}
 use Rattle.cutter_slabs.specs.Stacks.{inner_stack, outer_stack, reach_of}
 use Rattle.cutter_marks.specs.MarkBy.{mark_by}
 use Rattle.box_bisect.specs.Between.{IsMarkBetween}
-use Rattle.box_bisect.specs.SlabTests.{is_left_with, width_of}
+use Rattle.box_bisect.specs.SlabTests.{width_of}
 use Rattle.box_bisect.proofs.Marking.{far_mark, mark_is}
-use Rattle.box_bisect.proofs.Searching.{dropped_whole}
+use Rattle.box_bisect.proofs.Searching.{dropped}
 use Rattle.width_bisect.specs.Forms.{AreWidthForms}
 use Rattle.width_bisect.specs.Sizes.{IsWeighted4, height_limit, width_limit}
 use Rattle.width_bisect.proofs.Searching.{behind_none, forms_by}
@@ -68,15 +68,15 @@ pub record AreSmall (u n width : List ℤ) : Type 0 where
   pub n_small : IsBounded2 (3 * (axis_limit * axis_limit)) n
   pub width_small : IsWeighted4 width_limit width
 
-pub forms_small : (u n width : List ℤ) (m : Motion) (p : List ℤ) (S : ℕ) → IsSweep m → IsPoint p → S ≤ scale_limit → AreWidthForms u n width m p 0 S S → AreSmall u n width
-forms_small u n width m p S sweep point few f =
-    let P = offset_at m p (pos 0) (pos S) in let Q = offset_at m p (pos S) (pos S) in let A = axis_at m (pos 0) (pos S) in let C = axis_at m (pos S) (pos S) in
-    let hP = offset_within m p 0 S sweep point (omega arith) few in let hQ = offset_within m p S S sweep point (omega arith) few in
-    let hA = axis_within m 0 S sweep (omega arith) few in let hC = axis_within m S S sweep (omega arith) few in
+pub forms_small : (u n width : List ℤ) (m : Motion) (p : List ℤ) (j k S : ℕ) → IsSweep m → IsPoint p → j ≤ k → k ≤ S → S ≤ scale_limit → AreWidthForms u n width m p j k S → AreSmall u n width
+forms_small u n width m p j k S sweep point order within few f =
+    let P = offset_at m p (pos j) (pos S) in let Q = offset_at m p (pos k) (pos S) in let A = axis_at m (pos j) (pos S) in let C = axis_at m (pos k) (pos S) in
+    let hP = offset_within m p j S sweep point (omega (arith, order, within)) few in let hQ = offset_within m p k S sweep point within few in
+    let hA = axis_within m j S sweep (omega (arith, order, within)) few in let hC = axis_within m k S sweep within few in
     let hu = cross_bounded P Q A C offset_limit axis_limit hP hQ hA hC in
     let hn = cross_bounded A C A C axis_limit axis_limit hA hC hA hC in
     let hd = cross_bounded P Q P Q offset_limit offset_limit hP hQ hP hQ in
-    let u' = u_between m p 0 S S in let n' = n_between m 0 S S in let d' = d_between m p 0 S S in
+    let u' = u_between m p j k S in let n' = n_between m j k S in let d' = d_between m p j k S in
     let e : 3 * (offset_limit * offset_limit) * (3 * (axis_limit * axis_limit)) ≡ height_limit * height_limit = omega arith in
     let both = subst (λ k. IsWeighted4 k (product22 d' n')) e (product_weighted d' n' (3 * (offset_limit * offset_limit)) (3 * (axis_limit * axis_limit)) hd hn) in
     let square = product_weighted u' u' height_limit height_limit hu hu in record {
@@ -103,23 +103,11 @@ marked_by mark c slabs inner outer m p S T ei eo e is =
     let R = pos (reach_of c) in
     is ∙ ap (λ l. mark_from l outer R m p S) ei ∙ ap (λ l. mark_from (inner_stack c slabs) l R m p S) eo ∙ ap (mark_from (inner_stack c slabs) (outer_stack c slabs) R m p) e
 
-pub forms_at : (u n width : List ℤ) (m : Motion) (p : List ℤ) (S T : ℕ) → S ≡ T → AreWidthForms u n width m p 0 T T → AreWidthForms u n width m p 0 S S
-forms_at u n width m p S T e f = subst (λ k. AreWidthForms u n width m p 0 k k) (sym e) f
-
--- where all outer slabs are excluded on the whole
-pub whole_dropped : (inner outer : List SlabSize) (u n width : List ℤ) (m : Motion) (p : List ℤ) (S depth : ℕ) → S ≡ 2 ^ depth → AreWidthForms u n width m p 0 S S
-    → ((i : ℕ) → some_holds inner m p i S ≡ true → some_holds outer m p i S ≡ true) → is_left_with outer S u n (d_between m p 0 S S) ≡ false → IsMarkBetween Clear inner outer m p 0 S S
-whole_dropped inner outer u n width m p S depth e f enclosed none = dropped_whole inner outer u n (d_between m p 0 S S) m p S depth e (forms_by u n width m p 0 S S f) enclosed none
-
--- where the point is behind the tip throughout no slab of either list holds it or is left
-pub behind_dropped : (inner outer : List SlabSize) (u n width : List ℤ) (m : Motion) (p : List ℤ) (S depth : ℕ) → S ≡ 2 ^ depth → AreWidthForms u n width m p 0 S S → all_negative u ≡ true
-    → IsMarkBetween Clear inner outer m p 0 S S
-behind_dropped inner outer u n width m p S depth e f behind =
-    let d = d_between m p 0 S S in
-    let one = whole_dropped inner inner u n width m p S depth e f (λ i h. h) (behind_none inner S u n d behind) in
-    let two = whole_dropped outer outer u n width m p S depth e f (λ i h. h) (behind_none outer S u n d behind) in
+-- where the point is behind the tip throughout a stretch no slab of either list holds it or is left there
+pub behind_dropped : (inner outer : List SlabSize) (u n width : List ℤ) (m : Motion) (p : List ℤ) (S levels j : ℕ) → 0 < S → AreWidthForms u n width m p j (j + 2 ^ levels) S → all_negative u ≡ true
+    → IsMarkBetween Clear inner outer m p j (j + 2 ^ levels) S
+behind_dropped inner outer u n width m p S levels j some f behind =
+    let k = j + 2 ^ levels in let d = d_between m p j k S in let forms = forms_by u n width m p j k S f in
+    let one = dropped inner inner u n d m p S levels j some forms (λ i h. h) (behind_none inner S u n d behind) in
+    let two = dropped outer outer u n d m p S levels j some forms (λ i h. h) (behind_none outer S u n d behind) in
     (one.0, two.1)
-
--- the forms as they are kept
-pub forms_kept : (u n width u' n' width' : List ℤ) (m : Motion) (p : List ℤ) (S : ℕ) → u ≡ u' → n ≡ n' → width ≡ width' → AreWidthForms u' n' width' m p 0 S S → AreWidthForms u n width m p 0 S S
-forms_kept u n width u' n' width' m p S eu en ew f = record { u_is = eu ∙ f.u_is; n_is = en ∙ f.n_is; width_is = ew ∙ f.width_is }

@@ -10,3 +10,5 @@ pub mod Beginning
 pub mod Closing
 pub mod Answering
 pub mod Bounding
+pub mod Parts
+pub mod Beside

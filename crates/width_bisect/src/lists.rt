@@ -1,8 +1,9 @@
-ghost use Rattle.std.specs.Prelude.{◌≡◌, ◌≤◌, length, not, true, false};
-ghost use Rattle.bern_form.specs.Forms.{all_positive, lifted, product22};
+ghost use Rattle.std.specs.Prelude.{◌≡◌, ◌≤◌, length, not, true, false, IsTrue};
+ghost use Rattle.bern_form.specs.Forms.{all_positive, difference4, lifted, product22, scaled4};
+ghost use Rattle.bern_form.specs.Cells.{scaled_square};
 ghost use Rattle.bern_form.specs.Sizes.{scale_limit};
 ghost use Rattle.cutter_slabs.specs.Rising.{IsRising};
-ghost use Rattle.box_bisect.specs.SlabTests.{TurnsAt, is_below_by, is_left_by, is_past_by};
+ghost use Rattle.box_bisect.specs.SlabTests.{TurnsAt, TurnsBetween, is_below_by, is_left_by, is_past_by};
 
 use crate::compare::{all_above, all_below};
 use crate::length::scaled_square;
@@ -64,12 +65,21 @@ impl Lists {
         each_above(&self.raised)
     }
 
+    /// Whether the point is beside the slab throughout.
+    #[inline]
+    fn is_beside(&self, slab: &Slab, width: &[i128; 5]) -> bool
+        ensures { let l = self.now in
+            result ≡ all_positive (difference4 width.now (scaled4 (scaled_square l.scale slab.now.dia) l.raised)) }
+    {
+        all_above(width, scaled_square(self.scale, slab.dia), &self.raised)
+    }
+
     /// Whether the point is beside the slab throughout, or above it.
     #[inline]
     fn is_past(&self, slab: &Slab, width: &[i128; 5]) -> bool
         ensures { let l = self.now in result ≡ is_past_by l.scale l.raised l.height width.now slab.now }
     {
-        if all_above(width, scaled_square(self.scale, slab.dia), &self.raised) {
+        if self.is_beside(slab, width) {
             return true;
         }
         all_above(
@@ -77,6 +87,21 @@ impl Lists {
             scaled_square(self.scale, slab.hi),
             &self.raised,
         )
+    }
+
+    /// Whether the point is beside each slab below the number `high` throughout, as it is where it is beside the highest of them: those
+    /// below that one are no wider. Where it is below those from `high` on, all are then excluded.
+    #[inline]
+    pub fn are_beside(&self, slabs: &[Slab], high: usize, width: &[i128; 5]) -> bool
+        requires within { high ≤ length slabs.now }
+        ensures { let l = self.now in IsTrue result → IsRising slabs.now → all_positive l.raised ≡ true
+            → TurnsBetween (λ s. not (is_below_by l.scale l.raised l.height s)) slabs.now 0 high
+            → is_left_by l.scale false l.raised l.height width.now slabs.now ≡ false }
+    {
+        if high == 0 {
+            return true;
+        }
+        self.is_beside(&slabs[high - 1], width)
     }
 
     /// Whether some of the slabs is not excluded, by the highest of them that the point isn't below: it is below those above that

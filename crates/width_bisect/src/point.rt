@@ -1,9 +1,11 @@
 ghost use Rattle.std.specs.Prelude.{◌≡◌, ◌^◌, ◌≤◌, false};
 ghost use Rattle.space.specs.Ranges.{IsPoint};
 ghost use Rattle.bern_form.specs.Forms.{all_negative};
+ghost use Rattle.cutter_slabs.specs.Stacks.{outer_stack};
 ghost use Rattle.cutter_marks.specs.MarkBy.{mark_by};
 ghost use Rattle.width_bisect.specs.Asked.{IsAnswer};
 ghost use Rattle.width_bisect.specs.Forms.{AreWidthForms};
+ghost use Rattle.width_bisect.specs.Parts.{IsOpenPart};
 
 use crate::asked::{Asked, slabs_for};
 use crate::forms::WholeForms;
@@ -14,19 +16,22 @@ use axis_cells::{Mark, Sweep, cells_of, in_reach};
 use box_bisect::mark_point_uncounted;
 use cutter_slabs::Stacks;
 
-/// What is asked of a point that is not behind the tip throughout.
+/// What is asked of a point that is not behind the tip throughout the part.
+#[inline]
 fn mark_ahead(
     sweep: &Sweep,
     stacks: &Stacks,
     point: [i32; 3],
     forms: &WholeForms,
+    levels: u32,
     depth: u32,
-    near: usize,
+    near: &mut usize,
     asked: Asked,
 ) -> Mark
     requires point { IsPoint point }
     requires depth { depth ≤ 10 }
-    requires forms { AreWidthForms forms.now.u.c forms.now.n.c forms.now.width.c sweep.now point 0 (2 ^ depth) (2 ^ depth) }
+    requires part { IsOpenPart (outer_stack stacks.now.cutter stacks.now.slabs) forms.now.u.c forms.now.n.c forms.now.width.c
+        sweep.now point (2 ^ depth) levels }
     requires ahead { all_negative forms.now.u.c ≡ false }
     ensures { IsAnswer asked result (mark_by stacks.now.cutter stacks.now.slabs sweep.now point (2 ^ depth)) }
 {
@@ -40,7 +45,8 @@ fn mark_ahead(
     }
     let inner = stacks.inner();
     let slabs = slabs_for(stacks, asked);
-    let reached = reached_on_whole(&whole, &lists, slabs, near);
+    let reached = reached_on_whole(&whole, &lists, slabs, *near);
+    *near = reached;
     if !lists.leaves_some(slabs, reached, &whole.width) {
         return Mark::Clear;
     }
@@ -48,14 +54,40 @@ fn mark_ahead(
     if !in_reach(sweep, reach, point) {
         return Mark::Clear;
     }
-    mark_of_whole(&whole, inner, slabs, scale, reached, depth)
+    mark_of_whole(&whole, inner, slabs, scale, reached, levels)
 }
 
-/// The mark of a point by the stacks and the reach of a cutter, at the samples and on the cells of a depth, from its forms on the
-/// whole move: that of `mark_point_uncounted`, with less work. Where it is only asked whether the point is sure, a mark that is Removed
-/// exactly where that one is. A point that is behind the tip throughout, as most are that stand
-/// below a tool's way, costs next to nothing. `near` is the number from which the slab at the point's height is looked for: any is
-/// right, best that of a point beside it.
+/// The mark of a point by the stacks and the reach of a cutter, at the samples and on the cells of a depth, from its forms on a part of
+/// the move, 2^`levels` cells: before it and after it no outer slab is left. It is that of `mark_point_uncounted`, with less work. Where
+/// it is only asked whether the point is sure, a mark that is Removed exactly where that one is. A point that is behind the tip
+/// throughout, as most are that stand below a tool's way, costs next to nothing. `near` is the number from which the slab at the
+/// point's height is looked for: any is right, best that of a point beside it. The one that is found comes in its place.
+#[inline]
+pub fn mark_on_part(
+    sweep: &Sweep,
+    stacks: &Stacks,
+    point: [i32; 3],
+    forms: &WholeForms,
+    levels: u32,
+    depth: u32,
+    near: &mut usize,
+    asked: Asked,
+) -> Mark
+    requires point { IsPoint point }
+    requires depth { depth ≤ 10 }
+    requires part { IsOpenPart (outer_stack stacks.now.cutter stacks.now.slabs) forms.now.u.c forms.now.n.c forms.now.width.c
+        sweep.now point (2 ^ depth) levels }
+    ensures { IsAnswer asked result (mark_by stacks.now.cutter stacks.now.slabs sweep.now point (2 ^ depth)) }
+{
+    // What an inner slab holds an outer one does, by the stack.
+    let _inner = stacks.inner();
+    if forms.u.all_negative() {
+        return Mark::Clear;
+    }
+    mark_ahead(sweep, stacks, point, forms, levels, depth, near, asked)
+}
+
+/// The same from the point's forms on the whole move.
 pub fn mark_by_forms(
     sweep: &Sweep,
     stacks: &Stacks,
@@ -70,8 +102,6 @@ pub fn mark_by_forms(
     requires forms { AreWidthForms forms.now.u.c forms.now.n.c forms.now.width.c sweep.now point 0 (2 ^ depth) (2 ^ depth) }
     ensures { IsAnswer asked result (mark_by stacks.now.cutter stacks.now.slabs sweep.now point (2 ^ depth)) }
 {
-    if forms.u.all_negative() {
-        return Mark::Clear;
-    }
-    mark_ahead(sweep, stacks, point, forms, depth, near, asked)
+    let mut near = near;
+    mark_on_part(sweep, stacks, point, forms, depth, depth, &mut near, asked)
 }

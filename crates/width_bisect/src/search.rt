@@ -40,6 +40,9 @@ pub fn mark_between(
         return Mark::Clear;
     }
     let lists = Lists::of_stretch(stretch, scale);
+    if lists.are_beside(outer, high, &stretch.width) {
+        return Mark::Clear;
+    }
     let reached = walk_down(&lists, outer, high);
     if !lists.leaves_some(outer, reached, &stretch.width) {
         return Mark::Clear;
@@ -72,10 +75,10 @@ pub fn mark_by_halves(
         return Mark::Possible;
     }
     let first = stretch.first_half();
-    let last = stretch.last_half();
     if Sample::last_of(&first, scale).is_held(inner, high) {
         return Mark::Removed;
     }
+    let last = stretch.last_half();
     let late = mark_between(&last, inner, outer, scale, high, levels - 1);
     if is_removed(late) {
         return Mark::Removed;

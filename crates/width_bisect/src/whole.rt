@@ -1,4 +1,4 @@
-ghost use Rattle.std.specs.Prelude.{◌≡◌, ℕ, ℤ, List, ◌^◌, ◌≤◌, length, not, true};
+ghost use Rattle.std.specs.Prelude.{◌≡◌, ℕ, ℤ, List, ◌+◌, ◌^◌, ◌<◌, ◌≤◌, length, not, true};
 ghost use Rattle.space.specs.Motion.{Motion};
 ghost use Rattle.bern_form.specs.Between.{d_between};
 ghost use Rattle.bern_form.specs.Forms.{all_positive, lifted, product22};
@@ -18,7 +18,7 @@ use crate::turn::walk_up;
 use axis_cells::Mark;
 use bern_form::Slab;
 
-/// The number of the slab above the highest that the point isn't below throughout the move. It is looked for at the last sample,
+/// The number of the slab above the highest that the point isn't below throughout the stretch. It is looked for at the last sample,
 /// which costs one product a slab, from any number on, and from there upwards.
 #[inline]
 pub fn reached_on_whole(whole: &Stretch, lists: &Lists, slabs: &[Slab], near: usize) -> usize
@@ -30,28 +30,29 @@ pub fn reached_on_whole(whole: &Stretch, lists: &Lists, slabs: &[Slab], near: us
     walk_up(lists, slabs, last.reached(slabs, near))
 }
 
-/// The mark of the point whose forms these are on a whole move of 2^`depth` cells, on which some outer slab is not excluded: both ends
-/// are tried, and then what is between them. n raised to degree 4 is above 0, and the point is below the outer slab with the number
-/// `high` throughout, where there is one.
+/// The mark of the point whose forms these are on a stretch of 2^`levels` cells, on which some outer slab is not excluded: both ends are
+/// tried, and then what is between them. n raised to degree 4 is above 0, and the point is below the outer slab with the number `high`
+/// throughout, where there is one.
 pub fn mark_of_whole(
     whole: &Stretch,
     inner: &[Slab],
     outer: &[Slab],
     scale: u32,
     high: usize,
-    depth: u32,
+    levels: u32,
 ) -> Mark
     requires scale { scale ≤ scale_limit }
-    requires cells { scale ≡ 2 ^ depth }
+    requires some { 0 < scale }
     requires inner { IsRising inner.now }
     requires outer { IsRising outer.now }
     requires lows { lows_of inner.now ≡ lows_of outer.now }
     requires positive { all_positive (lifted whole.now.n) ≡ true }
     requires high { TurnsAt (λ s. not (is_below_by scale (lifted whole.now.n) (product22 whole.now.u whole.now.u) s)) outer.now high }
-    ensures { (m : Motion) (p : List ℤ) → AreWidthForms whole.now.u whole.now.n whole.now.width m p 0 scale scale
+    ensures { (m : Motion) (p : List ℤ) (j : ℕ)
+        → AreWidthForms whole.now.u whole.now.n whole.now.width m p j (j + 2 ^ levels) scale
         → ((i : ℕ) → some_holds inner.now m p i scale ≡ true → some_holds outer.now m p i scale ≡ true)
-        → is_left_with outer.now scale whole.now.u whole.now.n (d_between m p 0 scale scale) ≡ true
-        → IsMarkBetween result inner.now outer.now m p 0 scale scale }
+        → is_left_with outer.now scale whole.now.u whole.now.n (d_between m p j (j + 2 ^ levels) scale) ≡ true
+        → IsMarkBetween result inner.now outer.now m p j (j + 2 ^ levels) scale }
 {
     if Sample::last_of(whole, scale).is_held(inner, high) {
         return Mark::Removed;
@@ -59,5 +60,5 @@ pub fn mark_of_whole(
     if Sample::first_of(whole, scale).is_held(inner, high) {
         return Mark::Removed;
     }
-    mark_by_halves(whole, inner, outer, scale, high, depth)
+    mark_by_halves(whole, inner, outer, scale, high, levels)
 }

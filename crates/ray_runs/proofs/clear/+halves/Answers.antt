@@ -1,27 +1,32 @@
-use Rattle.std.proofs.Common.{◌+◌, ◌-◌, ◌^◌, ◌≡◌, arith, refl, subst, sym, ◌∙◌}
+use Rattle.std.proofs.Common.{◌+◌, ◌-◌, ◌^◌, ◌≡◌, arith, refl, subst, to_z, of_z}
 use Rattle.std.proofs.lemmas.Int.{to_z-of_z}
 use mir.Syntax.{w64}
 use Rattle.ray_grid.specs.Lattice.{point_of}
 use Rattle.box_bisect.proofs.RayLines.{ray_line}
 use Rattle.box_bisect.proofs.Searching.{halved}
-use Rattle.box_bisect.specs.Between.{IsOutWithin}
 use Rattle.ray_runs.specs.Apart.{AreApart, IsPairAt}
-use Rattle.ray_runs.proofs.Boxes.{apart_out, halves_out}
+use Rattle.ray_runs.proofs.Open.{but_as, halves_open, out_around_whole}
+use Rattle.ray_runs.proofs.Boxes.{apart_out}
 use Rattle.ray_runs.proofs.clear.+halves.Goals as goal
 
 pub returns-then-are_apart : goal.returns-then-are_apart
-returns-then-are_apart g c = λ yes.
+returns-then-are_apart g c =
     let a = c.args in let r = c.requires in
     apart_out a.sweep.now (point_of a.grid.now a.ray.now) a.scale a.from a.to a.j a.levels a.square _ _ _ _ _ _ (ray_line a.grid.now a.ray.now) r.some r.start r.end
     (subst (λ f. AreApart f a.start.now.first.offset a.end.now.first.offset a.start.now.last.offset a.end.now.last.offset a.start.now.first.axis a.end.now.first.axis) (to_z-of_z w64 a.square c.ranges.square) (c.if-are_apart.ensures refl))
+
+pub returns-then-levels-stop : goal.returns-then-levels-stop
+returns-then-levels-stop g c =
+    let a = c.args in
+    out_around_whole record { first = a.j; levels = a.levels } a.square a.sweep.now (point_of a.grid.now a.ray.now) a.scale a.from a.to a.j (a.j + 2 ^ a.levels) c.requires.levels refl refl
 
 pub at_sample-pair-requires-clause-sample : goal.at_sample-pair-requires-clause-sample
 at_sample-pair-requires-clause-sample g c =
     let h = (halved c.args.levels (c.args.levels - 1) c.args.j (omega arith)).end in let n = c.cells_of.ensures.cells in let cells = c.requires.cells in
     omega (arith, h, n, cells)
 
-pub are_out-requires : goal.are_out-requires
-are_out-requires g c =
+pub open_in-late-requires : goal.open_in-late-requires
+open_in-late-requires g c =
     let a = c.args in let r = c.requires in let m = a.sweep.now in let point = point_of a.grid.now a.ray.now in let pair = c.at_sample-pair.ensures in let n = a.levels - 1 in
     let h = (halved a.levels n a.j (omega arith)).end in let k = c.cells_of.ensures.cells in let cells = r.cells in
     let end : a.j + 2 ^ a.levels ≡ (a.j + c.cells_of.result) + 2 ^ n = omega (arith, h, k) in (
@@ -53,8 +58,8 @@ are_out-requires g c =
       ),
     )
 
-pub are_out-requires-2 : goal.are_out-requires-2
-are_out-requires-2 g c =
+pub open_in-early-requires : goal.open_in-early-requires
+open_in-early-requires g c =
     let a = c.args in let r = c.requires in let m = a.sweep.now in let point = point_of a.grid.now a.ray.now in let pair = c.at_sample-pair.ensures in let n = a.levels - 1 in
     let h = (halved a.levels n a.j (omega arith)).end in let k = c.cells_of.ensures.cells in let cells = r.cells in
     let middle : a.j + c.cells_of.result ≡ a.j + 2 ^ n = omega (arith, k) in let q = c.at_sample-pair.result in
@@ -88,9 +93,11 @@ are_out-requires-2 g c =
     )
 
 pub returns : goal.returns
-returns g c = λ yes.
+returns g c =
     let a = c.args in let n = a.levels - 1 in let m = a.sweep.now in let point = point_of a.grid.now a.ray.now in
     let k = c.cells_of.ensures.cells in let same = to_z-of_z w64 a.square c.ranges.square in
-    let middle : a.j + c.cells_of.result ≡ a.j + 2 ^ n = omega (arith, k) in
-    halves_out a.square m point a.scale a.from a.to a.j a.levels n (a.j + c.cells_of.result) (omega arith) middle (λ slabs most e narrow l after before. c.if-not-are_out.ensures refl slabs most (same ∙ e) narrow l after before)
-    (λ slabs most e narrow l after before. subst (λ i. IsOutWithin slabs m (point l) a.j i a.scale) (sym middle) (c.are_out-2.ensures yes slabs most (same ∙ e) narrow l after before))
+    let middle : a.j + c.cells_of.result ≡ a.j + 2 ^ n = omega (arith, k) in let i = a.j + c.cells_of.result in
+    let early = but_as c.open_in-early.result (to_z w64 (of_z w64 a.square)) a.square m point a.scale a.from a.to a.j (a.j + 2 ^ n) same c.open_in-early.ensures in
+    let late = but_as c.open_in-late.result (to_z w64 (of_z w64 a.square)) a.square m point a.scale a.from a.to i (i + 2 ^ n) same c.open_in-late.ensures in
+    halves_open c.open_in-early.result c.open_in-late.result c.joined.result record { first = a.j; levels = a.levels } a.square m point a.scale a.from a.to a.j a.levels n i
+    (omega arith) middle c.requires.levels refl refl c.joined.ensures early late

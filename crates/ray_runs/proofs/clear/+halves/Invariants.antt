@@ -1,4 +1,4 @@
 use Rattle.ray_runs.proofs.clear.+halves.Given as goal
 
-abbrev pub decreases-are_out : goal.decreases-are_out
-decreases-are_out l = l.levels
+abbrev pub decreases-open_in : goal.decreases-open_in
+decreases-open_in l = l.levels

@@ -1,13 +1,16 @@
-use Rattle.std.proofs.Common.{◌≡◌, ◌+◌, ◌-◌, ◌^◌, ◌≤◌, length, arith, rules, sym, subst, ap, ◌∙◌}
+use Rattle.std.proofs.Common.{◌≡◌, Bool, ◌+◌, ◌-◌, ◌^◌, ◌≤◌, length, arith, rules, sym, subst, ap, ◌∙◌}
 use Rattle.space.specs.Vectors.{at}
 use Rattle.bern_form.specs.Between.{d_between}
+use Rattle.bern_form.specs.Forms.{all_positive}
+use Rattle.bern_form.specs.Slab.{SlabSize}
 use Rattle.cutter_slabs.specs.Rising.{IsRising}
 use Rattle.box_bisect.specs.Between.{IsMarkBetween}
+use Rattle.box_bisect.specs.SlabTests.{TurnsBetween}
 use Rattle.box_bisect.proofs.Searching.{late_held, not_removed, removed_of}
 use Rattle.width_bisect.specs.Early.{lows_of}
 use Rattle.width_bisect.specs.Halved.{first2, first4, last2, last4}
 use Rattle.width_bisect.proofs.Early.{early_lows, early_rises, early_search, early_within, join_early}
-use Rattle.width_bisect.proofs.Searching.{behind_none, first_forms, held_as_last, left_is_by, middle_held, search_cell, search_dropped, search_first, search_forms, search_last, searched_as, stopped_at, turns_by, width_by}
+use Rattle.width_bisect.proofs.Searching.{behind_none, first_forms, held_as_last, left_by, left_is_by, middle_held, search_cell, search_dropped, search_first, search_forms, search_last, searched_as, stopped_at, test_as, turns_by, width_by}
 use Rattle.width_bisect.proofs.search.+search.Goals as goal
 
 pub mark_between-returns-then-is_behind : goal.mark_between-returns-then-is_behind
@@ -15,6 +18,16 @@ mark_between-returns-then-is_behind t c = λ m p j s.
     let a = c.args in let S = a.scale in let inner = a.inner.now in let outer = a.outer.now in let u = a.stretch.now.u in let n = a.stretch.now.n in let width = a.stretch.now.width in
     let d = d_between m p j (j + 2 ^ a.levels) S in
     search_dropped inner outer u n width m p S a.high a.levels j s (behind_none outer S u n d (sym c.is_behind.ensures ∙ c.if-is_behind.true))
+
+pub mark_between-returns-then-are_beside : goal.mark_between-returns-then-are_beside
+mark_between-returns-then-are_beside t c = λ m p j s.
+    let a = c.args in let S = a.scale in let inner = a.inner.now in let outer = a.outer.now in let u = a.stretch.now.u in let n = a.stretch.now.n in let width = a.stretch.now.width in
+    let k = j + 2 ^ a.levels in let d = d_between m p j k S in let l = c.of_stretch-lists.result in let e = c.of_stretch-lists.ensures in
+    let ahead = sym c.is_behind.ensures ∙ c.if-is_behind.false in
+    let turns = subst (λ (t : SlabSize → Bool). TurnsBetween t outer 0 a.high) (sym (test_as S l.scale l.raised l.height u n e.scale e.raised e.height)) s.turns in
+    let forms = search_forms inner outer u n width m p S a.high a.levels j s in
+    let left = left_by outer S l.scale l.raised l.height width u n d e.scale ahead e.raised e.height (width_by u n width m p j k S forms) in
+    search_dropped inner outer u n width m p S a.high a.levels j s (sym left ∙ c.are_beside.ensures c.if-are_beside.true c.requires.outer (ap all_positive e.raised ∙ s.is_open) turns)
 
 pub mark_between-returns-then-not-leaves_some : goal.mark_between-returns-then-not-leaves_some
 mark_between-returns-then-not-leaves_some t c = λ m p j s.

@@ -1,19 +1,19 @@
-use Rattle.std.proofs.Common.{◌≡◌, true, ℕ, ◌+◌, ◌^◌, List, FitsSigned, arith, rules, sym, subst, ◌∙◌}
+use Rattle.std.proofs.Common.{◌≡◌, true, ℕ, ◌+◌, ◌^◌, List, FitsSigned, arith, rules, sym, subst, to_z, of_z}
 use Rattle.std.proofs.lemmas.Int.{to_z-of_z}
 use mir.Syntax.{w32, w64}
 use Rattle.space.specs.Motion.{IsSweep}
 use Rattle.bern_form.specs.Cells.{scaled_square}
 use Rattle.bern_form.specs.Marks.{held_at_sample}
 use Rattle.bern_form.specs.Slab.{SlabSize}
-use Rattle.cutter_slabs.specs.Stacks.{outer_stack}
 use Rattle.ray_grid.specs.Lattice.{point_of}
-use Rattle.ray_runs.specs.Apart.{AreOut, IsPairAt}
-use Rattle.ray_runs.specs.Between.{AreClear}
+use Rattle.ray_runs.specs.Apart.{IsPairAt}
+use Rattle.ray_runs.specs.Open.{AreOutBut}
 use Rattle.ray_runs.proofs.ClearPoints.{clear_of}
-use Rattle.ray_runs.proofs.clear.are_clear.Goals as goal
+use Rattle.ray_runs.proofs.Open.{but_as, open_of_move}
+use Rattle.ray_runs.proofs.clear.open_stretch.Goals as goal
 
-pub are_out-requires-clause-end : goal.are_out-requires-clause-end
-are_out-requires-clause-end c =
+pub open_in-requires-clause-end : goal.open_in-requires-clause-end
+open_in-requires-clause-end c =
     let a = c.args in let p = c.at_sample-end.ensures in let q = c.at_sample-end.result in let S = c.cells_of-scale.result in let cells = c.cells_of-scale.ensures.cells in
     let point = point_of a.grid.now a.ray.now in
     let end : S ≡ 0 + 2 ^ a.depth = omega (arith, cells) in
@@ -21,7 +21,7 @@ are_out-requires-clause-end c =
     subst (λ (i : ℕ). IsPairAt a.sweep.now point a.from a.to i S q.first.offset q.last.offset q.first.axis) end there
 
 pub returns : goal.returns
-returns c = λ yes.
+returns c =
     let a = c.args in let S = c.cells_of-scale.result in let cells = c.cells_of-scale.ensures.cells in let m = a.sweep.now in let stacks = a.stacks.now in
     let point = point_of a.grid.now a.ray.now in
     let end : 0 + 2 ^ a.depth ≡ S = omega (arith, cells) in
@@ -29,9 +29,8 @@ returns c = λ yes.
     let most : FitsSigned w32 c.widest.result = search rules in
     let square : FitsSigned w64 c.scaled_square-square.result = search rules in
     let squared : c.scaled_square-square.result ≡ scaled_square S c.widest.result = simp to_z-of_z at c.scaled_square-square.ensures in
-    let out = c.are_out.ensures yes c.outer.result.now c.widest.result (to_z-of_z w64 c.scaled_square-square.result square ∙ squared) c.widest.ensures.no_wider in
-    let whole : AreOut c.outer.result.now m point S a.from a.to 0 S = subst (λ (i : ℕ). AreOut c.outer.result.now m point S a.from a.to 0 i) end out in
-    let all : AreOut (outer_stack stacks.cutter stacks.slabs) m point S a.from a.to 0 S = subst (λ (l : List SlabSize). AreOut l m point S a.from a.to 0 S) c.outer.ensures.stack whole in
-    let clear = clear_of stacks m point S a.from a.to
-    (λ p h. c.inner-inner.ensures.possible m p S c.cells_of-scale.ensures.some valid (subst (λ (l : List SlabSize). held_at_sample l m p S ≡ true) (sym c.inner-inner.ensures.stack) h)) all in
-    subst (λ (i : ℕ). AreClear stacks m point i a.from a.to) cells clear
+    let out = but_as c.open_in.result (to_z w64 (of_z w64 c.scaled_square-square.result)) c.scaled_square-square.result m point S a.from a.to 0 S (to_z-of_z w64 c.scaled_square-square.result square)
+    (subst (λ (i : ℕ). AreOutBut c.open_in.result (to_z w64 (of_z w64 c.scaled_square-square.result)) m point S a.from a.to 0 i) end c.open_in.ensures) in
+    open_of_move c.open_in.result stacks c.scaled_square-square.result c.widest.result c.outer.result.now m point S (2 ^ a.depth) a.from a.to squared c.widest.ensures.no_wider c.outer.ensures.stack cells
+    (clear_of stacks m point S a.from a.to
+    (λ p h. c.inner-inner.ensures.possible m p S c.cells_of-scale.ensures.some valid (subst (λ (l : List SlabSize). held_at_sample l m p S ≡ true) (sym c.inner-inner.ensures.stack) h))) out

@@ -1,0 +1,16 @@
+use Rattle.std.proofs.Common.{◌+◌, ap, ◌∙◌}
+use Rattle.vf_spans.specs.Words.{has_bit}
+use Rattle.vf_spans.proofs.WordBits.{has_bit-zero}
+use Rattle.wanted_marks.specs.Rays.{is_possible_at, is_sure_at}
+use Rattle.wanted_marks.proofs.Taking.{all_taken}
+use Rattle.wanted_marks.proofs.ray_marker.RayMarker.mark_on.Goals as goal
+
+pub returns-clause-sure : goal.returns-clause-sure
+returns-clause-sure c = λ b below.
+    let r = c.args.self.now in let first = c.args.first in let wanted = c.args.wanted in let part = c.loop-part.part in
+    all_taken (has_bit part.marks.sure b) (has_bit wanted b) (has_bit part.rest b) (is_sure_at r (first + b)) (c.loop-part.invariant.part.sure b below) (ap (λ z. has_bit z b) c.loop-part-test.false ∙ has_bit-zero b)
+
+pub returns-clause-possible : goal.returns-clause-possible
+returns-clause-possible c = λ b below whole.
+    let r = c.args.self.now in let first = c.args.first in let wanted = c.args.wanted in let part = c.loop-part.part in
+    all_taken (has_bit part.marks.possible b) (has_bit wanted b) (has_bit part.rest b) (is_possible_at r (first + b)) (c.loop-part.invariant.part.possible b below whole) (ap (λ z. has_bit z b) c.loop-part-test.false ∙ has_bit-zero b)
