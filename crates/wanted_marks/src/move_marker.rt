@@ -15,7 +15,7 @@ use cutter_slabs::Stacks;
 use ray_grid::{Family, Grid, Ray};
 use ray_runs::{Run, are_clear, sure_run};
 use std::marker::Model;
-use width_bisect::{Asked, Sample, WholeForms, mark_by_forms};
+use width_bisect::{Asked, Sample, WholeForms, mark_by_forms, scaled_square};
 
 /// A move of a cutter, ready to mark points of rays. It keeps what is the same for all of them: how the axis turns, and the
 /// limits beyond which a point is beside every outer slab throughout the move.
@@ -277,8 +277,8 @@ impl<'a> MoveMarker<'a> {
         if reached == 0 {
             return true;
         }
-        let limits = limits_of(&self.turn.n, self.scale, diameter_of(&outer[reached - 1]));
-        line.exceed(l, last.width, &limits)
+        let factor = scaled_square(self.scale, diameter_of(&outer[reached - 1]));
+        line.exceed_times(l, last.width, factor, &self.turn.raised)
     }
 
     /// Whether the points from the one l steps on to the one m steps on are all behind the tip throughout the move, or all beside
