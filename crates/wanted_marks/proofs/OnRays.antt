@@ -15,6 +15,9 @@ use Rattle.bern_form.specs.Forms.{IsSmall}
 use Rattle.bern_form.specs.Sizes.{IsBounded2, axis_limit, offset_limit, scale_limit}
 use Rattle.bern_form.proofs.Sizes.{axis_within, offset_within, small_as}
 use Rattle.axis_cells.proofs.Bounds.{between_fits, cross_bounded, list2}
+use Rattle.ray_runs.specs.Moments.{moment, vector_sum}
+use Rattle.ray_runs.specs.Sizes.{part_limit, turn_limit}
+use Rattle.ray_runs.proofs.Fits.{minor_small, two_small}
 use Rattle.ray_grid.specs.declared.ray.Family.{Family}
 use Rattle.ray_grid.specs.declared.ray.Family.TheVariants.{X, Y, Z}
 use Rattle.ray_grid.specs.Lattice.{node_at, place_at, point_at, point_of, points_of}
@@ -82,6 +85,24 @@ heights_bounded m p S sweep point few =
     cross_bounded (offset_at m p (pos 0) (pos S)) (offset_at m p (pos S) (pos S)) (axis_at m (pos 0) (pos S)) (axis_at m (pos S) (pos S)) offset_limit axis_limit
     (offset_within m p 0 S sweep point (omega arith) few) (offset_within m p S S sweep point (omega arith) few) (axis_within m 0 S sweep (omega arith) few) (axis_within m S S sweep (omega arith) few)
 
+-- moments
+moment_small : (p a : List ℤ) → IsWithin offset_limit p → IsWithin axis_limit a → IsWithin (2 * part_limit) (moment p a)
+moment_small p a hp ha = (
+  minor_small (at p 1) (at p 2) (at a 1) (at a 2) offset_limit axis_limit hp.1 hp.2 ha.1 ha.2,
+  minor_small (at p 2) (at p 0) (at a 2) (at a 0) offset_limit axis_limit hp.2 hp.0 ha.2 ha.0,
+  minor_small (at p 0) (at p 1) (at a 0) (at a 1) offset_limit axis_limit hp.0 hp.1 ha.0 ha.1,
+)
+
+outer_small : (x : List ℤ) → IsWithin (2 * part_limit) x → IsWithin turn_limit x
+outer_small x h = let h0 = h.0 in let h1 = h.1 in let h2 = h.2 in (omega (arith, h0), omega (arith, h1), omega (arith, h2))
+
+sum_small : (x y : List ℤ) → IsWithin (2 * part_limit) x → IsWithin (2 * part_limit) y → IsWithin turn_limit (vector_sum x y)
+sum_small x y h k = (
+  two_small (at x 0) (at y 0) (2 * part_limit) h.0 k.0,
+  two_small (at x 1) (at y 1) (2 * part_limit) h.1 k.1,
+  two_small (at x 2) (at y 2) (2 * part_limit) h.2 k.2,
+)
+
 -- what is kept for the rays of a strip fits at each of them
 pub ray_fits : (sheet : Sheet) (m : Motion) (o v : List ℤ) (S : ℕ) (j : ℤ) → HasRay sheet m o v S j → IsSweep m → IsPoint o → S ≤ scale_limit → IsWithin offset_limit v → FitsOn sheet j
 ray_fits sheet m o v S j ray sweep point few within =
@@ -89,6 +110,9 @@ ray_fits sheet m o v S j ray sweep point few within =
     let hP = offset_within m o 0 S sweep point (omega arith) few in let hQ = offset_within m o S S sweep point (omega arith) few in
     let hA = axis_within m 0 S sweep (omega arith) few in let hC = axis_within m S S sweep (omega arith) few in
     let height = heights_bounded m o S sweep point few in record {
+      start = subst (λ (x : List ℤ). IsWithin turn_limit x) (sym ray.start) (outer_small (moment P A) (moment_small P A hP hA));
+      middle = subst (λ (x : List ℤ). IsWithin turn_limit x) (sym ray.middle) (sum_small (moment P C) (moment Q A) (moment_small P C hP hC) (moment_small Q A hQ hA));
+      end = subst (λ (x : List ℤ). IsWithin turn_limit x) (sym ray.end) (outer_small (moment Q C) (moment_small Q C hQ hC));
       constant = small_as ray.constant (width_small m o S sweep point few);
       first = small_as ray.first
           (spread_fits (pos 8) (d_step m o v S) (n_between m 0 S S) (u_between m o 0 S S) (u_step m v S)

@@ -1,19 +1,23 @@
 -- Along a line the offset from the tip is linear in the number of steps, so the coefficients of u are linear in it and those of d
 -- and of 4 (d n - u^2) quadratic.
-use Rattle.std.proofs.Common.{◌≡◌, ℕ, zero, suc, [], ◌∷◌, List, ℤ, pos, ◌+ℤ◌, ◌*ℤ◌, ◌-ℤ◌, refl, ap, ap₂, sym, ◌∙◌}
+use Rattle.std.proofs.Common.{◌≡◌, ℕ, zero, suc, [], ◌∷◌, List, ℤ, pos, ◌+ℤ◌, ◌*ℤ◌, ◌-ℤ◌, arith, refl, ap, ap₂, subst, sym, ◌∙◌}
 use Rattle.space.specs.Motion.{Motion, axis_at, between, offset, offset_at}
 use Rattle.space.specs.Vectors.{at}
 use Rattle.space.proofs.Solver.{Term, var, num, add, mul, ring}
 use Rattle.space.proofs.Terms.{from, sub}
 use Rattle.bern_form.specs.Between.{d_between, n_between, u_between}
 use Rattle.bern_form.specs.Cells.{dot_on_cell}
+use Rattle.bern_form.specs.Forms.{scaled4}
+use Rattle.ray_runs.specs.Moments.{middle_moment, moment, moment_product, vector_product, vector_sum}
+use Rattle.ray_runs.proofs.Lagrange.{lagrange_at, less_squares}
 use Rattle.wanted_marks.specs.declared.line.Line.{Line}
+use Rattle.wanted_marks.specs.declared.moments.Moments.{Moments}
 use Rattle.wanted_marks.specs.declared.sheet.Sheet.{Sheet}
 use Rattle.wanted_marks.specs.Starts.{IsStart}
-use Rattle.wanted_marks.specs.Lines.{HasForms, IsThrough, d_step, u_step, width_at}
-use Rattle.wanted_marks.specs.Sheets.{IsLineOn, IsSheet}
+use Rattle.wanted_marks.specs.Lines.{HasForms, IsThrough, d_step, u_step}
+use Rattle.wanted_marks.specs.Sheets.{AreMoments, IsLineOn, IsSheet, end_at, middle_at, own_product, start_at, step_product}
 use Rattle.wanted_marks.specs.Ways.{IsAlong, scaled_vector, scaled_way}
-use Rattle.wanted_marks.specs.Widths.{IsTurn, moved3, moved5, quadratics, spread_form, whole_width}
+use Rattle.wanted_marks.specs.Widths.{IsTurn, moved3, quadratics, spread_form, whole_width}
 
 pub same3 : (a b c d e f : ℤ) → a ≡ d → b ≡ e → c ≡ f → a ∷ b ∷ c ∷ [] ≡ d ∷ e ∷ f ∷ []
 same3 a b c d e f h k l = ap (λ z. z ∷ b ∷ c ∷ []) h ∙ ap (λ z. d ∷ z ∷ c ∷ []) k ∙ ap (λ z. d ∷ e ∷ z ∷ []) l
@@ -200,41 +204,86 @@ forms_are line m o first next p S l is on =
       height = ap₂ (λ x y. moved3 x y l) is.height_is is.height_step_is ∙ sym U;
     }
 
--- a multiple of d n - u v where d and u are moved3
-pub spread_moves : (n u w d f v : List ℤ) (l : ℤ) → moved5 (spread_form (pos 8) d n u v) (spread_form (pos 8) f n w v) l ≡ spread_form (pos 8) (moved3 d f l) n (moved3 u w l) v
-spread_moves n u w d f v l =
-    let e = at n 0 ∷ at n 1 ∷ at n 2 ∷ at u 0 ∷ at u 1 ∷ at u 2 ∷ at w 0 ∷ at w 1 ∷ at w 2 ∷ at d 0 ∷ at d 1 ∷ at d 2 ∷ at f 0 ∷ at f 1 ∷ at f 2 ∷ at v 0 ∷ at v 1 ∷ at v 2 ∷ l ∷ [] in
-    let N = from 0 in let U = from 3 in let W = from 6 in let D = from 9 in let F = from 12 in let V = from 15 in let L = var 18 in
-    let x = λ (k : ℕ). add (spread 8 D N U V k) (mul L (spread 8 F N W V k)) in
-    let y = spread 8 (λ k. add (D k) (mul L (F k))) N (λ k. add (U k) (mul L (W k))) V in
-    same5 _ _ _ _ _ _ _ _ _ _ (ring e (x 0) (y 0) refl) (ring e (x 1) (y 1) refl) (ring e (x 2) (y 2) refl) (ring e (x 3) (y 3) refl) (ring e (x 4) (y 4) refl)
+-- moments
+minor_moves : (p q t w a b j : ℤ) → (p +ℤ j *ℤ t) *ℤ b -ℤ (q +ℤ j *ℤ w) *ℤ a ≡ (p *ℤ b -ℤ q *ℤ a) +ℤ j *ℤ (t *ℤ b -ℤ w *ℤ a)
+minor_moves p q t w a b j =
+    let P = var 0 in let Q = var 1 in let T = var 2 in let W = var 3 in let A = var 4 in let B = var 5 in let J = var 6 in
+    ring (p ∷ q ∷ t ∷ w ∷ a ∷ b ∷ j ∷ []) (sub (mul (add P (mul J T)) B) (mul (add Q (mul J W)) A)) (add (sub (mul P B) (mul Q A)) (mul J (sub (mul T B) (mul W A)))) refl
+
+moment_moves : (p a t : List ℤ) (j : ℤ) → moment (moved3 p t j) a ≡ moved3 (moment p a) (moment t a) j
+moment_moves p a t j =
+    same3 _ _ _ _ _ _ (minor_moves (at p 1) (at p 2) (at t 1) (at t 2) (at a 1) (at a 2) j) (minor_moves (at p 2) (at p 0) (at t 2) (at t 0) (at a 2) (at a 0) j)
+    (minor_moves (at p 0) (at p 1) (at t 0) (at t 1) (at a 0) (at a 1) j)
+
+sum_moves : (x y z w j : ℤ) → (x +ℤ j *ℤ y) +ℤ (z +ℤ j *ℤ w) ≡ (x +ℤ z) +ℤ j *ℤ (y +ℤ w)
+sum_moves x y z w j =
+    let X = var 0 in let Y = var 1 in let Z = var 2 in let W = var 3 in let J = var 4 in
+    ring (x ∷ y ∷ z ∷ w ∷ j ∷ []) (add (add X (mul J Y)) (add Z (mul J W))) (add (add X Z) (mul J (add Y W))) refl
+
+vector_sum_moves : (x y z w : List ℤ) (j : ℤ) → vector_sum (moved3 x y j) (moved3 z w j) ≡ moved3 (vector_sum x z) (vector_sum y w) j
+vector_sum_moves x y z w j =
+    same3 _ _ _ _ _ _ (sum_moves (at x 0) (at y 0) (at z 0) (at w 0) j) (sum_moves (at x 1) (at y 1) (at z 1) (at w 1) j) (sum_moves (at x 2) (at y 2) (at z 2) (at w 2) j)
+
+middle_moves : (p q a c t : List ℤ) (j : ℤ) → middle_moment (moved3 p t j) (moved3 q t j) a c ≡ moved3 (middle_moment p q a c) (middle_moment t t a c) j
+middle_moves p q a c t j =
+    ap₂ vector_sum (moment_moves p c t j) (moment_moves q a t j) ∙ vector_sum_moves (moment p c) (moment t c) (moment q a) (moment t a) j
+
+-- their scalar products are the width forms
+lagrange : (p p' q q' a c : List ℤ) → moment_product p p' q q' a c ≡ less_squares p p' q q' a c
+lagrange p p' q q' a c =
+    same5 _ _ _ _ _ _ _ _ _ _ (sym (lagrange_at p p' q q' a c 0 (omega arith))) (sym (lagrange_at p p' q q' a c 1 (omega arith)))
+    (sym (lagrange_at p p' q q' a c 2 (omega arith))) (sym (lagrange_at p p' q q' a c 3 (omega arith))) (sym (lagrange_at p p' q q' a c 4 (omega arith)))
+
+pub product_as : (x0 x1 x2 y0 y1 y2 z0 z1 z2 w0 w1 w2 : List ℤ) → x0 ≡ z0 → x1 ≡ z1 → x2 ≡ z2 → y0 ≡ w0 → y1 ≡ w1 → y2 ≡ w2 → vector_product x0 x1 x2 y0 y1 y2 ≡ vector_product z0 z1 z2 w0 w1 w2
+product_as x0 x1 x2 y0 y1 y2 z0 z1 z2 w0 w1 w2 e0 e1 e2 f0 f1 f2 =
+    ap (λ x. vector_product x x1 x2 y0 y1 y2) e0 ∙ ap (λ x. vector_product z0 x x2 y0 y1 y2) e1 ∙ ap (λ x. vector_product z0 z1 x y0 y1 y2) e2
+    ∙ ap (λ x. vector_product z0 z1 z2 x y1 y2) f0 ∙ ap (λ x. vector_product z0 z1 z2 w0 x y2) f1 ∙ ap (λ x. vector_product z0 z1 z2 w0 w1 x) f2
+
+pub product_is : (by : ℤ) (x0 x1 x2 y0 y1 y2 p p' q q' a c : List ℤ) → x0 ≡ moment p a → x1 ≡ middle_moment p p' a c → x2 ≡ moment p' c → y0 ≡ moment q a → y1 ≡ middle_moment q q' a c → y2 ≡ moment q' c
+    → scaled4 by (vector_product x0 x1 x2 y0 y1 y2) ≡ spread_form by (dot_on_cell p p' q q') (dot_on_cell a c a c) (dot_on_cell p p' a c) (dot_on_cell q q' a c)
+product_is by x0 x1 x2 y0 y1 y2 p p' q q' a c e0 e1 e2 f0 f1 f2 =
+    ap (scaled4 by) (product_as x0 x1 x2 y0 y1 y2 (moment p a) (middle_moment p p' a c) (moment p' c) (moment q a) (middle_moment q q' a c) (moment q' c) e0 e1 e2 f0 f1 f2 ∙ lagrange p p' q q' a c)
+
+-- the moments of a point, by its offsets and the axes as they are kept
+pub moments_are : (x : Moments) (p q a c P Q A C : List ℤ) → AreMoments x p q a c → p ≡ P → q ≡ Q → a ≡ A → c ≡ C → AreMoments x P Q A C
+moments_are x p q a c P Q A C are ep eq ea ec =
+    let m0 = subst (λ (z : List ℤ). AreMoments x z q a c) ep are in let m1 = subst (λ (z : List ℤ). AreMoments x P z a c) eq m0 in
+    let m2 = subst (λ (z : List ℤ). AreMoments x P Q z c) ea m1 in subst (λ (z : List ℤ). AreMoments x P Q A z) ec m2
 
 -- line j of a sheet, as what its parts are
 pub record HasRay (sheet : Sheet) (m : Motion) (o v : List ℤ) (S : ℕ) (j : ℤ) : Type 0 where
-  pub constant : width_at sheet.across j ≡ whole_width m o S
-  pub first : moved5 sheet.along.first.c sheet.mixed.c j ≡ spread_form (pos 8) (d_step m o v S) (n_between m 0 S S) (u_between m o 0 S S) (u_step m v S)
-  pub height : moved3 sheet.across.height.c sheet.across.height_step.c j ≡ u_between m o 0 S S
+  pub start : start_at sheet j ≡ moment (offset_at m o (pos 0) (pos S)) (axis_at m (pos 0) (pos S))
+  pub middle : middle_at sheet j ≡ middle_moment (offset_at m o (pos 0) (pos S)) (offset_at m o (pos S) (pos S)) (axis_at m (pos 0) (pos S)) (axis_at m (pos S) (pos S))
+  pub end : end_at sheet j ≡ moment (offset_at m o (pos S) (pos S)) (axis_at m (pos S) (pos S))
+  pub constant : own_product sheet j ≡ whole_width m o S
+  pub first : step_product sheet j ≡ spread_form (pos 8) (d_step m o v S) (n_between m 0 S S) (u_between m o 0 S S) (u_step m v S)
+  pub height : moved3 sheet.height.c sheet.height_side.c j ≡ u_between m o 0 S S
 
 pub ray_is : (sheet : Sheet) (m : Motion) (start beside v o : List ℤ) (S : ℕ) (j : ℤ) → IsSheet sheet m start v (scaled_way (pos S) start beside) S → IsAlong start start beside o j → HasRay sheet m o v S j
 ray_is sheet m start beside v o S j is on =
     let s = pos S in let t = scaled_way s start beside in
     let P = offset_at m start (pos 0) s in let Q = offset_at m start s s in let A = axis_at m (pos 0) s in let C = axis_at m s s in
-    let n = n_between m 0 S S in let u = u_between m start 0 S S in
+    let F = offset_at m o (pos 0) s in let T = offset_at m o s s in
     let from = offset_moves m start start beside o (pos 0) s j on in
     let to = offset_moves m start start beside o s s j on in
-    let U : u_between m o 0 S S ≡ moved3 u (u_step m t S) j = ap₂ (λ x y. dot_on_cell x y A C) from to ∙ u_moves P Q A C t j in
-    let F : d_step m o v S ≡ moved3 (d_step m start v S) (dot_on_cell t t v v) j = ap₂ (λ x y. dot_on_cell x y v v) from to ∙ u_moves P Q v v t j in record {
-      constant = (forms_are sheet.across m start start beside o S j is.across on).width;
-      first = ap₂ (λ x y. moved5 x y j) is.along.first_is is.mixed ∙ spread_moves n u (u_step m t S) (d_step m start v S) (dot_on_cell t t v v) (u_step m v S) j
-          ∙ ap₂ (λ x y. spread_form (pos 8) x n y (u_step m v S)) (sym F) (sym U);
-      height = ap₂ (λ x y. moved3 x y j) is.across.height_is is.across.height_step_is ∙ sym U;
+    let e0 : start_at sheet j ≡ moment F A = ap₂ (λ x y. moved3 x y j) is.start.start_is is.side.start_is ∙ sym (moment_moves P A t j) ∙ ap (λ x. moment x A) (sym from) in
+    let e1 : middle_at sheet j ≡ middle_moment F T A C = ap₂ (λ x y. moved3 x y j) is.start.middle_is is.side.middle_is ∙ sym (middle_moves P Q A C t j) ∙ ap₂ (λ x y. middle_moment x y A C) (sym from) (sym to) in
+    let e2 : end_at sheet j ≡ moment T C = ap₂ (λ x y. moved3 x y j) is.start.end_is is.side.end_is ∙ sym (moment_moves Q C t j) ∙ ap (λ x. moment x C) (sym to) in
+    let U : u_between m o 0 S S ≡ moved3 (u_between m start 0 S S) (u_step m t S) j = ap₂ (λ x y. dot_on_cell x y A C) from to ∙ u_moves P Q A C t j in record {
+      start = e0;
+      middle = e1;
+      end = e2;
+      constant = product_is (pos 4) (start_at sheet j) (middle_at sheet j) (end_at sheet j) (start_at sheet j) (middle_at sheet j) (end_at sheet j) F T F T A C e0 e1 e2 e0 e1 e2;
+      first = product_is (pos 8) (start_at sheet j) (middle_at sheet j) (end_at sheet j) sheet.step.start sheet.step.middle sheet.step.end F T v v A C e0 e1 e2
+          is.step.start_is is.step.middle_is is.step.end_is;
+      height = ap₂ (λ x y. moved3 x y j) is.height_is is.height_side_is ∙ sym U;
     }
 
 pub line_is : (line : Line) (sheet : Sheet) (m : Motion) (start v t o : List ℤ) (S : ℕ) (j : ℤ) → IsSheet sheet m start v t S → HasRay sheet m o v S j → IsLineOn line sheet j → IsThrough line m o v S
 line_is line sheet m start v t o S j is ray on = record {
   constant_is = on.constant_is ∙ ray.constant;
   first_is = on.first_is ∙ ray.first;
-  second_is = on.second_is ∙ is.along.second_is;
+  second_is = on.second_is ∙ is.second_is;
   height_is = on.height_is ∙ ray.height;
-  height_step_is = on.height_step_is ∙ is.along.height_step_is;
+  height_step_is = on.height_step_is ∙ is.height_step_is;
 }

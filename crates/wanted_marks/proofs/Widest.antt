@@ -10,12 +10,13 @@ use Rattle.space.proofs.Solver.{Term, var, num, add, mul, ring}
 use Rattle.space.proofs.Terms.{from}
 use Rattle.space.proofs.Tests.{decides_lt}
 use Rattle.bern_form.specs.Cells.{scaled_square}
-use Rattle.bern_form.specs.Forms.{IsSmall, lifted, scaled2}
+use Rattle.bern_form.specs.Forms.{IsSmall, lifted, scaled2, scaled4}
 use Rattle.bern_form.specs.Slab.{SlabSize}
 use Rattle.bern_form.proofs.HalfSigns.{all_five}
 use Rattle.axis_cells.specs.Exclusion.{squared}
 use Rattle.wanted_marks.specs.Limits.{IsNoWider, IsWithinLimits, all_not_below_zero, not_below_zero}
 use Rattle.wanted_marks.proofs.Exceeding.{not_less}
+use Rattle.wanted_marks.proofs.Stepping.{same5}
 
 -- a number against itself or 0, whichever is more
 pub at_least_itself : (z : ℤ) → z ≤ℤ not_below_zero z
@@ -97,3 +98,33 @@ pub all_within : (S : ℕ) (most : ℤ) (n limits : List ℤ) (slabs : List Slab
 all_within S most n limits slabs e h =
     subst (λ z. All (IsWithinLimits z n S) slabs) (sym e)
     (All-weaker (IsNoWider most) (IsWithinLimits (all_not_below_zero (squared (pos S) most n)) n S) (λ s no_wider. within_limits S most n s no_wider) slabs h)
+
+-- the limits as multiples of what n raised to degree 4 has above 0
+natural_stays : (z : ℤ) → pos 0 ≤ℤ z → not_below_zero z ≡ z
+natural_stays z h = cond_both (int_lt z (pos 0)) (pos 0) z (λ x. x ≡ z) (λ below. let l = (decides_lt z (pos 0)).0 below in absurd (omega (arith, ints, h, l))) (λ above. refl)
+
+none_of_less : (z : ℤ) → z ≤ℤ pos 0 → not_below_zero z ≡ pos 0
+none_of_less z h = cond_both (int_lt z (pos 0)) (pos 0) z (λ x. x ≡ pos 0) (λ below. refl) (λ above. let l = not_less z (pos 0) above in omega (arith, ints, h, l))
+
+natural_times : (m k : ℕ) → pos 0 ≤ℤ (pos m *ℤ pos k)
+natural_times m k = omega (arith, ints)
+
+less_times : (m k : ℕ) → (pos m *ℤ negsuc k) ≤ℤ pos 0
+less_times m k = omega (arith, ints)
+
+times_none : (m : ℕ) → pos m *ℤ pos 0 ≡ pos 0
+times_none m = omega (arith, ints)
+
+clamped_times : (m : ℕ) (z : ℤ) → pos m *ℤ not_below_zero z ≡ not_below_zero (pos m *ℤ z)
+clamped_times m (pos k) = ap (λ x. pos m *ℤ x) (natural_stays (pos k) (omega (arith, ints))) ∙ sym (natural_stays (pos m *ℤ pos k) (natural_times m k))
+clamped_times m (negsuc k) = ap (λ x. pos m *ℤ x) (none_of_less (negsuc k) (omega (arith, ints))) ∙ times_none m ∙ sym (none_of_less (pos m *ℤ negsuc k) (less_times m k))
+
+limit_is : (S : ℕ) (d : ℤ) (n : List ℤ) (k : ℕ) → k < 5 → pos 0 ≤ℤ d → scaled_square S d *ℤ not_below_zero (at (lifted n) k) ≡ not_below_zero (at (squared (pos S) d n) k)
+limit_is S d n k l h =
+    let s = square_more S d d h (omega (arith, ints)) in
+    ap (λ x. x *ℤ not_below_zero (at (lifted n) k)) s.3 ∙ clamped_times s.0 (at (lifted n) k)
+    ∙ ap not_below_zero (ap (λ x. x *ℤ at (lifted n) k) (sym s.3) ∙ sym (raised_at (scaled_square S d) n k l))
+
+pub limits_are : (S : ℕ) (d : ℤ) (n : List ℤ) → pos 0 ≤ℤ d → scaled4 (scaled_square S d) (all_not_below_zero (lifted n)) ≡ all_not_below_zero (squared (pos S) d n)
+limits_are S d n h =
+    same5 _ _ _ _ _ _ _ _ _ _ (limit_is S d n 0 (omega arith) h) (limit_is S d n 1 (omega arith) h) (limit_is S d n 2 (omega arith) h) (limit_is S d n 3 (omega arith) h) (limit_is S d n 4 (omega arith) h)

@@ -14,18 +14,9 @@ spread_form by d n u v = scaled4 by (difference4 (product22 d n) (product22 u v)
 abbrev pub whole_width : Motion → List ℤ → ℕ → List ℤ
 whole_width m p S = spread_form (pos 4) (d_between m p 0 S S) (n_between m 0 S S) (u_between m p 0 S S) (u_between m p 0 S S)
 
--- a + b l, for three numbers, and for five
+-- a + b l, for three numbers
 abbrev pub moved3 : List ℤ → List ℤ → ℤ → List ℤ
 moved3 a b l = (at a 0 +ℤ l *ℤ at b 0) ∷ (at a 1 +ℤ l *ℤ at b 1) ∷ (at a 2 +ℤ l *ℤ at b 2) ∷ []
-
-abbrev pub moved5 : List ℤ → List ℤ → ℤ → List ℤ
-moved5 a b l =
-    (at a 0 +ℤ l *ℤ at b 0)
-    ∷ (at a 1 +ℤ l *ℤ at b 1)
-    ∷ (at a 2 +ℤ l *ℤ at b 2)
-    ∷ (at a 3 +ℤ l *ℤ at b 3)
-    ∷ (at a 4 +ℤ l *ℤ at b 4)
-    ∷ []
 
 -- a + b l + c l^2
 abbrev pub quadratic : ℤ → ℤ → ℤ → ℤ → ℤ

@@ -1,5 +1,6 @@
 ghost use Rattle.std.specs.Prelude.{◌≡◌, int_le};
 
+use axis_cells::Mark;
 use width_bisect::{Bounds, Sample};
 
 /// A point of a ray that an inner slab holds at its last sample: its index, that sample, and what the slab asks of a point there.
@@ -18,4 +19,11 @@ impl Held {
     {
         self.last.width <= other.bounds.width
     }
+}
+
+/// What is told of a point: its mark, and what is known of it where an inner slab holds it at its last sample.
+#[derive(Drop)]
+pub struct Told {
+    pub mark: Mark,
+    pub held: Option<Held>,
 }

@@ -6,6 +6,7 @@ mod hull;
 mod limits;
 mod line;
 mod long;
+mod moments;
 mod move_marker;
 mod narrow;
 mod near;

@@ -1,5 +1,5 @@
-ghost use Rattle.std.specs.Prelude.{◌≡◌, ◌*◌, ◌≤◌, ◌≤ℤ◌, ◌⊎◌, pos, All};
-ghost use Rattle.bern_form.specs.Forms.{IsSmall};
+ghost use Rattle.std.specs.Prelude.{◌≡◌, ◌*◌, ◌≤◌, ◌≤ℤ◌, ◌⊎◌, pos, unsigned_abs, All};
+ghost use Rattle.bern_form.specs.Forms.{IsSmall, lifted};
 ghost use Rattle.bern_form.specs.Sizes.{IsBounded2, axis_limit, scale_limit};
 ghost use Rattle.axis_cells.specs.Exclusion.{squared};
 ghost use Rattle.wanted_marks.specs.Limits.{IsNoWider, all_not_below_zero, not_below_zero};
@@ -64,5 +64,30 @@ pub fn limits_of(n: &Form2, scale: u32, diameter: i32) -> [i128; 5]
         not_below_zero(c),
         not_below_zero(d),
         not_below_zero(e),
+    ]
+}
+
+/// The number in 64 bits, or 0 where it is below.
+#[inline]
+fn narrow_not_below_zero(z: i128) -> i64
+    requires { unsigned_abs z ≤ 18 * (axis_limit * axis_limit) }
+    ensures { result ≡ not_below_zero z }
+{
+    if z < 0 { 0 } else { z as i64 }
+}
+
+/// The coefficients of n raised to degree 4, and 0 where one is below: what the square of a slab's scaled diameter is taken times in
+/// its limits. They fit 64 bits.
+pub fn raised_of(n: &Form2) -> [i64; 5]
+    requires { IsBounded2 (3 * (axis_limit * axis_limit)) n.now.c }
+    ensures { result ≡ all_not_below_zero (lifted n.now.c) }
+{
+    let [a, b, c, d, e] = lift24(n).c;
+    [
+        narrow_not_below_zero(a),
+        narrow_not_below_zero(b),
+        narrow_not_below_zero(c),
+        narrow_not_below_zero(d),
+        narrow_not_below_zero(e),
     ]
 }

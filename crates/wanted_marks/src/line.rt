@@ -4,7 +4,7 @@ ghost use mir.Syntax.{w128};
 ghost use Rattle.space.specs.Motion.{Motion};
 ghost use Rattle.space.specs.Ranges.{IsPoint, IsWithin};
 ghost use Rattle.space.specs.Vectors.{at};
-ghost use Rattle.bern_form.specs.Forms.{IsSmall, all_negative, all_positive, difference4};
+ghost use Rattle.bern_form.specs.Forms.{IsSmall, all_negative, all_positive, difference4, scaled4};
 ghost use Rattle.bern_form.specs.Sizes.{IsBounded2, axis_limit, offset_limit, scale_limit};
 ghost use Rattle.wanted_marks.specs.Ways.{scaled_way};
 ghost use Rattle.wanted_marks.specs.Starts.{IsStart};
@@ -19,6 +19,7 @@ use crate::start::Start;
 use crate::turn::Turn;
 use axis_cells::{Sweep, scalar_product_on_cell};
 use bern_form::{Form2, Form4, minus4, scale4, times22};
+use width_bisect::product;
 
 /// A multiple of d n - u v.
 pub fn spread_form(d: &Form2, n: &Form2, u: &Form2, v: &Form2, by: i128) -> Form4
@@ -133,6 +134,24 @@ impl Line {
         }
         for k in 0..4 {
             if !self.is_above(k, l, limits[k]) {
+                return false;
+            }
+        }
+        true
+    }
+
+    /// The same where each limit is a number taken times the factor, which is done for those alone that are looked at.
+    #[inline]
+    pub fn exceed_times(&self, l: u32, last: i128, factor: i64, limits: &[i64; 5]) -> bool
+        requires fits { FitsAt self.now (pos l) }
+        requires last { last ≡ at (width_at self.now (pos l)) 4 }
+        ensures { result ≡ all_positive (difference4 (width_at self.now (pos l)) (scaled4 factor limits.now)) }
+    {
+        if last <= product(factor, limits[4]) {
+            return false;
+        }
+        for k in 0..4 {
+            if !self.is_above(k, l, product(factor, limits[k])) {
                 return false;
             }
         }

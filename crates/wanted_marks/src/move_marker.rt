@@ -16,7 +16,7 @@ use cutter_slabs::Stacks;
 use ray_grid::{Family, Grid, Ray};
 use ray_runs::{OpenStretch, Run, open_stretch, sure_run};
 use std::marker::Model;
-use width_bisect::{Asked, Sample, WholeForms, mark_by_forms, mark_on_part};
+use width_bisect::{Asked, Sample, WholeForms, mark_by_forms, mark_on_part, scaled_square};
 
 /// A move of a cutter, ready to mark points of rays. It keeps what is the same for all of them: how the axis turns, and the
 /// limits beyond which a point is beside every outer slab throughout the move.
@@ -44,7 +44,7 @@ impl<'a> Model for MoveMarker<'a> {
 }
 
 impl<'a> MoveMarker<'a> {
-    ghost use Rattle.std.specs.Prelude.{◌≡◌, ◌^◌, ◌<◌, ◌≤◌, ◌-◌, ℕ, ℤ, List, pos, IsTrue, All};
+    ghost use Rattle.std.specs.Prelude.{◌≡◌, ◌^◌, ◌<◌, ◌≤◌, ◌-◌, ◌≤ℤ◌, ℕ, ℤ, List, pos, true, IsTrue, All};
     ghost use Rattle.std.specs.Option.{IfSome, MatchOption};
     ghost use Rattle.space.specs.Ranges.{IsPoint};
     ghost use Rattle.ray_grid.specs.Families.{first_axis};
@@ -56,7 +56,8 @@ impl<'a> MoveMarker<'a> {
     ghost use Rattle.wanted_marks.specs.Nears.{IsNear};
     ghost use Rattle.wanted_marks.specs.Opens.{IsOpenAt};
     ghost use Rattle.wanted_marks.specs.Rays.{IsClearOf, IsRemovedBy, RayOf, is_possible_in, is_sure_in, move_of};
-    ghost use Rattle.wanted_marks.specs.Runs.{IsHeldAt, IsHeldIn, IsRun};
+    ghost use Rattle.width_bisect.specs.Bounds.{meets};
+    ghost use Rattle.wanted_marks.specs.Runs.{IsHeldAt, IsRun};
     ghost use Rattle.wanted_marks.specs.declared.line.Line.{Line};
     ghost use Rattle.wanted_marks.specs.Strips.{IsSheetOf};
     ghost use Rattle.wanted_marks.specs.Told.{tells_possible, tells_sure};
@@ -321,8 +322,8 @@ impl<'a> MoveMarker<'a> {
         if reached == 0 {
             return true;
         }
-        let limits = limits_of(&self.turn.n, self.scale, diameter_of(&outer[reached - 1]));
-        line.exceed(l, last.width, &limits)
+        let factor = scaled_square(self.scale, diameter_of(&outer[reached - 1]));
+        line.exceed_times(l, last.width, factor, &self.turn.raised)
     }
 
     /// Whether the points from the one l steps on to the one m steps on are all behind the tip throughout the move, or all beside
@@ -368,6 +369,8 @@ impl<'a> MoveMarker<'a> {
         requires last { IsAtLast last.now self.now }
         requires near { IsNear near.old self.now }
         ensures near { IsNear near.new self.now }
+        ensures ahead { IsTrue result → pos 0 ≤ℤ last.now.u }
+        ensures met { IsTrue result → meets near.new.bounds last.now.u last.now.width ≡ true }
         ensures held { IsTrue result → (p : List ℤ) → IsLastOf last.now self.now p → IsRemovedBy self.now p }
     {
         // A move is valid by its type, which is known where a field of it is seen.
@@ -392,28 +395,6 @@ impl<'a> MoveMarker<'a> {
             width: line.first_width(l),
         };
         first.is_held(self.stacks.inner(), near)
-    }
-
-    /// The point l steps on along a line, where what is kept of the slab that was looked for last holds it at its last sample.
-    #[inline]
-    pub(crate) fn held_at(&self, line: &Line, l: u32, near: &Near) -> Option<Held>
-        requires fits { FitsAt line.now (pos l) }
-        requires near { IsNear near.now self.now }
-        ensures index { IfSome result (λ held. held.index ≡ l) }
-        ensures held { (p : List ℤ) → HasFormsIn line.now (pos l) self.now p → IfSome result (λ held. IsHeldIn held self.now p) }
-    {
-        let sample = self.last_sample(line, l);
-        if sample.u < 0 {
-            return None;
-        }
-        if !near.bounds.holds(&sample) {
-            return None;
-        }
-        Some(Held {
-            index: l,
-            last: sample,
-            bounds: near.bounds,
-        })
     }
 
     /// Whether the points of a ray from one that is held at its last sample to another are all sure: each is no farther from the axis

@@ -12,12 +12,13 @@ pub struct Near {
 }
 
 impl Near {
-    /// Where none was looked for yet. The first point looks from the last slab down, the tallest of most stacks.
+    /// Where none was looked for yet. The first point looks from a low slab on, for most points that are met stand near the tip, but not
+    /// right at it.
     pub fn nowhere() -> Near
         ensures { (v : MoveOf) → IsNear result v }
     {
         Near {
-            reached: usize::MAX,
+            reached: 6,
             bounds: Bounds::nowhere(),
         }
     }

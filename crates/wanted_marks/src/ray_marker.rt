@@ -1,4 +1,4 @@
-use crate::held::Held;
+use crate::held::{Held, Told};
 use crate::line::Line;
 use crate::move_marker::MoveMarker;
 use crate::near::Near;
@@ -10,7 +10,7 @@ use ray_grid::{Grid, Ray};
 use ray_runs::OpenStretch;
 use std::marker::Model;
 use vf_spans::bits::{highest_bit, lowest_bit};
-use width_bisect::Asked;
+use width_bisect::{Asked, Sample};
 
 /// A move of a cutter, ready to mark points of one ray.
 #[derive(Drop)]
@@ -33,11 +33,12 @@ impl<'a> Model for RayMarker<'a> {
 }
 
 impl<'a> RayMarker<'a> {
-    ghost use Rattle.std.specs.Prelude.{◌≡◌, ℕ, ◌+◌, ◌-◌, ◌<◌, ◌≤◌, ◌&&◌, not, nat_eq, true, false, IsTrue};
+    ghost use Rattle.std.specs.Prelude.{◌≡◌, ℕ, ◌+◌, ◌-◌, ◌<◌, ◌≤◌, ◌&&◌, pos, not, nat_eq, true, false, IsTrue};
+    ghost use Rattle.space.specs.Vectors.{at};
     ghost use Rattle.std.specs.Option.{IfSome, MatchOption};
     ghost use Rattle.ray_grid.specs.Lattice.{IsRay, point_of, points_of};
     ghost use Rattle.vf_spans.specs.Words.{has_bit};
-    ghost use Rattle.wanted_marks.specs.Lines.{IsLineOf};
+    ghost use Rattle.wanted_marks.specs.Lines.{IsLineOf, height_at, width_at};
     ghost use Rattle.wanted_marks.specs.Nears.{IsNear};
     ghost use Rattle.wanted_marks.specs.Opens.{AreOpenAt, IsOpenAt};
     ghost use Rattle.wanted_marks.specs.Parts.{AreAmong, AreFrom, FollowsFrom};
@@ -103,58 +104,80 @@ impl<'a> RayMarker<'a> {
         self.are_apart(first + lowest_bit(bits), first + highest_bit(bits))
     }
 
+    /// The mark of the point at an index, which its last sample doesn't tell, by the line through the points. `near` is the number of
+    /// a slab to look from. It stands by itself, for most points are told before.
+    #[inline(never)]
+    fn mark_further(&self, line: &Line, l: u32, last: &Sample, near: usize, asked: Asked) -> Mark
+        requires within { l < points_of self.now.grid self.now.ray.family }
+        requires line { IsLineOf line.now self.now }
+        requires u { last.now.u ≡ height_at line.now 2 (pos l) }
+        requires width { last.now.width ≡ at (width_at line.now (pos l)) 4 }
+        ensures sure { tells_sure result ≡ is_sure_at self.now l }
+        ensures possible { asked ≡ Asked.Whole → tells_possible result ≡ is_possible_at self.now l }
+    {
+        if self.mover.is_outside(line, l, last, near) {
+            return Mark::Clear;
+        }
+        if self.mover.is_held_first(line, l, near) {
+            return Mark::Removed;
+        }
+        let point = self.grid.point(&self.ray, l);
+        self.mover.mark_on(line, l, point, near, asked)
+    }
+
     /// What is asked of the point at an index, by the line through the points. `near` is the slab that was looked for last, in
     /// whose place comes that at the point's height, where it is looked for.
-    fn mark_along(&self, line: &Line, l: u32, near: &mut Near, asked: Asked) -> Mark
+    #[inline]
+    fn mark_along(&self, line: &Line, l: u32, near: &mut Near, asked: Asked) -> Told
         requires within { l < points_of self.now.grid self.now.ray.family }
         requires line { IsLineOf line.now self.now }
         requires near { IsNear near.old self.now.sweep }
         ensures near { IsNear near.new self.now.sweep }
-        ensures sure { tells_sure result ≡ is_sure_at self.now l }
-        ensures possible { asked ≡ Asked.Whole → tells_possible result ≡ is_possible_at self.now l }
+        ensures sure { tells_sure result.mark ≡ is_sure_at self.now l }
+        ensures possible { asked ≡ Asked.Whole → tells_possible result.mark ≡ is_possible_at self.now l }
+        ensures index { IfSome result.held (λ held. held.index ≡ l) }
+        ensures held { IfSome result.held (λ held. IsHeldAt held self.now) }
     {
         let last = self.mover.last_sample(line, l);
         if self.mover.is_apart(line, l, &last) {
-            return Mark::Clear;
+            return Told {
+                mark: Mark::Clear,
+                held: None,
+            };
         }
         if self.mover.is_held_last(&last, near) {
-            return Mark::Removed;
+            return Told {
+                mark: Mark::Removed,
+                held: Some(Held {
+                    index: l,
+                    last,
+                    bounds: near.bounds,
+                }),
+            };
         }
-        if self.mover.is_outside(line, l, &last, near.reached) {
-            return Mark::Clear;
+        Told {
+            mark: self.mark_further(line, l, &last, near.reached, asked),
+            held: None,
         }
-        if self.mover.is_held_first(line, l, near.reached) {
-            return Mark::Removed;
-        }
-        let point = self.grid.point(&self.ray, l);
-        self.mover.mark_on(line, l, point, near.reached, asked)
     }
 
     /// What is asked of the point at an index.
-    fn mark_at(&self, l: u32, near: &mut Near, asked: Asked) -> Mark
+    #[inline]
+    fn mark_at(&self, l: u32, near: &mut Near, asked: Asked) -> Told
         requires within { l < points_of self.now.grid self.now.ray.family }
         requires near { IsNear near.old self.now.sweep }
         ensures near { IsNear near.new self.now.sweep }
-        ensures sure { tells_sure result ≡ is_sure_at self.now l }
-        ensures possible { asked ≡ Asked.Whole → tells_possible result ≡ is_possible_at self.now l }
+        ensures sure { tells_sure result.mark ≡ is_sure_at self.now l }
+        ensures possible { asked ≡ Asked.Whole → tells_possible result.mark ≡ is_possible_at self.now l }
+        ensures index { IfSome result.held (λ held. held.index ≡ l) }
+        ensures held { IfSome result.held (λ held. IsHeldAt held self.now) }
     {
         match &self.line {
-            None => self.mover.mark_point(self.grid.point(&self.ray, l)),
+            None => Told {
+                mark: self.mover.mark_point(self.grid.point(&self.ray, l)),
+                held: None,
+            },
             Some(line) => self.mark_along(line, l, near, asked),
-        }
-    }
-
-    /// The point at an index, where what is kept of the slab that was looked for last holds it at its last sample.
-    #[inline]
-    fn held_at(&self, l: u32, near: &Near) -> Option<Held>
-        requires within { l < points_of self.now.grid self.now.ray.family }
-        requires near { IsNear near.now self.now.sweep }
-        ensures index { IfSome result (λ held. held.index ≡ l) }
-        ensures held { IfSome result (λ held. IsHeldAt held self.now) }
-    {
-        match &self.line {
-            None => None,
-            Some(line) => self.mover.held_at(line, l, near),
         }
     }
 
@@ -172,6 +195,7 @@ impl<'a> RayMarker<'a> {
     }
 
     /// Marks one of the points that are left. Where it is held at its last sample, it is given as that.
+    #[inline(always)]
     fn mark_one(
         &self,
         first: u32,
@@ -193,12 +217,9 @@ impl<'a> RayMarker<'a> {
     {
         // The points are few by the type, which is known where a field is seen.
         let _few = &self.ray;
-        let mark = self.mark_at(first + b, near, asked_at(sure_only, b));
-        *part = part.with_mark(b, mark);
-        match mark {
-            Mark::Removed => self.held_at(first + b, near),
-            _ => None,
-        }
+        let told = self.mark_at(first + b, near, asked_at(sure_only, b));
+        *part = part.with_mark(b, told.mark);
+        told.held
     }
 
     /// Marks the points that are left from the lowest upwards, as far as the first that is held at its last sample.

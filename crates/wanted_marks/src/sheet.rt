@@ -4,11 +4,11 @@ ghost use Rattle.bern_form.specs.Forms.{IsSmall};
 ghost use Rattle.bern_form.specs.Sizes.{scale_limit};
 ghost use Rattle.wanted_marks.specs.Lines.{FitsAt, heights_at, width_at};
 ghost use Rattle.wanted_marks.specs.Sheets.{FitsOn, IsLineOn, IsSheetThrough};
-ghost use Rattle.wanted_marks.specs.Widths.{IsTurn, moved3, moved5};
+ghost use Rattle.wanted_marks.specs.Widths.{IsTurn, moved3};
 
-use crate::line::{Line, quadratic, spread_form, wrapped};
+use crate::line::{Line, quadratic, wrapped};
+use crate::moments::Moments;
 use crate::scaled::scaled_way;
-use crate::start::Start;
 use crate::turn::Turn;
 use axis_cells::{Sweep, scalar_product_on_cell};
 use bern_form::{Form2, Form4};
@@ -31,24 +31,6 @@ fn moved2(a: &Form2, b: &Form2, l: u32) -> Form2
     let [b0, b1, b2] = b.c;
     Form2 {
         c: [linear(a0, b0, l), linear(a1, b1, l), linear(a2, b2, l)],
-    }
-}
-
-/// The same for degree 4.
-fn moved4(a: &Form4, b: &Form4, l: u32) -> Form4
-    requires { All IsSmall (moved5 a.now.c b.now.c (pos l)) }
-    ensures { result.c ≡ moved5 a.now.c b.now.c (pos l) }
-{
-    let [a0, a1, a2, a3, a4] = a.c;
-    let [b0, b1, b2, b3, b4] = b.c;
-    Form4 {
-        c: [
-            linear(a0, b0, l),
-            linear(a1, b1, l),
-            linear(a2, b2, l),
-            linear(a3, b3, l),
-            linear(a4, b4, l),
-        ],
     }
 }
 
@@ -79,13 +61,18 @@ pub fn width_on(line: &Line, l: u32) -> Form4
     }
 }
 
-/// The forms of the points of rays side by side on a whole move: the line of the first ray, the line through the first points of
-/// the rays, and what the product of both counts of steps is taken times in the width form.
+/// The forms of the points of rays side by side on a whole move: the moment of the first point of the first ray, and what it grows by
+/// from point to point of a ray and from ray to ray; u likewise; and what the square of the steps along a ray is taken times in the
+/// width form, which is the same for all rays.
 #[derive(Drop)]
 pub struct Sheet {
-    pub along: Line,
-    pub across: Line,
-    pub mixed: Form4,
+    pub start: Moments,
+    pub step: Moments,
+    pub side: Moments,
+    pub second: Form4,
+    pub height: Form2,
+    pub height_step: Form2,
+    pub height_side: Form2,
 }
 
 impl Sheet {
@@ -105,31 +92,34 @@ impl Sheet {
         requires scale { scale ≤ scale_limit }
         ensures { IsSheetThrough result sweep.now start.now next.now beside.now scale }
     {
-        let step = scaled_way(scale, start, next);
-        let side = scaled_way(scale, start, beside);
-        let from = Start::of_point(start, sweep, turn, scale);
-        let along = Line::from_start(&from, &step, turn);
-        let across = Line::from_start(&from, &side, turn);
-        let both = scalar_product_on_cell(&side, &side, &step, &step);
-        let mixed = spread_form(&both, &turn.n, &across.height_step, &along.height_step, 8);
+        let from = scaled_way(scale, &sweep.from, start);
+        let to = scaled_way(scale, &sweep.to, start);
+        let way = scaled_way(scale, start, next);
+        let across = scaled_way(scale, start, beside);
+        let step = Moments::between(&way, &way, &turn.first, &turn.last);
         Sheet {
-            along,
-            across,
-            mixed,
+            start: Moments::between(&from, &to, &turn.first, &turn.last),
+            second: step.product(&step, 4),
+            step,
+            side: Moments::between(&across, &across, &turn.first, &turn.last),
+            height: scalar_product_on_cell(&from, &to, &turn.first, &turn.last),
+            height_step: scalar_product_on_cell(&way, &way, &turn.first, &turn.last),
+            height_side: scalar_product_on_cell(&across, &across, &turn.first, &turn.last),
         }
     }
 
-    /// The line of ray j.
+    /// The line of ray j. Four times the scalar product of a moment with itself is the width form.
     pub fn line(&self, j: u32) -> Line
         requires { FitsOn self.now (pos j) }
         ensures { IsLineOn result self.now (pos j) }
     {
+        let moments = self.start.moved(&self.side, j);
         Line {
-            constant: width_on(&self.across, j),
-            first: moved4(&self.along.first, &self.mixed, j),
-            second: self.along.second,
-            height: moved2(&self.across.height, &self.across.height_step, j),
-            height_step: self.along.height_step,
+            constant: moments.product(&moments, 4),
+            first: moments.product(&self.step, 8),
+            second: self.second,
+            height: moved2(&self.height, &self.height_side, j),
+            height_step: self.height_step,
         }
     }
 }

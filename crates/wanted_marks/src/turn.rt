@@ -1,27 +1,32 @@
 ghost use Rattle.std.specs.Prelude.{◌≡◌, ◌*◌, ◌≤◌};
 ghost use Rattle.space.specs.Ranges.{IsWithin};
 ghost use Rattle.space.specs.Vectors.{at};
+ghost use Rattle.bern_form.specs.Forms.{lifted};
 ghost use Rattle.bern_form.specs.Sizes.{IsBounded2, axis_limit, scale_limit};
+ghost use Rattle.wanted_marks.specs.Limits.{all_not_below_zero};
 ghost use Rattle.wanted_marks.specs.Peaks.{IsLeast};
 ghost use Rattle.wanted_marks.specs.Widths.{IsTurn};
 
+use crate::limits::raised_of;
 use crate::peak::least_of;
 use crate::scaled::scaled_axis;
 use axis_cells::{Sweep, scalar_product_on_cell};
 use bern_form::Form2;
 
-/// How the axis turns on a move: the axis at both ends, times the scale, n, the square of its length between them, and the least
-/// that a point's height is compared with.
+/// How the axis turns on a move: the axis at both ends, times the scale, n, the square of its length between them, the least
+/// that a point's height is compared with, and n raised to degree 4 for a slab's limits.
 #[derive(Drop)]
 pub struct Turn {
     pub first: [i64; 3],
     pub last: [i64; 3],
     pub n: Form2,
     pub least: i64,
+    pub raised: [i64; 5],
     ghost first_within: { IsWithin axis_limit first },
     ghost last_within: { IsWithin axis_limit last },
     ghost n_small: { IsBounded2 (3 * (axis_limit * axis_limit)) n.c },
     ghost least_is: { IsLeast least n.c },
+    ghost raised_is: { raised ≡ all_not_below_zero (lifted n.c) },
 }
 
 impl Turn {
@@ -33,11 +38,13 @@ impl Turn {
         let last = scaled_axis(scale, &sweep.axis_to);
         let n = scalar_product_on_cell(&first, &last, &first, &last);
         let least = least_of(&n);
+        let raised = raised_of(&n);
         Turn {
             first,
             last,
             n,
             least,
+            raised,
         }
     }
 

@@ -2,7 +2,8 @@ use Rattle.std.proofs.Common.{◌≡◌, pos, FitsSigned, arith, rules, ap, ap�
 use Rattle.std.proofs.lemmas.Int.{to_z-of_z}
 use mir.Syntax.{w32, w64, w128}
 use Rattle.bern_form.specs.Between.{n_between}
-use Rattle.bern_form.specs.Forms.{all_positive, difference4}
+use Rattle.bern_form.specs.Cells.{scaled_square}
+use Rattle.bern_form.specs.Forms.{all_positive, difference4, scaled4}
 use Rattle.axis_cells.specs.Exclusion.{squared}
 use Rattle.cutter_slabs.specs.Stacks.{outer_stack}
 use Rattle.wanted_marks.specs.Limits.{all_not_below_zero}
@@ -12,6 +13,7 @@ use Rattle.wanted_marks.specs.Rays.{MoveOf}
 use Rattle.wanted_marks.specs.Ready.{IsReadyMove}
 use Rattle.wanted_marks.proofs.Outside.{asked_slab, outside_by}
 use Rattle.wanted_marks.proofs.Running.{nth}
+use Rattle.wanted_marks.proofs.Widest.{limits_are}
 use Rattle.wanted_marks.proofs.move_marker.MoveMarker.is_outside.Goals as goal
 
 pub returns-then-reached-eq0 : goal.returns-then-reached-eq0
@@ -32,7 +34,10 @@ returns c = λ yes p forms.
     let f : FitsSigned w128 c.peak.result = search rules in let g : FitsSigned w64 s.turn.least = search rules in
     let stack = c.outer-outer.ensures.stack ∙ ap (λ (y : MoveOf). outer_stack y.cutter y.slabs) c.self.view_is in
     let fits : FitsSigned w32 d = search rules in
-    let limits : c.limits_of-limits.result ≡ all_not_below_zero (squared (pos s.scale) d n) = simp to_z-of_z at c.limits_of-limits.ensures.value in
+    let square : FitsSigned w64 c.scaled_square-factor.result = search rules in
+    let factor : c.scaled_square-factor.result ≡ scaled_square s.scale d = simp to_z-of_z at c.scaled_square-factor.ensures in
+    let limits : scaled4 c.scaled_square-factor.result s.turn.raised ≡ all_not_below_zero (squared (pos s.scale) d n) =
+    ap₂ scaled4 factor s.turn.raised_is ∙ limits_are s.scale d n c.diameter_of.ensures.not_negative in
     outside_by v p s.scale c.reached-reached.result outer (heights_at line l) n W c.peak.result s.turn.least stack ready.scale_is forms.height
     (ready.turn.n_is ∙ ap (λ k. n_between v.motion 0 k k) ready.scale_is) forms.width (ready.both p) ready.outer_rising c.peak.ensures s.turn.least_is
     record {
@@ -41,6 +46,6 @@ returns c = λ yes p forms.
           let at = asked_slab outer c.reached-reached.result i x e c.reached-reached.ensures.within c.index-outer-reached.is in (
             at.0,
             ap (λ z. all_positive (difference4 W (all_not_below_zero (squared (pos s.scale) z n)))) (ap (λ z. z.dia) at.1 ∙ sym c.diameter_of.ensures.value)
-                ∙ ap (λ z. all_positive (difference4 W z)) (sym limits) ∙ sym c.exceed.ensures ∙ yes,
+                ∙ ap (λ z. all_positive (difference4 W z)) (sym limits) ∙ sym (simp to_z-of_z at c.exceed_times.ensures) ∙ yes,
           );
     }

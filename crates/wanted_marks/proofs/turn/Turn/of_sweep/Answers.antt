@@ -15,6 +15,12 @@ least_of-least-requires c =
     subst (IsBounded2 (3 * (axis_limit * axis_limit))) (sym c.scalar_product_on_cell-n.ensures)
     (cross_bounded first.result last.result first.result last.result axis_limit axis_limit first.ensures.small last.ensures.small first.ensures.small last.ensures.small)
 
+pub raised_of-raised-requires : goal.raised_of-raised-requires
+raised_of-raised-requires c =
+    let first = c.scaled_axis-first in let last = c.scaled_axis-last in
+    subst (IsBounded2 (3 * (axis_limit * axis_limit))) (sym c.scalar_product_on_cell-n.ensures)
+    (cross_bounded first.result last.result first.result last.result axis_limit axis_limit first.ensures.small last.ensures.small first.ensures.small last.ensures.small)
+
 pub invariant_of-result : goal.invariant_of-result
 invariant_of-result c =
     let first = c.scaled_axis-first in let last = c.scaled_axis-last in
@@ -24,6 +30,7 @@ invariant_of-result c =
       n_small = subst (IsBounded2 (3 * (axis_limit * axis_limit))) (sym c.scalar_product_on_cell-n.ensures)
           (cross_bounded first.result last.result first.result last.result axis_limit axis_limit first.ensures.small last.ensures.small first.ensures.small last.ensures.small);
       least_is = let f : FitsSigned w64 c.least_of-least.result = search rules in subst (λ z. IsLeast z c.scalar_product_on_cell-n.result.c) (sym (to_z-of_z w64 c.least_of-least.result f)) c.least_of-least.ensures;
+      raised_is = c.raised_of-raised.ensures;
     }
 
 pub returns : goal.returns
