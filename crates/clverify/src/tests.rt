@@ -1,5 +1,3 @@
-ghost use Rattle.std.specs.Prelude.{ℕ, List};
-
 mod crews;
 mod faults;
 mod points;
@@ -11,10 +9,12 @@ use crate::status::Status;
 use crate::top::run;
 use std::alloc::Global;
 use std::sync::Wait;
+use std::sync::atomic::AtomicBool;
+use std::sync::atomic::Ordering::SeqCst;
 use std::test::Fail;
 use std::thread::Threads;
-use vf_io::{MemShelf, MemSink, Shelf};
-use worker_gate::{Gate, Open};
+use vf_io::{CutShelf, MemSink};
+use worker_gate::Gate;
 
 /// The usage line.
 const USAGE: &str =
@@ -48,31 +48,76 @@ fn answer_over<R: Threads + Wait + Sync>(
     failing_reads: &[u64],
     failing_writes: &[u64],
 ) -> Result<(Status, Vec<u8>), Fail> {
-    let mut shelf = MemShelf::new(
+    let shelf = CutShelf::new(
         owned_files(alloc, named)?,
         Vec::from_slice(alloc, failing_reads)?,
+        u32::MAX,
     );
-    answer_by(rt, alloc, words, &mut shelf, failing_writes, &Open)
+    answer_by(rt, alloc, words, shelf, failing_writes, &Door::open())
 }
 
-/// The same over a shelf, with workers that go through a gate.
-fn answer_by<R: Threads + Wait + Sync, S: Shelf, G: Gate + Sync>(
+/// The same over a shelf, with workers that go through a gate. The shelf and the gate have one type in all tests, since the program is
+/// built anew for each.
+fn answer_by<R: Threads + Wait + Sync>(
     rt: &R,
     alloc: Global,
     words: &[&str],
-    shelf: &mut S,
+    mut shelf: CutShelf,
     failing_writes: &[u64],
-    gate: &G,
-) -> Result<(Status, Vec<u8>), Fail>
-    requires { (name : List ℕ) → S.allows shelf.old name }
-{
+    gate: &Door,
+) -> Result<(Status, Vec<u8>), Fail> {
     let words = owned_words(alloc, words)?;
     let Ok(mut sink) = MemSink::new(alloc, 20_000_000, Vec::from_slice(alloc, failing_writes)?)
     else {
         return Err(Fail::from("no memory for the sink"));
     };
-    let status = run(rt, alloc, &words, shelf, &mut sink, gate);
+    let status = run(rt, alloc, &words, &mut shelf, &mut sink, gate);
     Ok((status, Vec::from_slice(alloc, sink.written())?))
+}
+
+/// How often the first ticket looks for the ninth.
+const LOOKS: u32 = 100_000_000;
+
+/// A gate that lets everyone through at once, or else holds the first ticket until the ninth was entered.
+#[derive(Drop)]
+struct Door {
+    holds: bool,
+    came: AtomicBool,
+    seen: AtomicBool,
+}
+
+impl Gate for Door {
+    fn enter(&self, _strip: u32, ticket: u64) {
+        if ticket == 8 {
+            self.came.store(true, SeqCst);
+        }
+        if ticket == 0 && self.holds {
+            self.wait();
+        }
+    }
+}
+
+impl Door {
+    fn open() -> Door {
+        Door::new(false)
+    }
+
+    fn new(holds: bool) -> Door {
+        Door {
+            holds,
+            came: AtomicBool::new(false),
+            seen: AtomicBool::new(false),
+        }
+    }
+
+    fn wait(&self) {
+        for _ in 0..LOOKS {
+            if self.came.load(SeqCst) {
+                self.seen.store(true, SeqCst);
+                return;
+            }
+        }
+    }
 }
 
 /// Words as they are handed over.

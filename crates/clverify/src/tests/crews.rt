@@ -1,43 +1,9 @@
-use super::{answer_by, answer_over, owned_files, stock_with};
+use super::{Door, answer_by, answer_over, owned_files, stock_with};
 use crate::status::Status;
 use std::alloc::Global;
-use std::sync::atomic::AtomicBool;
 use std::sync::atomic::Ordering::SeqCst;
 use std::test::Fail;
-use vf_io::MemShelf;
-use worker_gate::Gate;
-
-/// How often the first ticket looks for the ninth.
-const LOOKS: u32 = 100_000_000;
-
-/// A gate that holds the first ticket until the ninth was entered, which is the last that has work.
-#[derive(Drop)]
-struct Held {
-    came: AtomicBool,
-    seen: AtomicBool,
-}
-
-impl Gate for Held {
-    fn enter(&self, _strip: u32, ticket: u64) {
-        if ticket == 8 {
-            self.came.store(true, SeqCst);
-        }
-        if ticket == 0 {
-            self.wait();
-        }
-    }
-}
-
-impl Held {
-    fn wait(&self) {
-        for _ in 0..LOOKS {
-            if self.came.load(SeqCst) {
-                self.seen.store(true, SeqCst);
-                return;
-            }
-        }
-    }
-}
+use vf_io::CutShelf;
 
 /// A cutter that stands still for twenty moves.
 fn standing(alloc: Global) -> Result<String, Fail> {
@@ -82,13 +48,10 @@ fn run_gate(rt: HostRuntime) -> Result<(), Fail> {
     let program = standing(alloc)?;
     let setup = stock_with(alloc, "[3, 3, 2]", "[1, 1, 1]")?;
     let files = [("H", program.as_bytes()), ("S", setup.as_bytes())];
-    let mut shelf = MemShelf::new(owned_files(alloc, &files)?, Vec::new(alloc));
-    let gate = Held {
-        came: AtomicBool::new(false),
-        seen: AtomicBool::new(false),
-    };
+    let shelf = CutShelf::new(owned_files(alloc, &files)?, Vec::new(alloc), u32::MAX);
+    let gate = Door::new(true);
     let words = ["verify", "H", "S", "--workers", "16"];
-    let (status, written) = answer_by(&rt, alloc, &words, &mut shelf, &[], &gate)?;
+    let (status, written) = answer_by(&rt, alloc, &words, shelf, &[], &gate)?;
     assert!(rt;
         gate.seen.load(SeqCst),
         "the ninth ticket came while the first was held"

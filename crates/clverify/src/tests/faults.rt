@@ -1,8 +1,7 @@
-use super::{CLEAN, FLAT, STOCK, answer, answer_by, answer_over, owned_files};
+use super::{CLEAN, Door, FLAT, STOCK, answer, answer_by, answer_over, owned_files};
 use crate::status::Status;
 use std::test::Fail;
 use vf_io::CutShelf;
-use worker_gate::Open;
 
 /// A job in which nothing is found, and its words.
 const FILES: [(&str, &[u8]); 3] = [("A", FLAT), ("S", STOCK), ("F", b"run 1 1\nundo 3\n")];
@@ -13,8 +12,8 @@ const WORDS: &[&str] = &["verify", "A", "S"];
 fn reads_may_give_few_bytes(rt: HostRuntime) -> Result<(), Fail> {
     for piece in [1u32, 2, 7] {
         let files = owned_files(rt.alloc(), &FILES)?;
-        let mut shelf = CutShelf::new(files, Vec::new(rt.alloc()), piece.max(1));
-        let (status, written) = answer_by(&rt, rt.alloc(), WORDS, &mut shelf, &[], &Open)?;
+        let shelf = CutShelf::new(files, Vec::new(rt.alloc()), piece.max(1));
+        let (status, written) = answer_by(&rt, rt.alloc(), WORDS, shelf, &[], &Door::open())?;
         assert_eq!(rt; status, Status::Clean, "by pieces of {piece}");
         assert_eq!(rt;
             written.as_slice(),
