@@ -15,3 +15,4 @@ pub mod Ready
 pub mod ReadyRay
 pub mod Strips
 pub mod Opens
+pub mod StretchEnds

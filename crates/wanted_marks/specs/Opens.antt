@@ -15,5 +15,7 @@ pub record IsOpenAt (s : OpenStretch) (v : MoveOf) (p : List ℤ) : Type 0 where
   pub late : IsOutWithin (outer_stack v.cutter v.slabs) v.motion p (s.first + 2 ^ s.levels) (2 ^ v.depth) (2 ^ v.depth)
 
 -- for each point of these bits
-abbrev pub AreOpenAt : OpenStretch → RayOf → ℕ → ℕ → Type 0
-AreOpenAt s r first bits = (b : ℕ) → b < 64 → has_bit bits b ≡ true → IsOpenAt s r.sweep (point_of r.grid r.ray (first + b))
+pub record AreOpenAt (s : OpenStretch) (r : RayOf) (first bits : ℕ) : Type 0 where
+  pub few : s.levels ≤ 10
+  pub within : s.first + 2 ^ s.levels ≤ 2 ^ r.sweep.depth
+  pub each : (b : ℕ) → b < 64 → has_bit bits b ≡ true → IsOpenAt s r.sweep (point_of r.grid r.ray (first + b))

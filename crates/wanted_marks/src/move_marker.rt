@@ -4,7 +4,7 @@ use crate::limits::{diameter_of, greatest_diameter, limits_of};
 use crate::line::Line;
 use crate::long::is_long;
 use crate::near::Near;
-use crate::on_stretch::forms_on;
+use crate::on_stretch::Ends;
 use crate::peak::Peak;
 use crate::ray_marker::RayMarker;
 use crate::sheet::{Sheet, heights_on, width_on};
@@ -44,7 +44,7 @@ impl<'a> Model for MoveMarker<'a> {
 }
 
 impl<'a> MoveMarker<'a> {
-    ghost use Rattle.std.specs.Prelude.{◌≡◌, ◌^◌, ◌<◌, ◌≤◌, ◌-◌, ◌≤ℤ◌, ℕ, ℤ, List, pos, true, IsTrue, All};
+    ghost use Rattle.std.specs.Prelude.{◌≡◌, ◌+◌, ◌^◌, ◌<◌, ◌≤◌, ◌-◌, ◌≤ℤ◌, ℕ, ℤ, List, pos, true, IsTrue, All};
     ghost use Rattle.std.specs.Option.{IfSome, MatchOption};
     ghost use Rattle.space.specs.Ranges.{IsPoint};
     ghost use Rattle.ray_grid.specs.Families.{first_axis};
@@ -55,6 +55,7 @@ impl<'a> MoveMarker<'a> {
     ghost use Rattle.wanted_marks.specs.Lines.{FitsAt, HasFormsIn, IsLineOf, bend_over, height_at, width_at};
     ghost use Rattle.wanted_marks.specs.Nears.{IsNear};
     ghost use Rattle.wanted_marks.specs.Opens.{IsOpenAt};
+    ghost use Rattle.wanted_marks.specs.StretchEnds.{AreEndsOn};
     ghost use Rattle.wanted_marks.specs.Rays.{IsClearOf, IsRemovedBy, RayOf, is_possible_in, is_sure_in, move_of};
     ghost use Rattle.width_bisect.specs.Bounds.{meets};
     ghost use Rattle.wanted_marks.specs.Runs.{IsHeldAt, IsRun};
@@ -150,6 +151,15 @@ impl<'a> MoveMarker<'a> {
         stretch.levels <= self.depth.saturating_sub(2)
     }
 
+    /// Where the origin stands at both ends of a stretch.
+    pub(crate) fn ends_of(&self, stretch: &OpenStretch) -> Ends
+        requires few { stretch.now.levels ≤ 10 }
+        requires within { stretch.now.first + 2 ^ stretch.now.levels ≤ 2 ^ self.now.depth }
+        ensures { AreEndsOn result stretch.now self.now }
+    {
+        Ends::of(self.sweep, stretch, self.scale)
+    }
+
     /// What is asked of a point by its forms on the stretch outside of which it is clear. `near` is the number of a slab to look from, in
     /// whose place comes that of the slab at the point's height, where it is looked for.
     #[inline]
@@ -157,15 +167,17 @@ impl<'a> MoveMarker<'a> {
         &self,
         point: [i32; 3],
         stretch: &OpenStretch,
+        ends: &Ends,
         near: &mut usize,
         asked: Asked,
     ) -> Mark
         requires point { IsPoint point }
         requires open { IsOpenAt stretch.now self.now point }
+        requires ends { AreEndsOn ends.now stretch.now self.now }
         ensures sure { tells_sure result ≡ is_sure_in self.now point }
         ensures possible { asked ≡ Asked.Whole → tells_possible result ≡ is_possible_in self.now point }
     {
-        let forms = forms_on(self.sweep, &point, stretch, self.scale);
+        let forms = ends.forms(self.sweep, &point, stretch, self.scale);
         mark_on_part(
             self.sweep,
             self.stacks,

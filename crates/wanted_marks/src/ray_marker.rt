@@ -2,6 +2,7 @@ use crate::held::{Held, Told};
 use crate::line::Line;
 use crate::move_marker::MoveMarker;
 use crate::near::Near;
+use crate::on_stretch::Ends;
 use crate::part::Part;
 use crate::sides::{Sides, is_few};
 use crate::word::{WordMarks, asked_at, bits_between, bits_without, chosen_bits};
@@ -45,6 +46,7 @@ impl<'a> RayMarker<'a> {
     ghost use Rattle.wanted_marks.specs.Rays.{AreOnRay, IsClearOf, IsRemovedBy};
     ghost use Rattle.wanted_marks.specs.Runs.{IsHeldAt, IsRun};
     ghost use Rattle.wanted_marks.specs.Rays.{is_possible_at, is_possible_bit, is_sure_at, is_sure_bit, is_told_bit};
+    ghost use Rattle.wanted_marks.specs.StretchEnds.{AreEndsOn};
     ghost use Rattle.wanted_marks.specs.Told.{tells_possible, tells_sure};
 
     pub(crate) fn new(mover: &'a MoveMarker<'a>, grid: &'a Grid, ray: Ray) -> RayMarker<'a>
@@ -354,14 +356,22 @@ impl<'a> RayMarker<'a> {
 
     /// What is asked of the point at an index, by its forms on the stretch outside of which it is clear.
     #[inline]
-    fn mark_on_stretch(&self, stretch: &OpenStretch, l: u32, near: &mut usize, asked: Asked) -> Mark
+    fn mark_on_stretch(
+        &self,
+        stretch: &OpenStretch,
+        ends: &Ends,
+        l: u32,
+        near: &mut usize,
+        asked: Asked,
+    ) -> Mark
         requires within { l < points_of self.now.grid self.now.ray.family }
+        requires ends { AreEndsOn ends.now stretch.now self.now.sweep }
         requires open { IsOpenAt stretch.now self.now.sweep (point_of self.now.grid self.now.ray l) }
         ensures sure { tells_sure result ≡ is_sure_at self.now l }
         ensures possible { asked ≡ Asked.Whole → tells_possible result ≡ is_possible_at self.now l }
     {
         self.mover
-            .mark_on_stretch(self.grid.point(&self.ray, l), stretch, near, asked)
+            .mark_on_stretch(self.grid.point(&self.ray, l), stretch, ends, near, asked)
     }
 
     /// Which of the wanted points are sure, and which of those that are not in `sure_only` are possible, each by its forms on the
@@ -375,11 +385,13 @@ impl<'a> RayMarker<'a> {
     {
         // The points are few by the type, which is known where a field is seen.
         let _few = &self.ray;
+        let ends = self.mover.ends_of(stretch);
         let mut near = 0;
         let mut part = Part::of_word(wanted);
         while part.rest != 0 {
             let b = lowest_bit(part.rest);
-            let mark = self.mark_on_stretch(stretch, first + b, &mut near, asked_at(sure_only, b));
+            let asked = asked_at(sure_only, b);
+            let mark = self.mark_on_stretch(stretch, &ends, first + b, &mut near, asked);
             part = part.with_mark(b, mark);
         }
         part.marks

@@ -10,8 +10,8 @@ use Rattle.wanted_marks.proofs.move_marker.MoveMarker.mark_on_stretch.Goals as g
 
 pub mark_on_part-requires-clause-part : goal.mark_on_part-requires-clause-part
 mark_on_part-requires-clause-part c =
-    let s = c.self.inside in let v = move_of s.stacks.now s.sweep.now s.depth in let f = c.forms_on-forms.result in let x = c.args.stretch.now in
-    part_of x v c.args.point f.u.c f.n.c f.width.c s.scale c.self.invariant.scale_is (subst (λ (w : MoveOf). IsOpenAt x w c.args.point) (sym c.self.view_is) c.requires.open) c.forms_on-forms.ensures
+    let s = c.self.inside in let v = move_of s.stacks.now s.sweep.now s.depth in let f = c.forms-forms.result in let x = c.args.stretch.now in
+    part_of x v c.args.point f.u.c f.n.c f.width.c s.scale c.self.invariant.scale_is (subst (λ (w : MoveOf). IsOpenAt x w c.args.point) (sym c.self.view_is) c.requires.open) c.forms-forms.ensures
 
 pub returns-clause-sure : goal.returns-clause-sure
 returns-clause-sure c =

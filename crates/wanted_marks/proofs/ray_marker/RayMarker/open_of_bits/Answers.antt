@@ -15,4 +15,4 @@ pub returns : goal.returns
 returns c =
     let a = c.args in let s = c.self.inside in let found = c.open_stretch.result in
     subst (λ (r : RayOf). MatchOption found ((b : ℕ) → b < 64 → has_bit a.bits b ≡ true → IsClearOf r.sweep (point_of r.grid r.ray (a.first + b))) (λ x. AreOpenAt x r a.first a.bits)) c.self.view_is
-    (bits_open found record { sweep = s.mover.now; grid = s.grid.now; ray = s.ray } a.first a.bits c.lowest_bit.result c.highest_bit.result c.lowest_bit.ensures.lowest c.highest_bit.ensures.highest c.open_stretch.ensures)
+    (bits_open found record { sweep = s.mover.now; grid = s.grid.now; ray = s.ray } a.first a.bits c.lowest_bit.result c.highest_bit.result c.lowest_bit.ensures.within c.lowest_bit.ensures.set c.lowest_bit.ensures.lowest c.highest_bit.ensures.highest c.open_stretch.ensures)
