@@ -26,7 +26,11 @@ pub fn wanted_in(ray: &WordRay, word: u32, window: (u32, u32)) -> u64
     requires to { 64 * word < window.1 }
     ensures { (b : ℕ) → b < 64 → has_bit result b ≡ (is_wanted_at ray.now.sets (64 * word + b) && in_range (64 * word + b) window) }
 {
-    ray.wanted(word) & bits_of_range(word, window.0, window.1)
+    let wanted = ray.wanted(word);
+    if wanted == 0 {
+        return 0;
+    }
+    wanted & bits_of_range(word, window.0, window.1)
 }
 
 /// The points of a word of ray n that a move is asked about: those wanted ones in its window that its cylinder holds.
