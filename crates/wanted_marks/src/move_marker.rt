@@ -145,10 +145,10 @@ impl<'a> MoveMarker<'a> {
         open_stretch(self.sweep, self.stacks, self.depth, grid, ray, from, to)
     }
 
-    /// Whether a stretch is no longer than a quarter of the move, so that it pays to mark each point on it alone.
+    /// Whether a stretch is no longer than half of the move, so that it pays to mark each point on it alone.
     #[inline]
     pub(crate) fn is_short(&self, stretch: &OpenStretch) -> bool {
-        stretch.levels <= self.depth.saturating_sub(2)
+        stretch.levels <= self.depth.saturating_sub(1)
     }
 
     /// Where the origin stands at both ends of a stretch.
