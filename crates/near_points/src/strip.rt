@@ -29,7 +29,8 @@ impl<'a> Model for NearStrip<'a> {
 
     ghost view = { λ s. record { cylinder = s.cylinder.now; grid = s.grid.now; family = s.family; i = s.i } };
 
-    ghost invariant = { λ s. IsReadyStrip s.start s.across s.step s.hold record { cylinder = s.cylinder.now; grid = s.grid.now; family = s.family; i = s.i } };
+    ghost invariant = { λ s. IsReadyStrip s.start s.across s.step s.hold
+        record { cylinder = s.cylinder.now; grid = s.grid.now; family = s.family; i = s.i } };
 }
 
 impl<'a> NearStrip<'a> {

@@ -39,7 +39,8 @@ AppliesNone hulls family i Redo = ⊥
 
 -- an edit applies a move whose box, one of these, has only points that another box has
 abbrev pub IsAppliedIn : List IndexBox → IndexBox → Edit → Type 0
-IsAppliedIn hulls group (Apply number) = (d : IndexBox) (ray : Ray) (l : ℕ) → HasPoint (slice_index_or hulls number d) ray l → HasPoint group ray l
+IsAppliedIn hulls group (Apply number) =
+    (d : IndexBox) (ray : Ray) (l : ℕ) → HasPoint (slice_index_or hulls number d) ray l → HasPoint group ray l
 IsAppliedIn hulls group Undo = ⊥
 IsAppliedIn hulls group Redo = ⊥
 

@@ -26,7 +26,8 @@ AreSteps x m v S = AreMoments x v v (axis_at m (pos 0) (pos S)) (axis_at m (pos 
 
 -- the sheet begins at the point s; along a line it goes on by the step v, from a line to the next by the step t
 pub record IsSheet (sheet : Sheet) (m : Motion) (s v t : List ℤ) (S : ℕ) : Type 0 where
-  pub start : AreMoments sheet.start (offset_at m s (pos 0) (pos S)) (offset_at m s (pos S) (pos S)) (axis_at m (pos 0) (pos S)) (axis_at m (pos S) (pos S))
+  pub start : AreMoments sheet.start (offset_at m s (pos 0) (pos S)) (offset_at m s (pos S) (pos S))
+      (axis_at m (pos 0) (pos S)) (axis_at m (pos S) (pos S))
   pub step : AreSteps sheet.step m v S
   pub side : AreSteps sheet.side m t S
   pub second_is : sheet.second.c ≡ spread_form (pos 4) (dot_on_cell v v v v) (n_between m 0 S S) (u_step m v S) (u_step m v S)
@@ -52,10 +53,13 @@ end_at sheet j = moved3 sheet.start.end sheet.side.end j
 -- four times its scalar product with itself, and eight times that with the moment of the step along the lines
 abbrev pub own_product : Sheet → ℤ → List ℤ
 own_product sheet j =
-    scaled4 (pos 4) (vector_product (start_at sheet j) (middle_at sheet j) (end_at sheet j) (start_at sheet j) (middle_at sheet j) (end_at sheet j))
+    scaled4 (pos 4) (vector_product (start_at sheet j) (middle_at sheet j) (end_at sheet j)
+    (start_at sheet j) (middle_at sheet j) (end_at sheet j))
 
 abbrev pub step_product : Sheet → ℤ → List ℤ
-step_product sheet j = scaled4 (pos 8) (vector_product (start_at sheet j) (middle_at sheet j) (end_at sheet j) sheet.step.start sheet.step.middle sheet.step.end)
+step_product sheet j =
+    scaled4 (pos 8) (vector_product (start_at sheet j) (middle_at sheet j) (end_at sheet j)
+    sheet.step.start sheet.step.middle sheet.step.end)
 
 -- what differs from line to line of a sheet fits, at line j
 pub record FitsOn (sheet : Sheet) (j : ℤ) : Type 0 where
