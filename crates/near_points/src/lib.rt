@@ -9,6 +9,3 @@ mod step;
 mod strip;
 
 pub use strip::NearStrip;
-
-#[cfg(test)]
-mod tests;

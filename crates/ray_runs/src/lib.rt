@@ -14,6 +14,3 @@ mod slab_at;
 pub use clear::{OpenStretch, open_stretch};
 pub use forms::{PointForms, forms_between};
 pub use run::{Run, sure_run};
-
-#[cfg(test)]
-mod tests;

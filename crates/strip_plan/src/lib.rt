@@ -15,6 +15,3 @@ mod windows;
 
 pub use plan::Plan;
 pub use plan_move::PlanMove;
-
-#[cfg(test)]
-mod tests;

@@ -16,6 +16,3 @@ mod view;
 pub use board::{Board, Pass};
 pub use turn::Turned;
 pub use view::{Card, Entry, Held, Key, Met, View};
-
-#[cfg(test)]
-mod tests;

@@ -10,6 +10,3 @@ pub use asking::state_at;
 pub use playing::play;
 pub use step::Step;
 pub use turning::{raise, turn_strip};
-
-#[cfg(test)]
-mod tests;

@@ -28,6 +28,3 @@ pub use ray_marker::RayMarker;
 pub use sets::mark_wanted;
 pub use strip_marker::StripMarker;
 pub use word::WordMarks;
-
-#[cfg(test)]
-mod tests;

@@ -9,6 +9,3 @@ mod worker;
 
 pub use gate::{Gate, Open};
 pub use team::crew;
-
-#[cfg(test)]
-mod tests;

@@ -1,0 +1,73 @@
+ghost use Rattle.std.specs.Prelude.{◌*◌, ◌≤◌, ◌^◌, ◌≤ℤ◌, pos, unsigned_abs};
+ghost use Rattle.space.specs.Ranges.{IsWithin};
+ghost use Rattle.sweep_boxes.specs.Limits.{side_limit};
+
+use near_points::NearStrip;
+use ray_grid::{Family, Grid, Ray};
+use sweep_boxes::BoundingCylinder;
+use vf_spans::bits::lowest_bits;
+
+/// A lattice of 8 mm by 8 mm by 2 mm with nodes at each millimetre and points at each half of one.
+const GRID: Grid = Grid {
+    origin: [0, 0, 0],
+    pitch: 1_000,
+    step: 500,
+    counts: [8, 8, 2],
+};
+
+/// A cylinder about an axis through the point (2 mm, 1 mm, 0), at the scale 2.
+fn cylinder(axis: [i64; 3], least: i64, most: i64, moment: i64) -> BoundingCylinder
+    requires axis { IsWithin side_limit axis }
+    requires some { pos 0 ≤ℤ moment }
+    requires small { unsigned_abs moment ≤ 3 * 10 ^ 18 }
+{
+    BoundingCylinder {
+        scale: 2,
+        tip: [4_000, 2_000, 0],
+        axis,
+        least,
+        most,
+        moment,
+    }
+}
+
+/// The points of a ray that are held, where the lattice has the ray and its points are one word.
+fn held(cylinder: &BoundingCylinder, family: Family, i: u32, j: u32) -> Option<u64> {
+    let grid = GRID;
+    let points = grid.points(family);
+    if points > 64 || !grid.has_point(&Ray { family, i, j }, 0) {
+        return None;
+    }
+    let strip = NearStrip::new(cylinder, &grid, family, i);
+    Some(strip.near(j, 0, lowest_bits(points)))
+}
+
+/// Upright: a point at the distance r from the axis has a moment of 4 r, and one at the height z a height of 4 z.
+#[test]
+fn an_upright_cylinder(rt: HostRuntime) {
+    let wide = cylinder([0, 0, 2], 0, 4_000, 4_000);
+    // From 1 mm to 3 mm along x, the points on the border included.
+    assert_eq!(rt; held(&wide, Family::X, 1, 0), Some(0b111_1100));
+    assert_eq!(rt; held(&wide, Family::X, 1, 1), Some(0b111_1100));
+    assert_eq!(rt; held(&wide, Family::X, 2, 0), Some(0b001_0000));
+    assert_eq!(rt; held(&wide, Family::X, 3, 0), Some(0));
+    assert_eq!(rt; held(&wide, Family::Y, 2, 0), Some(0b001_1111));
+    assert_eq!(rt; held(&wide, Family::Y, 3, 0), Some(0b000_0100));
+    assert_eq!(rt; held(&wide, Family::Y, 4, 0), Some(0));
+    assert_eq!(rt; held(&wide, Family::Z, 2, 1), Some(0b111));
+    assert_eq!(rt; held(&wide, Family::Z, 4, 1), Some(0));
+    // A little less wide and less high.
+    let narrow = cylinder([0, 0, 2], 0, 3_999, 3_999);
+    assert_eq!(rt; held(&narrow, Family::X, 1, 0), Some(0b011_1000));
+    assert_eq!(rt; held(&narrow, Family::X, 1, 1), Some(0));
+    assert_eq!(rt; held(&narrow, Family::X, 2, 0), Some(0));
+    assert_eq!(rt; held(&narrow, Family::Z, 2, 1), Some(0b011));
+}
+
+/// Half way between x and z: on the ray along x at the height z, the moment is 4 |x - 2 mm - z|, and the height 4 (x - 2 mm + z).
+#[test]
+fn a_tilted_cylinder(rt: HostRuntime) {
+    let tilted = cylinder([2, 0, 2], -2_000, 4_000, 4_000);
+    assert_eq!(rt; held(&tilted, Family::X, 1, 0), Some(0b111_1000));
+    assert_eq!(rt; held(&tilted, Family::X, 1, 1), Some(0b001_0000));
+}

@@ -1,0 +1,7 @@
+//! Tries of what marks points: cylinders, runs, words of a ray, and plans.
+#![tactic(auto)]
+
+mod cylinders;
+mod plans;
+mod runs;
+mod words;

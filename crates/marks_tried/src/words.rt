@@ -1,0 +1,91 @@
+use axis_cells::{Mark, Sweep};
+use box_bisect::mark_point_uncounted;
+use cutter_slabs::{Cutter, Stacks};
+use ray_grid::{Family, Grid, Ray};
+use std::process::Abort;
+use std::test::Fail;
+use vf_spans::bits::{has_bit, lowest_bits};
+use wanted_marks::{MoveMarker, WordMarks};
+
+/// A lattice of 20 mm by 10 mm by 16 mm with nodes at each second millimetre and points at each half of one.
+const GRID: Grid = Grid {
+    origin: [0, 0, 0],
+    pitch: 2_000,
+    step: 500,
+    counts: [10, 5, 8],
+};
+
+/// The depth of the samples and cells.
+const DEPTH: u32 = 4;
+
+/// The marks of all points of a ray, where the lattice has it and its points are one word.
+fn marks_of<'x>(mover: &'x MoveMarker<'x>, grid: &'x Grid, ray: Ray) -> Option<WordMarks> {
+    let points = grid.points(ray.family);
+    if points > 64 || !grid.has_point(&ray, 0) {
+        return None;
+    }
+    let marker = mover.on_ray(grid, ray);
+    Some(marker.mark(0, lowest_bits(points), 0))
+}
+
+/// Whether the marks tell of a point what the plain body does, which asks that point alone.
+fn is_plain(
+    sweep: &Sweep,
+    stacks: &Stacks,
+    grid: &Grid,
+    ray: &Ray,
+    l: u32,
+    marks: &WordMarks,
+) -> bool {
+    if l >= 64 || !grid.has_point(ray, l) {
+        return true;
+    }
+    let plain = mark_point_uncounted(sweep, stacks, grid.point(ray, l), DEPTH);
+    has_bit(marks.sure, l) == (plain == Mark::Removed)
+        && has_bit(marks.possible, l) == (plain != Mark::Clear)
+}
+
+/// A ball of 10 mm, upright, that ends at (10 mm, 4 mm, 0). In 8 slabs its corner has bounds at 0.156, 0.625, 1.406 mm and so on. A
+/// ray 4 mm from its axis is within it from 0.835 mm on: its points from 1.5 mm on are in inner slabs from the third one to the one
+/// above the corner, that at 1 mm is in the outer slab that is wide enough from there on, and that at 0.5 mm is outside of its own.
+/// At the height of 2 mm the inner slab goes 5.113 mm from the axis, and the outer one 6.614 mm.
+#[test]
+fn rays_by_a_ball(rt: HostRuntime) -> Result<(), Fail> {
+    let ball = Cutter {
+        d: 20_000,
+        r: 10_000,
+        h: 30_000,
+        flank: 0,
+    };
+    let sweep = Sweep {
+        from: [0, 4_000, 0],
+        to: [10_000, 4_000, 0],
+        axis_from: [0, 0, 100_000],
+        axis_to: [0, 0, 100_000],
+    };
+    let grid = GRID;
+    let stacks = Stacks::new(rt.alloc(), ball, 8)?;
+    let mover = MoveMarker::new(&sweep, &stacks, DEPTH);
+    let table = [
+        (Family::Z, 7, 2, 0xffff_fff8, 0xffff_fffc),
+        (Family::Z, 5, 4, 0xffff_fff8, 0xffff_fffc),
+        (Family::X, 2, 1, 0x7fff_ffff, 0x3_ffff_ffff),
+    ];
+    for (family, i, j, sure, possible) in table {
+        let ray = Ray { family, i, j };
+        match marks_of(&mover, &grid, ray) {
+            None => assert_eq!(rt; i, 99, "a ray of the lattice"),
+            Some(marks) => {
+                assert_eq!(rt; marks.sure, sure, "sure points of ray {i} {j}");
+                assert_eq!(rt; marks.possible, possible, "possible points of ray {i} {j}");
+                for l in 0..64 {
+                    assert!(rt;
+                        is_plain(&sweep, &stacks, &grid, &ray, l, &marks),
+                        "point {l} of ray {i} {j}"
+                    );
+                }
+            }
+        }
+    }
+    Ok(())
+}

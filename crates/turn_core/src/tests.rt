@@ -1,4 +1,0 @@
-mod long_ray;
-mod orders;
-mod passing;
-mod views;

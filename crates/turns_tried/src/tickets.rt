@@ -1,0 +1,135 @@
+ghost use Rattle.std.specs.Prelude.{◌≡◌, All, IfOk, Some, length, true};
+ghost use Rattle.ray_grid.specs.Strips.{strips_of};
+ghost use Rattle.edit_plan.specs.Queries.{IsQuery};
+ghost use Rattle.strip_turns.specs.Passes.{card, IsPass};
+ghost use Rattle.strip_turns.specs.Views.{fresh};
+
+use edit_plan::Query;
+use job_facts::Answer;
+use sample_job::{answers, edits, plan, queries, stock, strips};
+use std::alloc::Global;
+use std::sync::Wait;
+use std::test::Fail;
+use std::thread;
+use std::thread::Threads;
+use strip_turns::{Board, Pass, Turned};
+use vf_io::NoMemory;
+
+/// A board of the small job, with five edits for each of its nine strips, and its first pass.
+fn board(alloc: Global) -> Result<(Board, Pass), NoMemory>
+    ensures pass { IfOk result (λ b. IsPass b.0 b.1) }
+    ensures view { IfOk result (λ b. b.1.seat.me.0 ≡ fresh true 0 (Some (card b.0))) }
+    ensures strips { IfOk result (λ b. length (strips_of b.0.plan.grid) ≡ 9) }
+    ensures edits { IfOk result (λ b. length b.0.plan.edits ≡ 5) }
+{
+    let plan = plan(alloc, edits(alloc, 1)?)?;
+    let strips = strips(alloc, &plan, &stock(alloc)?)?;
+    Board::new(alloc, plan, strips)
+}
+
+/// Draws a hundred tickets, and does nothing else.
+fn hundred(board: &Board, pass: &mut Pass) -> [u64; 100]
+    requires pass { IsPass board.now pass.old }
+    requires none { pass.old.seat.me.0.drawn ≡ 0 }
+    ensures pass { IsPass board.now pass.new }
+    ensures view { let log = pass.new.seat.me.0.log in pass.new.seat.me.0 ≡ record pass.old.seat.me.0 { drawn = 100; log = log } }
+{
+    let mut tickets = [0; 100];
+    for k in 0..100 {
+        tickets[k] = board.claim(pass);
+    }
+    tickets
+}
+
+/// Two threads draw a hundred tickets each.
+fn drawn_by_two<R: Threads + Sync>(
+    rt: &R,
+    board: &Board,
+    one: &mut Pass,
+    two: &mut Pass,
+) -> ([u64; 100], [u64; 100])
+    requires one { IsPass board.now one.old }
+    requires two { IsPass board.now two.old }
+    requires none_by_one { one.old.seat.me.0.drawn ≡ 0 }
+    requires none_by_two { two.old.seat.me.0.drawn ≡ 0 }
+    ensures one { IsPass board.now one.new }
+    ensures two { IsPass board.now two.new }
+    ensures view_of_one { let log = one.new.seat.me.0.log in one.new.seat.me.0 ≡ record one.old.seat.me.0 { drawn = 100; log = log } }
+    ensures view_of_two { let log = two.new.seat.me.0.log in two.new.seat.me.0 ≡ record two.old.seat.me.0 { drawn = 100; log = log } }
+{
+    thread::join_mut(
+        rt,
+        &mut || -> [u64; 100]
+            requires { IsPass board.now one.now × (one.now.seat.me.0.drawn ≡ 0) }
+            ensures { IsPass board.entry.now one.exit.now × (one.exit.now.seat.me.0
+                ≡ record one.entry.now.seat.me.0 { drawn = 100; log = one.exit.now.seat.me.0.log }) }
+        { hundred(board, one) },
+        &mut || -> [u64; 100]
+            requires { IsPass board.now two.now × (two.now.seat.me.0.drawn ≡ 0) }
+            ensures { IsPass board.entry.now two.exit.now × (two.exit.now.seat.me.0
+                ≡ record two.entry.now.seat.me.0 { drawn = 100; log = two.exit.now.seat.me.0.log }) }
+        { hundred(board, two) },
+    )
+}
+
+/// Asks the queries in order.
+fn asked<R: Wait>(
+    rt: &R,
+    alloc: Global,
+    board: &Board,
+    pass: &mut Pass,
+    queries: &[Query],
+) -> Result<Vec<Answer>, NoMemory>
+    requires pass { IsPass board.now pass.old }
+    requires queries { All (IsQuery board.now.plan.grid (length board.now.plan.edits)) queries.now }
+    ensures pass { IsPass board.now pass.new }
+{
+    let mut answers = Vec::new(alloc);
+    for query in queries {
+        answers.push(board.ask(rt, pass, query)?)?;
+    }
+    Ok(answers)
+}
+
+/// The log of both has no bytes, so what `claim` gave is looked at in its place.
+#[test]
+fn tickets_of_two_threads(rt: HostRuntime) -> Result<(), Fail> {
+    let alloc = rt.alloc();
+    let (board, mut pass) = board(alloc)?;
+    let mut other = board.split(&mut pass);
+    let (one, two) = drawn_by_two(&rt, &board, &mut pass, &mut other);
+    board.merge(&mut pass, other);
+
+    let mut tickets = Vec::from_slice(alloc, one.as_slice())?;
+    tickets.extend_from_slice(two.as_slice())?;
+    tickets.sort()?;
+    assert_eq!(rt; tickets.len(), 200);
+    for (k, ticket) in tickets.iter().enumerate() {
+        assert_eq!(rt; *ticket, k as u64);
+    }
+    for strip in &board.close(alloc, pass)? {
+        assert_eq!(rt; strip.done(), 0);
+    }
+    Ok(())
+}
+
+/// Strip 0 is ahead of all queries but the last two, and the others come to each.
+#[test]
+fn what_one_pass_is_told(rt: HostRuntime) -> Result<(), Fail> {
+    let alloc = rt.alloc();
+    let (board, mut pass) = board(alloc)?;
+    let tickets = [
+        board.claim(&mut pass),
+        board.claim(&mut pass),
+        board.claim(&mut pass),
+    ];
+    assert_eq!(rt; tickets, [0, 1, 2]);
+    let there = Turned::Moved { from: 0, to: 5 };
+    assert_eq!(rt; board.turn(&mut pass, 0), there);
+
+    let queries = queries(alloc, board.plan())?;
+    let told = asked(&rt, alloc, &board, &mut pass, &queries)?;
+    assert_eq!(rt; told.as_slice(), answers().as_slice());
+    board.finish(&rt, &mut pass)?;
+    Ok(())
+}

@@ -1,3 +1,0 @@
-mod again;
-mod crews;
-mod meeting;
