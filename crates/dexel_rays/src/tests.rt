@@ -91,50 +91,52 @@ fn new_ray(alloc: Global) -> Result<Dexel, NoMemory>
     Ok(Dexel::new(alloc, stock, part, fixture))
 }
 
+/// Four moves, one after the other.
+const ROWS: [Row; 4] = [
+    Row {
+        what: "a cut",
+        rapid: false,
+        sure: 0b0000_0110,
+        possible: 0b0000_1110,
+        counts: [2, 3, 0, 1, 0, 0, 0, 0],
+        sure_after: 0b0000_0110,
+        possible_after: 0b0000_1110,
+    },
+    Row {
+        what: "a rapid move through what was possible",
+        rapid: true,
+        sure: 0b0000_1100,
+        possible: 0b1001_1100,
+        counts: [1, 1, 1, 2, 0, 1, 0, 2],
+        sure_after: 0b0000_1110,
+        possible_after: 0b1001_1110,
+    },
+    Row {
+        what: "a rapid move into the rest",
+        rapid: true,
+        sure: 0b1110_0000,
+        possible: 0b1111_0001,
+        counts: [2, 2, 0, 1, 1, 1, 2, 3],
+        sure_after: 0b1110_1110,
+        possible_after: 0b1111_1111,
+    },
+    Row {
+        what: "the first cut again",
+        rapid: false,
+        sure: 0b0000_0110,
+        possible: 0b0000_1110,
+        counts: [0, 0, 0, 1, 0, 0, 0, 0],
+        sure_after: 0b1110_1110,
+        possible_after: 0b1111_1111,
+    },
+];
+
 #[test]
 fn moves_on_one_ray(rt: HostRuntime) -> Result<(), Fail> {
-    let rows = [
-        Row {
-            what: "a cut",
-            rapid: false,
-            sure: 0b0000_0110,
-            possible: 0b0000_1110,
-            counts: [2, 3, 0, 1, 0, 0, 0, 0],
-            sure_after: 0b0000_0110,
-            possible_after: 0b0000_1110,
-        },
-        Row {
-            what: "a rapid move through what was possible",
-            rapid: true,
-            sure: 0b0000_1100,
-            possible: 0b1001_1100,
-            counts: [1, 1, 1, 2, 0, 1, 0, 2],
-            sure_after: 0b0000_1110,
-            possible_after: 0b1001_1110,
-        },
-        Row {
-            what: "a rapid move into the rest",
-            rapid: true,
-            sure: 0b1110_0000,
-            possible: 0b1111_0001,
-            counts: [2, 2, 0, 1, 1, 1, 2, 3],
-            sure_after: 0b1110_1110,
-            possible_after: 0b1111_1111,
-        },
-        Row {
-            what: "the first cut again",
-            rapid: false,
-            sure: 0b0000_0110,
-            possible: 0b0000_1110,
-            counts: [0, 0, 0, 1, 0, 0, 0, 0],
-            sure_after: 0b1110_1110,
-            possible_after: 0b1111_1111,
-        },
-    ];
     let mut ray = new_ray(rt.alloc())?;
     let mut sure_before = 0;
     let mut possible_before = 0;
-    for row in &rows {
+    for row in &ROWS {
         let what = row.what;
         let back = there_and_back(rt.alloc(), &ray, row)?;
         assert!(rt;

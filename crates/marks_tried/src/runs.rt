@@ -21,6 +21,16 @@ const MOVE: Sweep = Sweep {
     axis_to: [0, 0, 100_000],
 };
 
+/// Points of rays, by the node and from one to another, whether a run of them is found, and whether they are found to be clear.
+const ROWS: [(u32, u32, u32, bool, bool); 5] = [
+    (0, 0, 59, true, false),
+    (1, 0, 19, false, true),
+    // The ends are farther apart than the ray is off the axis, so that their test says nothing.
+    (1, 0, 59, false, false),
+    (2, 0, 59, false, true),
+    (3, 20, 59, false, true),
+];
+
 /// The points of a run and of clear words have these marks by themselves; a run is found on the ray along the way, and the ones beside
 /// it are clear.
 #[test]
@@ -34,15 +44,7 @@ fn runs_and_clear_words(rt: HostRuntime) -> Result<(), Fail> {
         flank: 0,
     };
     let stacks = Stacks::new(rt.alloc(), cutter, 16)?;
-    let rows = [
-        (0u32, 0u32, 59u32, true, false),
-        (1, 0, 19, false, true),
-        // The ends are farther apart than the ray is off the axis, so that their test says nothing.
-        (1, 0, 59, false, false),
-        (2, 0, 59, false, true),
-        (3, 20, 59, false, true),
-    ];
-    for (i, from, to, want_run, want_clear) in rows {
+    for (i, from, to, want_run, want_clear) in ROWS {
         assert!(rt; from <= to);
         let ray = Ray {
             family: Family::X,

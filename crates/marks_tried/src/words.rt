@@ -45,6 +45,13 @@ fn is_plain(
         && has_bit(marks.possible, l) == (plain != Mark::Clear)
 }
 
+/// Rays by the ball below, and which of their points are sure and possible.
+const WORDS: [(Family, u32, u32, u64, u64); 3] = [
+    (Family::Z, 7, 2, 0xffff_fff8, 0xffff_fffc),
+    (Family::Z, 5, 4, 0xffff_fff8, 0xffff_fffc),
+    (Family::X, 2, 1, 0x7fff_ffff, 0x3_ffff_ffff),
+];
+
 /// A ball of 10 mm, upright, that ends at (10 mm, 4 mm, 0). In 8 slabs its corner has bounds at 0.156, 0.625, 1.406 mm and so on. A
 /// ray 4 mm from its axis is within it from 0.835 mm on: its points from 1.5 mm on are in inner slabs from the third one to the one
 /// above the corner, that at 1 mm is in the outer slab that is wide enough from there on, and that at 0.5 mm is outside of its own.
@@ -66,12 +73,7 @@ fn rays_by_a_ball(rt: HostRuntime) -> Result<(), Fail> {
     let grid = GRID;
     let stacks = Stacks::new(rt.alloc(), ball, 8)?;
     let mover = MoveMarker::new(&sweep, &stacks, DEPTH);
-    let table = [
-        (Family::Z, 7, 2, 0xffff_fff8, 0xffff_fffc),
-        (Family::Z, 5, 4, 0xffff_fff8, 0xffff_fffc),
-        (Family::X, 2, 1, 0x7fff_ffff, 0x3_ffff_ffff),
-    ];
-    for (family, i, j, sure, possible) in table {
+    for (family, i, j, sure, possible) in WORDS {
         let ray = Ray { family, i, j };
         match marks_of(&mover, &grid, ray) {
             None => assert_eq!(rt; i, 99, "a ray of the lattice"),
