@@ -39,3 +39,4 @@ pub mod ToldNext
 pub mod Sent
 pub mod Unentered
 pub mod StoodBy
+pub mod RowTurned

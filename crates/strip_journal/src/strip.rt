@@ -12,6 +12,7 @@ ghost use Rattle.strip_journal.specs.Strips.{AddsFound, IsFoundAt, most_before};
 use crate::edit_line::EditLine;
 use crate::fresh::{fresh_rays, hold_grid};
 use crate::journal::Journal;
+use crate::rays::RayRow;
 use job_facts::{Counts, PointState, Totals};
 use ray_grid::Ray;
 use ray_shapes::RayShape;
@@ -77,6 +78,7 @@ impl Strip {
         let _edits = plan.edits();
         hold_grid(plan.grid());
         let (rays, of) = fresh_rays(alloc, plan.grid(), number, stock, part, fixture)?;
+        let row = RayRow::fresh(alloc, rays)?;
         let journal = Journal {
             number,
             done: 0,
@@ -88,7 +90,7 @@ impl Strip {
             part: Snapshot::of(&part.solid),
             fixture: Snapshot::of(&fixture.solid),
             of,
-            rays,
+            rays: row,
             changes: Vec::new(alloc),
             entries: Vec::new(alloc),
         };

@@ -1,4 +1,5 @@
 pub mod Marks
+pub mod Wanted
 pub mod Words
 pub mod RayMarks
 pub mod RowMarks
