@@ -13,6 +13,7 @@ mod slab_at;
 
 pub use clear::{OpenStretch, open_stretch};
 pub use forms::{PointForms, forms_between};
+pub use moments::Moments;
 pub use run::{Run, sure_run};
 
 #[cfg(test)]

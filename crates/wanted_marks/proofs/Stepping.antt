@@ -11,7 +11,7 @@ use Rattle.bern_form.specs.Forms.{scaled4}
 use Rattle.ray_runs.specs.Moments.{middle_moment, moment, moment_product, vector_product, vector_sum}
 use Rattle.ray_runs.proofs.Lagrange.{lagrange_at, less_squares}
 use Rattle.wanted_marks.specs.declared.line.Line.{Line}
-use Rattle.wanted_marks.specs.declared.moments.Moments.{Moments}
+use Rattle.ray_runs.specs.declared.moments.Moments.{Moments}
 use Rattle.wanted_marks.specs.declared.sheet.Sheet.{Sheet}
 use Rattle.wanted_marks.specs.Starts.{IsStart}
 use Rattle.wanted_marks.specs.Lines.{HasForms, IsThrough, d_step, u_step}

@@ -8,7 +8,7 @@ use Rattle.bern_form.specs.Forms.{IsSmall, scaled4}
 use Rattle.ray_runs.specs.Moments.{middle_moment, moment, vector_product}
 use Rattle.ray_runs.specs.Sizes.{turn_limit}
 use Rattle.wanted_marks.specs.declared.line.Line.{Line}
-use Rattle.wanted_marks.specs.declared.moments.Moments.{Moments}
+use Rattle.ray_runs.specs.declared.moments.Moments.{Moments}
 use Rattle.wanted_marks.specs.declared.sheet.Sheet.{Sheet}
 use Rattle.wanted_marks.specs.Lines.{u_step}
 use Rattle.wanted_marks.specs.Ways.{scaled_way}

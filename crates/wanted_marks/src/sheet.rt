@@ -7,11 +7,12 @@ ghost use Rattle.wanted_marks.specs.Sheets.{FitsOn, IsLineOn, IsSheetThrough};
 ghost use Rattle.wanted_marks.specs.Widths.{IsTurn, moved3};
 
 use crate::line::{Line, quadratic, wrapped};
-use crate::moments::Moments;
+use crate::moments::{moved, product};
 use crate::scaled::scaled_way;
 use crate::turn::Turn;
 use axis_cells::{Sweep, scalar_product_on_cell};
 use bern_form::{Form2, Form4};
+use ray_runs::Moments;
 
 /// a + b l. The parts may be larger than what fits: where the whole fits, what wrapped comes back.
 #[inline]
@@ -99,7 +100,7 @@ impl Sheet {
         let step = Moments::between(&way, &way, &turn.first, &turn.last);
         Sheet {
             start: Moments::between(&from, &to, &turn.first, &turn.last),
-            second: step.product(&step, 4),
+            second: product(&step, &step, 4),
             step,
             side: Moments::between(&across, &across, &turn.first, &turn.last),
             height: scalar_product_on_cell(&from, &to, &turn.first, &turn.last),
@@ -113,10 +114,10 @@ impl Sheet {
         requires { FitsOn self.now (pos j) }
         ensures { IsLineOn result self.now (pos j) }
     {
-        let moments = self.start.moved(&self.side, j);
+        let moments = moved(&self.start, &self.side, j);
         Line {
-            constant: moments.product(&moments, 4),
-            first: moments.product(&self.step, 8),
+            constant: product(&moments, &moments, 4),
+            first: product(&moments, &self.step, 8),
             second: self.second,
             height: moved2(&self.height, &self.height_side, j),
             height_step: self.height_step,

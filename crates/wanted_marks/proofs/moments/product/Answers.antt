@@ -4,7 +4,7 @@ use mir.Syntax.{w128}
 use Rattle.bern_form.specs.Forms.{scaled4}
 use Rattle.bern_form.proofs.Sizes.{small_as}
 use Rattle.wanted_marks.proofs.Stepping.{same5}
-use Rattle.wanted_marks.proofs.moments.Moments.product.Goals as goal
+use Rattle.wanted_marks.proofs.moments.product.Goals as goal
 
 pub scale4-requires : goal.scale4-requires
 scale4-requires c =
