@@ -1,11 +1,10 @@
-ghost use Rattle.std.specs.Prelude.{◌≡◌, ◌≤◌, pos, ◌+ℤ◌, ◌*ℤ◌, unsigned_abs, All};
+ghost use Rattle.std.specs.Prelude.{◌≡◌, ◌*◌, ◌≤◌, pos, ◌+ℤ◌, ◌*ℤ◌, unsigned_abs};
 ghost use Rattle.space.specs.Ranges.{IsWithin};
-ghost use Rattle.bern_form.specs.Forms.{IsSmall, scaled4};
+ghost use Rattle.bern_form.specs.Forms.{scaled4};
 ghost use Rattle.ray_runs.specs.Moments.{vector_product};
 ghost use Rattle.ray_runs.specs.Sizes.{turn_limit};
 ghost use Rattle.wanted_marks.specs.Widths.{moved3};
 
-use bern_form::{Form4, scale4};
 use ray_runs::Moments;
 
 /// A component of a coefficient, j steps on. The parts may be larger than what fits: where the whole fits, what wrapped comes back.
@@ -48,22 +47,26 @@ pub fn moved(x: &Moments, side: &Moments, j: u32) -> Moments
     }
 }
 
-/// A multiple of the scalar product of two moments.
+/// Eight times a coefficient of degree 4.
 #[inline]
-pub fn product(x: &Moments, y: &Moments, by: i128) -> Form4
-    requires { let x = x.now in let y = y.now in
-        All IsSmall (scaled4 by (vector_product x.start x.middle x.end y.start y.middle y.end)) }
-    ensures { let x = x.now in let y = y.now in
-        result.c ≡ scaled4 by (vector_product x.start x.middle x.end y.start y.middle y.end) }
+fn eight(x: i128) -> i128
+    requires { unsigned_abs x ≤ 9 * (turn_limit * turn_limit) }
+    ensures { result ≡ pos 8 *ℤ x }
 {
-    let product = Form4 {
-        c: [
-            x.times(y, 0),
-            x.times(y, 1),
-            x.times(y, 2),
-            x.times(y, 3),
-            x.times(y, 4),
-        ],
-    };
-    scale4(&product, by)
+    8 * x
+}
+
+/// Eight times the scalar product of two moments, of degree 4.
+#[inline]
+pub fn eight_products(x: &Moments, y: &Moments) -> [i128; 5]
+    ensures { let x = x.now in let y = y.now in
+        result ≡ scaled4 (pos 8) (vector_product x.start x.middle x.end y.start y.middle y.end) }
+{
+    [
+        eight(x.times(y, 0)),
+        eight(x.times(y, 1)),
+        eight(x.times(y, 2)),
+        eight(x.times(y, 3)),
+        eight(x.times(y, 4)),
+    ]
 }
