@@ -117,7 +117,7 @@ ray_fits sheet m o v S j ray sweep point few within =
           (spread_fits (pos 8) (d_step m o v S) (n_between m 0 S S) (u_between m o 0 S S) (u_step m v S)
           (cross_bounded P Q v v offset_limit offset_limit hP hQ within within) (cross_bounded A C A C axis_limit axis_limit hA hC hA hC) height
           (cross_bounded v v A C offset_limit axis_limit within within hA hC) (omega arith)).whole;
-      height = small_as ray.height (list2 (u_between m o 0 S S) (3 * (offset_limit * axis_limit)) (omega arith) height);
+      height = subst (IsBounded2 (3 * (offset_limit * axis_limit))) (sym ray.height) height;
     }
 
 four_times : (z : ℤ) → pos 0 ≤ℤ z → pos 0 ≤ℤ (pos 4 *ℤ z)

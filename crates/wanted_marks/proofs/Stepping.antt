@@ -187,7 +187,7 @@ start_is from to u width m p S A C n d turn ef et eu ed ew =
 -- a line by its parts
 pub through_is : (line : Line) (from to u width : List ℤ) (m : Motion) (p v : List ℤ) (S : ℕ) (A C n w f g : List ℤ) → IsStart from to u width m p S → IsTurn A C n m S
     → w ≡ dot_on_cell v v A C → f ≡ dot_on_cell from to v v → g ≡ dot_on_cell v v v v → line.constant.c ≡ width
-    → line.first.c ≡ spread_form (pos 8) f n u w → line.second.c ≡ spread_form (pos 4) g n w w → line.height.c ≡ u → line.height_step.c ≡ w → IsThrough line m p v S
+    → line.first.c ≡ spread_form (pos 8) f n u w → line.second.c ≡ spread_form (pos 4) g n w w → line.height ≡ u → line.height_step ≡ w → IsThrough line m p v S
 through_is line from to u width m p v S A C n w f g is turn ew ef eg e0 e1 e2 e3 e4 =
     let W : w ≡ u_step m v S = ew ∙ ap₂ (λ x y. dot_on_cell v v x y) turn.first_is turn.last_is in
     let F : f ≡ d_step m p v S = ef ∙ ap₂ (λ x y. dot_on_cell x y v v) is.from_is is.to_is in
@@ -267,7 +267,7 @@ pub record HasRay (sheet : Sheet) (m : Motion) (o v : List ℤ) (S : ℕ) (j : �
   pub end : end_at sheet j ≡ moment (offset_at m o (pos S) (pos S)) (axis_at m (pos S) (pos S))
   pub constant : own_product sheet j ≡ whole_width m o S
   pub first : first_at sheet j ≡ spread_form (pos 8) (d_step m o v S) (n_between m 0 S S) (u_between m o 0 S S) (u_step m v S)
-  pub height : moved3 sheet.height.c sheet.height_side.c j ≡ u_between m o 0 S S
+  pub height : moved3 sheet.height sheet.height_side j ≡ u_between m o 0 S S
 
 pub ray_is : (sheet : Sheet) (m : Motion) (start beside v o : List ℤ) (S : ℕ) (j : ℤ) → IsSheet sheet m start v (scaled_way (pos S) start beside) S → IsAlong start start beside o j → HasRay sheet m o v S j
 ray_is sheet m start beside v o S j is on =

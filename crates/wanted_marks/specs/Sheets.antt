@@ -1,10 +1,11 @@
 -- The forms of rays side by side on a whole move: lines whose first points lie on a line, and which all go on by the same step.
-use Rattle.std.specs.Prelude.{◌≡◌, ℕ, List, ℤ, pos, All}
+use Rattle.std.specs.Prelude.{◌≡◌, ℕ, ◌*◌, List, ℤ, pos, All}
 use Rattle.space.specs.Motion.{Motion, axis_at, offset_at}
 use Rattle.space.specs.Ranges.{IsWithin}
 use Rattle.bern_form.specs.Between.{n_between, u_between}
 use Rattle.bern_form.specs.Cells.{dot_on_cell}
 use Rattle.bern_form.specs.Forms.{IsSmall, scaled4}
+use Rattle.bern_form.specs.Sizes.{IsBounded2, axis_limit, offset_limit}
 use Rattle.ray_runs.specs.Moments.{middle_moment, moment, vector_product}
 use Rattle.ray_runs.specs.Sizes.{turn_limit}
 use Rattle.wanted_marks.specs.declared.line.Line.{Line}
@@ -32,9 +33,9 @@ pub record IsSheet (sheet : Sheet) (m : Motion) (s v t : List ℤ) (S : ℕ) : T
   pub first_is : sheet.first.c ≡ spread_form (pos 8) (d_step m s v S) (n_between m 0 S S) (u_between m s 0 S S) (u_step m v S)
   pub first_side_is : sheet.first_side.c ≡ spread_form (pos 8) (dot_on_cell t t v v) (n_between m 0 S S) (u_step m t S) (u_step m v S)
   pub second_is : sheet.second.c ≡ spread_form (pos 4) (dot_on_cell v v v v) (n_between m 0 S S) (u_step m v S) (u_step m v S)
-  pub height_is : sheet.height.c ≡ u_between m s 0 S S
-  pub height_step_is : sheet.height_step.c ≡ u_step m v S
-  pub height_side_is : sheet.height_side.c ≡ u_step m t S
+  pub height_is : sheet.height ≡ u_between m s 0 S S
+  pub height_step_is : sheet.height_step ≡ u_step m v S
+  pub height_side_is : sheet.height_side ≡ u_step m t S
 
 -- the sheet begins at the point `start`; a line goes on to `next`, and the next line begins at `beside`
 abbrev pub IsSheetThrough : Sheet → Motion → List ℤ → List ℤ → List ℤ → ℕ → Type 0
@@ -67,12 +68,12 @@ pub record FitsOn (sheet : Sheet) (j : ℤ) : Type 0 where
   pub middle : IsWithin turn_limit (middle_at sheet j)
   pub end : IsWithin turn_limit (end_at sheet j)
   pub first : All IsSmall (first_at sheet j)
-  pub height : All IsSmall (moved3 sheet.height.c sheet.height_side.c j)
+  pub height : IsBounded2 (3 * (offset_limit * axis_limit)) (moved3 sheet.height sheet.height_side j)
 
 -- line j of a sheet
 pub record IsLineOn (line : Line) (sheet : Sheet) (j : ℤ) : Type 0 where
   pub constant_is : line.constant.c ≡ own_product sheet j
   pub first_is : line.first.c ≡ first_at sheet j
   pub second_is : line.second.c ≡ sheet.second.c
-  pub height_is : line.height.c ≡ moved3 sheet.height.c sheet.height_side.c j
-  pub height_step_is : line.height_step.c ≡ sheet.height_step.c
+  pub height_is : line.height ≡ moved3 sheet.height sheet.height_side j
+  pub height_step_is : line.height_step ≡ sheet.height_step

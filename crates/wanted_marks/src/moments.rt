@@ -1,16 +1,17 @@
 ghost use Rattle.std.specs.Prelude.{◌≡◌, ◌*◌, ◌≤◌, pos, ◌+ℤ◌, ◌*ℤ◌, unsigned_abs};
 ghost use Rattle.space.specs.Ranges.{IsWithin};
 ghost use Rattle.bern_form.specs.Forms.{scaled4};
+ghost use Rattle.bern_form.specs.Sizes.{IsBounded2, axis_limit, offset_limit};
 ghost use Rattle.ray_runs.specs.Moments.{vector_product};
 ghost use Rattle.ray_runs.specs.Sizes.{turn_limit};
 ghost use Rattle.wanted_marks.specs.Widths.{moved3};
 
 use ray_runs::Moments;
 
-/// A component of a coefficient, j steps on. The parts may be larger than what fits: where the whole fits, what wrapped comes back.
+/// A component of a coefficient, or a coefficient of u, j steps on. The parts may be larger than what fits: where the whole fits, what wrapped comes back.
 #[inline]
-fn linear(a: i64, b: i64, j: u32) -> i64
-    requires { unsigned_abs (a +ℤ pos j *ℤ b) ≤ turn_limit }
+pub fn linear(a: i64, b: i64, j: u32) -> i64
+    requires { unsigned_abs (a +ℤ pos j *ℤ b) ≤ 2 * turn_limit }
     ensures { result ≡ a +ℤ pos j *ℤ b }
 {
     i64::from(j).wrapping_mul(b).wrapping_add(a)
@@ -22,6 +23,18 @@ fn vector_moved(a: &[i64; 3], b: &[i64; 3], j: u32) -> [i64; 3]
     requires { IsWithin turn_limit (moved3 a.now b.now (pos j)) }
     ensures value { result ≡ moved3 a.now b.now (pos j) }
     ensures small { IsWithin turn_limit result }
+{
+    [
+        linear(a[0], b[0], j),
+        linear(a[1], b[1], j),
+        linear(a[2], b[2], j),
+    ]
+}
+
+/// u of the point j steps on, where that of a point goes on by another form with each step.
+pub fn heights_moved(a: &[i64; 3], b: &[i64; 3], j: u32) -> [i64; 3]
+    requires { IsBounded2 (3 * (offset_limit * axis_limit)) (moved3 a.now b.now (pos j)) }
+    ensures { result ≡ moved3 a.now b.now (pos j) }
 {
     [
         linear(a[0], b[0], j),

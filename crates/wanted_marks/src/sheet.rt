@@ -4,15 +4,15 @@ ghost use Rattle.bern_form.specs.Forms.{IsSmall};
 ghost use Rattle.bern_form.specs.Sizes.{scale_limit};
 ghost use Rattle.wanted_marks.specs.Lines.{FitsAt, heights_at, width_at};
 ghost use Rattle.wanted_marks.specs.Sheets.{FitsOn, IsLineOn, IsSheetThrough};
-ghost use Rattle.wanted_marks.specs.Widths.{IsTurn, moved3, moved5};
+ghost use Rattle.wanted_marks.specs.Widths.{IsTurn, moved5};
 
 use crate::line::{Line, quadratic, wrapped};
-use crate::moments::{eight_products, moved};
+use crate::moments::{eight_products, heights_moved, moved};
 use crate::scaled::scaled_way;
 use crate::turn::Turn;
-use axis_cells::{Sweep, scalar_product_on_cell};
+use axis_cells::Sweep;
 use bern_form::{Form2, Form4};
-use ray_runs::Moments;
+use ray_runs::{Moments, heights};
 
 /// a + b l. The parts may be larger than what fits: where the whole fits, what wrapped comes back.
 #[inline]
@@ -23,19 +23,7 @@ fn linear(a: i128, b: i128, l: u32) -> i128
     wrapped(a, i128::from(l), b)
 }
 
-/// a + b l, coefficient by coefficient.
-fn moved2(a: &Form2, b: &Form2, l: u32) -> Form2
-    requires { All IsSmall (moved3 a.now.c b.now.c (pos l)) }
-    ensures { result.c ≡ moved3 a.now.c b.now.c (pos l) }
-{
-    let [a0, a1, a2] = a.c;
-    let [b0, b1, b2] = b.c;
-    Form2 {
-        c: [linear(a0, b0, l), linear(a1, b1, l), linear(a2, b2, l)],
-    }
-}
-
-/// The same for degree 4.
+/// a + b l, coefficient by coefficient of degree 4.
 fn moved4(a: &Form4, b: &Form4, l: u32) -> Form4
     requires { All IsSmall (moved5 a.now.c b.now.c (pos l)) }
     ensures { result.c ≡ moved5 a.now.c b.now.c (pos l) }
@@ -58,7 +46,10 @@ pub fn heights_on(line: &Line, l: u32) -> Form2
     requires { FitsAt line.now (pos l) }
     ensures { result.c ≡ heights_at line.now (pos l) }
 {
-    moved2(&line.height, &line.height_step, l)
+    let [first, middle, last] = heights_moved(&line.height, &line.height_step, l);
+    Form2 {
+        c: [i128::from(first), i128::from(middle), i128::from(last)],
+    }
 }
 
 /// The width form of the point l steps on along a line.
@@ -90,9 +81,9 @@ pub struct Sheet {
     pub first: Form4,
     pub first_side: Form4,
     pub second: Form4,
-    pub height: Form2,
-    pub height_step: Form2,
-    pub height_side: Form2,
+    pub height: [i64; 3],
+    pub height_step: [i64; 3],
+    pub height_side: [i64; 3],
 }
 
 impl Sheet {
@@ -131,9 +122,9 @@ impl Sheet {
             },
             start: origin,
             side,
-            height: scalar_product_on_cell(&from, &to, &turn.first, &turn.last),
-            height_step: scalar_product_on_cell(&way, &way, &turn.first, &turn.last),
-            height_side: scalar_product_on_cell(&across, &across, &turn.first, &turn.last),
+            height: heights(&from, &to, &turn.first, &turn.last),
+            height_step: heights(&way, &way, &turn.first, &turn.last),
+            height_side: heights(&across, &across, &turn.first, &turn.last),
         }
     }
 
@@ -149,7 +140,7 @@ impl Sheet {
             },
             first: moved4(&self.first, &self.first_side, j),
             second: self.second,
-            height: moved2(&self.height, &self.height_side, j),
+            height: heights_moved(&self.height, &self.height_side, j),
             height_step: self.height_step,
         }
     }

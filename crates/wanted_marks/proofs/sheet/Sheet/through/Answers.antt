@@ -29,9 +29,9 @@ returns c =
       first = record { c = c.eight_products.result };
       first_side = record { c = c.eight_products-2.result };
       second = record { c = c.four_squares.result };
-      height = c.scalar_product_on_cell.result;
-      height_step = c.scalar_product_on_cell-2.result;
-      height_side = c.scalar_product_on_cell-3.result;
+      height = c.heights.result;
+      height_step = c.heights-2.result;
+      height_side = c.heights-3.result;
     } d o v w k) c.sweep.view_is
     record {
       start = origin;
@@ -42,7 +42,7 @@ returns c =
           ∙ product_is (pos 8) z.start z.middle z.end x.start x.middle x.end w w v v A C side.start_is side.middle_is side.end_is step.start_is step.middle_is step.end_is;
       second_is = c.four_squares.ensures
           ∙ product_is (pos 4) x.start x.middle x.end x.start x.middle x.end v v v v A C step.start_is step.middle_is step.end_is step.start_is step.middle_is step.end_is;
-      height_is = c.scalar_product_on_cell.ensures ∙ ap₂ (λ a b. dot_on_cell a b t.first t.last) ef et ∙ ap₂ (λ a b. dot_on_cell P Q a b) ea ec;
-      height_step_is = c.scalar_product_on_cell-2.ensures ∙ ap₂ (λ a b. dot_on_cell a b t.first t.last) ev ev ∙ ap₂ (λ a b. dot_on_cell v v a b) ea ec;
-      height_side_is = c.scalar_product_on_cell-3.ensures ∙ ap₂ (λ a b. dot_on_cell a b t.first t.last) ew ew ∙ ap₂ (λ a b. dot_on_cell w w a b) ea ec;
+      height_is = c.heights.ensures ∙ ap₂ (λ a b. dot_on_cell a b t.first t.last) ef et ∙ ap₂ (λ a b. dot_on_cell P Q a b) ea ec;
+      height_step_is = c.heights-2.ensures ∙ ap₂ (λ a b. dot_on_cell a b t.first t.last) ev ev ∙ ap₂ (λ a b. dot_on_cell v v a b) ea ec;
+      height_side_is = c.heights-3.ensures ∙ ap₂ (λ a b. dot_on_cell a b t.first t.last) ew ew ∙ ap₂ (λ a b. dot_on_cell w w a b) ea ec;
     }
