@@ -42,6 +42,9 @@ cross_term k = add (mul (from 0 k) (from 3 k)) (mul (from 3 k) (from 0 k))
 abbrev crosses : Term
 crosses = add (add (cross_term 0) (cross_term 1)) (cross_term 2)
 
+pub three_same : (x0 x1 x2 y0 y1 y2 : ℤ) → x0 ≡ y0 → x1 ≡ y1 → x2 ≡ y2 → ◌≡◌ {A = List ℤ} (x0 ∷ x1 ∷ x2 ∷ []) (y0 ∷ y1 ∷ y2 ∷ [])
+three_same x0 x1 x2 y0 y1 y2 e0 e1 e2 = λ i. e0 i ∷ e1 i ∷ e2 i ∷ []
+
 pub five_same : (x0 x1 x2 x3 x4 y0 y1 y2 y3 y4 : ℤ) → x0 ≡ y0 → x1 ≡ y1 → x2 ≡ y2 → x3 ≡ y3 → x4 ≡ y4
     → ◌≡◌ {A = List ℤ} (x0 ∷ x1 ∷ x2 ∷ x3 ∷ x4 ∷ []) (y0 ∷ y1 ∷ y2 ∷ y3 ∷ y4 ∷ [])
 five_same x0 x1 x2 x3 x4 y0 y1 y2 y3 y4 e0 e1 e2 e3 e4 = λ i. e0 i ∷ e1 i ∷ e2 i ∷ e3 i ∷ e4 i ∷ []

@@ -18,18 +18,31 @@ pub struct PointForms {
     pub width: Form4,
 }
 
-/// The scalar product of two vectors, from their values p and a at the first sample and q and c at the last.
+/// The scalar product of two vectors, from their values p and a at the first sample and q and c at the last. It fits 64 bits.
 #[inline]
-fn heights(p: &[i64; 3], q: &[i64; 3], a: &[i64; 3], c: &[i64; 3]) -> Form2
+pub fn heights(p: &[i64; 3], q: &[i64; 3], a: &[i64; 3], c: &[i64; 3]) -> [i64; 3]
+    requires p { IsWithin offset_limit p.now }
+    requires q { IsWithin offset_limit q.now }
+    requires a { IsWithin axis_limit a.now }
+    requires c { IsWithin axis_limit c.now }
+    ensures { result ≡ dot_on_cell p.now q.now a.now c.now }
+{
+    let first = height(p, a);
+    let middle = total(height(p, c), height(q, a));
+    let last = height(q, c);
+    [first, middle, last]
+}
+
+/// The same as a form.
+#[inline]
+fn height_form(p: &[i64; 3], q: &[i64; 3], a: &[i64; 3], c: &[i64; 3]) -> Form2
     requires p { IsWithin offset_limit p.now }
     requires q { IsWithin offset_limit q.now }
     requires a { IsWithin axis_limit a.now }
     requires c { IsWithin axis_limit c.now }
     ensures { result.c ≡ dot_on_cell p.now q.now a.now c.now }
 {
-    let first = height(p, a);
-    let middle = total(height(p, c), height(q, a));
-    let last = height(q, c);
+    let [first, middle, last] = heights(p, q, a, c);
     Form2 {
         c: [i128::from(first), i128::from(middle), i128::from(last)],
     }
@@ -48,8 +61,8 @@ pub fn forms_between(start: &Pose, end: &Pose) -> PointForms
     let c = &end.axis;
     let moments = Moments::between(&start.offset, &end.offset, a, c);
     PointForms {
-        u: heights(&start.offset, &end.offset, a, c),
-        n: heights(a, c, a, c),
+        u: height_form(&start.offset, &end.offset, a, c),
+        n: height_form(a, c, a, c),
         width: Form4 {
             c: moments.four_squares(),
         },

@@ -124,6 +124,17 @@ fn product(x: &[i64; 3], y: &[i64; 3]) -> i128
     add_squares(square(x[0], y[0]), square(x[1], y[1]), square(x[2], y[2]))
 }
 
+/// The sum of the scalar products of two moments both ways round, which are the same.
+#[inline]
+fn both_ways(x: &[i64; 3], y: &[i64; 3]) -> i128
+    requires x { IsWithin turn_limit x.now }
+    requires y { IsWithin turn_limit y.now }
+    ensures value { result ≡ dot x.now y.now +ℤ dot y.now x.now }
+    ensures small { unsigned_abs result ≤ 6 * (turn_limit * turn_limit) }
+{
+    2 * product(x, y)
+}
+
 /// The sum of three scalar products.
 #[inline]
 fn three(x: i128, y: i128, z: i128) -> i128
@@ -134,6 +145,18 @@ fn three(x: i128, y: i128, z: i128) -> i128
     ensures small { unsigned_abs result ≤ 9 * (turn_limit * turn_limit) }
 {
     x + y + z
+}
+
+/// The middle coefficient of the squared length of a form of degree 2 whose coefficients are moments.
+#[inline]
+fn middle_squared(x: &[i64; 3], y: &[i64; 3], z: &[i64; 3]) -> i128
+    requires x { IsWithin turn_limit x.now }
+    requires y { IsWithin turn_limit y.now }
+    requires z { IsWithin turn_limit z.now }
+    ensures value { result ≡ (dot x.now z.now +ℤ dot y.now y.now) +ℤ dot z.now x.now }
+    ensures small { unsigned_abs result ≤ 9 * (turn_limit * turn_limit) }
+{
+    both_ways(x, z) + product(y, y)
 }
 
 /// Four times a coefficient of degree 4.
@@ -182,12 +205,29 @@ impl Moments {
             result ≡ scaled4 (pos 4) (vector_product x.start x.middle x.end x.start x.middle x.end) }
     {
         [
-            four(self.times(self, 0)),
-            four(self.times(self, 1)),
-            four(self.times(self, 2)),
-            four(self.times(self, 3)),
-            four(self.times(self, 4)),
+            four(self.squared(0)),
+            four(self.squared(1)),
+            four(self.squared(2)),
+            four(self.squared(3)),
+            four(self.squared(4)),
         ]
+    }
+
+    /// A coefficient of the squared length. A product of two different coefficients stands in it twice, and is taken once.
+    #[inline]
+    pub fn squared(&self, i: usize) -> i128
+        requires { i < 5 }
+        ensures value { let x = self.now in
+            result ≡ at (vector_product x.start x.middle x.end x.start x.middle x.end) i }
+        ensures small { unsigned_abs result ≤ 9 * (turn_limit * turn_limit) }
+    {
+        match i {
+            0 => product(&self.start, &self.start),
+            1 => both_ways(&self.start, &self.middle),
+            2 => middle_squared(&self.start, &self.middle, &self.end),
+            3 => both_ways(&self.middle, &self.end),
+            _ => product(&self.end, &self.end),
+        }
     }
 
     /// A coefficient of the scalar product with that of another point, which has degree 4.

@@ -113,12 +113,11 @@ ray_fits sheet m o v S j ray sweep point few within =
       start = subst (λ (x : List ℤ). IsWithin turn_limit x) (sym ray.start) (outer_small (moment P A) (moment_small P A hP hA));
       middle = subst (λ (x : List ℤ). IsWithin turn_limit x) (sym ray.middle) (sum_small (moment P C) (moment Q A) (moment_small P C hP hC) (moment_small Q A hQ hA));
       end = subst (λ (x : List ℤ). IsWithin turn_limit x) (sym ray.end) (outer_small (moment Q C) (moment_small Q C hQ hC));
-      constant = small_as ray.constant (width_small m o S sweep point few);
       first = small_as ray.first
           (spread_fits (pos 8) (d_step m o v S) (n_between m 0 S S) (u_between m o 0 S S) (u_step m v S)
           (cross_bounded P Q v v offset_limit offset_limit hP hQ within within) (cross_bounded A C A C axis_limit axis_limit hA hC hA hC) height
           (cross_bounded v v A C offset_limit axis_limit within within hA hC) (omega arith)).whole;
-      height = small_as ray.height (list2 (u_between m o 0 S S) (3 * (offset_limit * axis_limit)) (omega arith) height);
+      height = subst (IsBounded2 (3 * (offset_limit * axis_limit))) (sym ray.height) height;
     }
 
 four_times : (z : ℤ) → pos 0 ≤ℤ z → pos 0 ≤ℤ (pos 4 *ℤ z)

@@ -52,7 +52,7 @@ points_amid r line l x m is h k below f g =
     let A = coefficient_at line 4 in let H = height_at line 2 in
     let bl : l < points_of r.grid r.ray.family = omega (arith, h, k, below) in let bx : x < points_of r.grid r.ray.family = omega (arith, k, below) in
     let ul = u_is r line l is bl in let um = u_is r line m is below in let ux = u_is r line x is bx in
-    let a0 = is_amid (at line.height.c 2) (at line.height_step.c 2) (at line.constant.c 4) (at line.first.c 4) (at line.second.c 4) l x m h k is.convex
+    let a0 = is_amid (at line.height 2) (at line.height_step 2) (at line.constant.c 4) (at line.first.c 4) (at line.second.c 4) l x m h k is.convex
     (subst (λ z. pos 0 ≤ℤ z) (sym ul) f) (subst (λ z. pos 0 ≤ℤ z) (sym um) g) in
     let a1 = subst (λ z. IsAmid z (A (pos l)) (H (pos m)) (A (pos m)) (H (pos x)) (A (pos x))) ul a0 in
     let a2 = subst (λ z. IsAmid (U l) z (H (pos m)) (A (pos m)) (H (pos x)) (A (pos x))) (width_is r line l is bl) a1 in

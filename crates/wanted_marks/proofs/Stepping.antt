@@ -11,13 +11,13 @@ use Rattle.bern_form.specs.Forms.{scaled4}
 use Rattle.ray_runs.specs.Moments.{middle_moment, moment, moment_product, vector_product, vector_sum}
 use Rattle.ray_runs.proofs.Lagrange.{lagrange_at, less_squares}
 use Rattle.wanted_marks.specs.declared.line.Line.{Line}
-use Rattle.wanted_marks.specs.declared.moments.Moments.{Moments}
+use Rattle.ray_runs.specs.declared.moments.Moments.{Moments}
 use Rattle.wanted_marks.specs.declared.sheet.Sheet.{Sheet}
 use Rattle.wanted_marks.specs.Starts.{IsStart}
 use Rattle.wanted_marks.specs.Lines.{HasForms, IsThrough, d_step, u_step}
-use Rattle.wanted_marks.specs.Sheets.{AreMoments, IsLineOn, IsSheet, end_at, middle_at, own_product, start_at, step_product}
+use Rattle.wanted_marks.specs.Sheets.{AreMoments, IsLineOn, IsSheet, end_at, first_at, middle_at, own_product, start_at}
 use Rattle.wanted_marks.specs.Ways.{IsAlong, scaled_vector, scaled_way}
-use Rattle.wanted_marks.specs.Widths.{IsTurn, moved3, quadratics, spread_form, whole_width}
+use Rattle.wanted_marks.specs.Widths.{IsTurn, moved3, moved5, quadratics, spread_form, whole_width}
 
 pub same3 : (a b c d e f : ℤ) → a ≡ d → b ≡ e → c ≡ f → a ∷ b ∷ c ∷ [] ≡ d ∷ e ∷ f ∷ []
 same3 a b c d e f h k l = ap (λ z. z ∷ b ∷ c ∷ []) h ∙ ap (λ z. d ∷ z ∷ c ∷ []) k ∙ ap (λ z. d ∷ e ∷ z ∷ []) l
@@ -115,6 +115,16 @@ width_moves n u w d f g l =
     let y = spread 4 (λ k. add (D k) (mul L (add (mul (num (pos 2)) (F k)) (mul L (G k))))) N M M in
     same5 _ _ _ _ _ _ _ _ _ _ (ring e (x 0) (y 0) refl) (ring e (x 1) (y 1) refl) (ring e (x 2) (y 2) refl) (ring e (x 3) (y 3) refl) (ring e (x 4) (y 4) refl)
 
+-- what the number of steps is taken times, from line to line
+first_moves : (n w d e u x : List ℤ) (j : ℤ)
+    → moved5 (spread_form (pos 8) d n u w) (spread_form (pos 8) e n x w) j ≡ spread_form (pos 8) (moved3 d e j) n (moved3 u x j) w
+first_moves n w d e u x j =
+    let v = at n 0 ∷ at n 1 ∷ at n 2 ∷ at w 0 ∷ at w 1 ∷ at w 2 ∷ at d 0 ∷ at d 1 ∷ at d 2 ∷ at e 0 ∷ at e 1 ∷ at e 2 ∷ at u 0 ∷ at u 1 ∷ at u 2 ∷ at x 0 ∷ at x 1 ∷ at x 2 ∷ j ∷ [] in
+    let N = from 0 in let W = from 3 in let D = from 6 in let E = from 9 in let U = from 12 in let X = from 15 in let J = var 18 in
+    let a = λ (k : ℕ). add (spread 8 D N U W k) (mul J (spread 8 E N X W k)) in
+    let b = spread 8 (λ k. add (D k) (mul J (E k))) N (λ k. add (U k) (mul J (X k))) W in
+    same5 _ _ _ _ _ _ _ _ _ _ (ring v (a 0) (b 0) refl) (ring v (a 1) (b 1) refl) (ring v (a 2) (b 2) refl) (ring v (a 3) (b 3) refl) (ring v (a 4) (b 4) refl)
+
 -- the ends of a move
 offset_first : (s p f t : ℤ) → s *ℤ p -ℤ s *ℤ f ≡ offset (pos 0) s p f t
 offset_first s p f t =
@@ -177,7 +187,7 @@ start_is from to u width m p S A C n d turn ef et eu ed ew =
 -- a line by its parts
 pub through_is : (line : Line) (from to u width : List ℤ) (m : Motion) (p v : List ℤ) (S : ℕ) (A C n w f g : List ℤ) → IsStart from to u width m p S → IsTurn A C n m S
     → w ≡ dot_on_cell v v A C → f ≡ dot_on_cell from to v v → g ≡ dot_on_cell v v v v → line.constant.c ≡ width
-    → line.first.c ≡ spread_form (pos 8) f n u w → line.second.c ≡ spread_form (pos 4) g n w w → line.height.c ≡ u → line.height_step.c ≡ w → IsThrough line m p v S
+    → line.first.c ≡ spread_form (pos 8) f n u w → line.second.c ≡ spread_form (pos 4) g n w w → line.height ≡ u → line.height_step ≡ w → IsThrough line m p v S
 through_is line from to u width m p v S A C n w f g is turn ew ef eg e0 e1 e2 e3 e4 =
     let W : w ≡ u_step m v S = ew ∙ ap₂ (λ x y. dot_on_cell v v x y) turn.first_is turn.last_is in
     let F : f ≡ d_step m p v S = ef ∙ ap₂ (λ x y. dot_on_cell x y v v) is.from_is is.to_is in
@@ -256,8 +266,8 @@ pub record HasRay (sheet : Sheet) (m : Motion) (o v : List ℤ) (S : ℕ) (j : �
   pub middle : middle_at sheet j ≡ middle_moment (offset_at m o (pos 0) (pos S)) (offset_at m o (pos S) (pos S)) (axis_at m (pos 0) (pos S)) (axis_at m (pos S) (pos S))
   pub end : end_at sheet j ≡ moment (offset_at m o (pos S) (pos S)) (axis_at m (pos S) (pos S))
   pub constant : own_product sheet j ≡ whole_width m o S
-  pub first : step_product sheet j ≡ spread_form (pos 8) (d_step m o v S) (n_between m 0 S S) (u_between m o 0 S S) (u_step m v S)
-  pub height : moved3 sheet.height.c sheet.height_side.c j ≡ u_between m o 0 S S
+  pub first : first_at sheet j ≡ spread_form (pos 8) (d_step m o v S) (n_between m 0 S S) (u_between m o 0 S S) (u_step m v S)
+  pub height : moved3 sheet.height sheet.height_side j ≡ u_between m o 0 S S
 
 pub ray_is : (sheet : Sheet) (m : Motion) (start beside v o : List ℤ) (S : ℕ) (j : ℤ) → IsSheet sheet m start v (scaled_way (pos S) start beside) S → IsAlong start start beside o j → HasRay sheet m o v S j
 ray_is sheet m start beside v o S j is on =
@@ -269,13 +279,15 @@ ray_is sheet m start beside v o S j is on =
     let e0 : start_at sheet j ≡ moment F A = ap₂ (λ x y. moved3 x y j) is.start.start_is is.side.start_is ∙ sym (moment_moves P A t j) ∙ ap (λ x. moment x A) (sym from) in
     let e1 : middle_at sheet j ≡ middle_moment F T A C = ap₂ (λ x y. moved3 x y j) is.start.middle_is is.side.middle_is ∙ sym (middle_moves P Q A C t j) ∙ ap₂ (λ x y. middle_moment x y A C) (sym from) (sym to) in
     let e2 : end_at sheet j ≡ moment T C = ap₂ (λ x y. moved3 x y j) is.start.end_is is.side.end_is ∙ sym (moment_moves Q C t j) ∙ ap (λ x. moment x C) (sym to) in
-    let U : u_between m o 0 S S ≡ moved3 (u_between m start 0 S S) (u_step m t S) j = ap₂ (λ x y. dot_on_cell x y A C) from to ∙ u_moves P Q A C t j in record {
+    let U : u_between m o 0 S S ≡ moved3 (u_between m start 0 S S) (u_step m t S) j = ap₂ (λ x y. dot_on_cell x y A C) from to ∙ u_moves P Q A C t j in
+    let D : d_step m o v S ≡ moved3 (d_step m start v S) (dot_on_cell t t v v) j = ap₂ (λ x y. dot_on_cell x y v v) from to ∙ u_moves P Q v v t j in record {
       start = e0;
       middle = e1;
       end = e2;
       constant = product_is (pos 4) (start_at sheet j) (middle_at sheet j) (end_at sheet j) (start_at sheet j) (middle_at sheet j) (end_at sheet j) F T F T A C e0 e1 e2 e0 e1 e2;
-      first = product_is (pos 8) (start_at sheet j) (middle_at sheet j) (end_at sheet j) sheet.step.start sheet.step.middle sheet.step.end F T v v A C e0 e1 e2
-          is.step.start_is is.step.middle_is is.step.end_is;
+      first = ap₂ (λ x y. moved5 x y j) is.first_is is.first_side_is
+          ∙ first_moves (n_between m 0 S S) (u_step m v S) (d_step m start v S) (dot_on_cell t t v v) (u_between m start 0 S S) (u_step m t S) j
+          ∙ ap₂ (λ x y. spread_form (pos 8) x (n_between m 0 S S) y (u_step m v S)) (sym D) (sym U);
       height = ap₂ (λ x y. moved3 x y j) is.height_is is.height_side_is ∙ sym U;
     }
 

@@ -16,14 +16,14 @@ abbrev pub width_at : Line → ℤ → List ℤ
 width_at line l = quadratics line.constant.c line.first.c line.second.c l
 
 abbrev pub heights_at : Line → ℤ → List ℤ
-heights_at line l = moved3 line.height.c line.height_step.c l
+heights_at line l = moved3 line.height line.height_step l
 
 -- a coefficient of each
 abbrev pub coefficient_at : Line → ℕ → ℤ → ℤ
 coefficient_at line k l = quadratic (at line.constant.c k) (at line.first.c k) (at line.second.c k) l
 
 abbrev pub height_at : Line → ℕ → ℤ → ℤ
-height_at line k l = at line.height.c k +ℤ l *ℤ at line.height_step.c k
+height_at line k l = at line.height k +ℤ l *ℤ at line.height_step k
 
 -- what the width form bends by over h steps: its second difference times h^2
 abbrev pub bend_over : Line → ℤ → List ℤ
@@ -63,5 +63,5 @@ pub record IsThrough (line : Line) (m : Motion) (s v : List ℤ) (S : ℕ) : Typ
   pub constant_is : line.constant.c ≡ whole_width m s S
   pub first_is : line.first.c ≡ spread_form (pos 8) (d_step m s v S) (n_between m 0 S S) (u_between m s 0 S S) (u_step m v S)
   pub second_is : line.second.c ≡ spread_form (pos 4) (dot_on_cell v v v v) (n_between m 0 S S) (u_step m v S) (u_step m v S)
-  pub height_is : line.height.c ≡ u_between m s 0 S S
-  pub height_step_is : line.height_step.c ≡ u_step m v S
+  pub height_is : line.height ≡ u_between m s 0 S S
+  pub height_step_is : line.height_step ≡ u_step m v S

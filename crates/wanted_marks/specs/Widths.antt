@@ -18,6 +18,16 @@ whole_width m p S = spread_form (pos 4) (d_between m p 0 S S) (n_between m 0 S S
 abbrev pub moved3 : List ℤ → List ℤ → ℤ → List ℤ
 moved3 a b l = (at a 0 +ℤ l *ℤ at b 0) ∷ (at a 1 +ℤ l *ℤ at b 1) ∷ (at a 2 +ℤ l *ℤ at b 2) ∷ []
 
+-- for five numbers
+abbrev pub moved5 : List ℤ → List ℤ → ℤ → List ℤ
+moved5 a b l =
+    (at a 0 +ℤ l *ℤ at b 0)
+    ∷ (at a 1 +ℤ l *ℤ at b 1)
+    ∷ (at a 2 +ℤ l *ℤ at b 2)
+    ∷ (at a 3 +ℤ l *ℤ at b 3)
+    ∷ (at a 4 +ℤ l *ℤ at b 4)
+    ∷ []
+
 -- a + b l + c l^2
 abbrev pub quadratic : ℤ → ℤ → ℤ → ℤ → ℤ
 quadratic a b c l = a +ℤ l *ℤ (b +ℤ l *ℤ c)

@@ -1,7 +1,8 @@
-ghost use Rattle.std.specs.Prelude.{◌≡◌, ◌*◌, ◌≤◌, ◌≤ℤ◌, ◌⊎◌, pos, unsigned_abs, All};
+ghost use Rattle.std.specs.Prelude.{◌≡◌, ◌*◌, ◌≤◌, ◌≤ℤ◌, pos, unsigned_abs, All};
 ghost use Rattle.bern_form.specs.Forms.{IsSmall, lifted};
 ghost use Rattle.bern_form.specs.Sizes.{IsBounded2, axis_limit, scale_limit};
 ghost use Rattle.axis_cells.specs.Exclusion.{squared};
+ghost use Rattle.cutter_slabs.specs.Rising.{IsRising};
 ghost use Rattle.wanted_marks.specs.Limits.{IsNoWider, all_not_below_zero, not_below_zero};
 
 use axis_cells::scaled_square;
@@ -17,27 +18,17 @@ pub fn diameter_of(slab: &Slab) -> i32
     slab.dia
 }
 
-/// The greater of two numbers.
-#[inline]
-fn greater(a: i32, b: i32) -> i32
-    ensures first { a ≤ℤ result }
-    ensures second { b ≤ℤ result }
-    ensures either { (result ≡ a) ⊎ (result ≡ b) }
-{
-    if a < b { b } else { a }
-}
-
-/// The greatest diameter of the slabs: 0 where there are none.
+/// The greatest diameter of slabs that rise, which is that of the highest: 0 where there are none.
 pub fn greatest_diameter(slabs: &[Slab]) -> i32
+    requires { IsRising slabs.now }
     ensures not_negative { pos 0 ≤ℤ result }
     ensures few { result ≤ℤ pos 200000 }
     ensures greatest { All (IsNoWider result) slabs.now }
 {
-    let mut greatest = 0;
-    for slab in slabs {
-        greatest = greater(greatest, diameter_of(slab));
+    if slabs.is_empty() {
+        return 0;
     }
-    greatest
+    diameter_of(&slabs[slabs.len() - 1])
 }
 
 /// The number, or 0 where it is below.

@@ -6,12 +6,14 @@ ghost use Rattle.space.specs.Ranges.{IsPoint, IsWithin};
 ghost use Rattle.space.specs.Vectors.{at};
 ghost use Rattle.bern_form.specs.Forms.{IsSmall, all_negative, all_positive, difference4, scaled4};
 ghost use Rattle.bern_form.specs.Sizes.{IsBounded2, axis_limit, offset_limit, scale_limit};
+ghost use Rattle.ray_runs.specs.Sizes.{turn_limit};
 ghost use Rattle.wanted_marks.specs.Ways.{scaled_way};
 ghost use Rattle.wanted_marks.specs.Starts.{IsStart};
 ghost use Rattle.wanted_marks.specs.Lines.{FitsAt, IsThrough, coefficient_at, height_at, heights_at, width_at};
 ghost use Rattle.wanted_marks.specs.Peaks.{IsPeak};
 ghost use Rattle.wanted_marks.specs.Widths.{IsTurn, quadratic, spread_form};
 
+use crate::moments::linear;
 use crate::narrow::times_narrow;
 use crate::peak::peak_of;
 use crate::scaled::scaled_way;
@@ -19,6 +21,7 @@ use crate::start::Start;
 use crate::turn::Turn;
 use axis_cells::{Sweep, scalar_product_on_cell};
 use bern_form::{Form2, Form4, minus4, scale4, times22};
+use ray_runs::heights;
 use width_bisect::product;
 
 /// A multiple of d n - u v.
@@ -58,8 +61,8 @@ pub struct Line {
     pub constant: Form4,
     pub first: Form4,
     pub second: Form4,
-    pub height: Form2,
-    pub height_step: Form2,
+    pub height: [i64; 3],
+    pub height_step: [i64; 3],
 }
 
 impl Line {
@@ -85,9 +88,8 @@ impl Line {
     /// The line that begins at a point and goes on by a step, which is taken times the scale.
     pub fn from_start(start: &Start, step: &[i64; 3], turn: &Turn) -> Line
         requires { IsWithin offset_limit step.now }
-        ensures through { (m : Motion) (p : List ℤ) (S : ℕ) → IsStart start.now.from start.now.to start.now.height.c start.now.width.c m p S
+        ensures { (m : Motion) (p : List ℤ) (S : ℕ) → IsStart start.now.from start.now.to start.now.height.c start.now.width.c m p S
             → IsTurn turn.now.first turn.now.last turn.now.n.c m S → IsThrough result m p step.now S }
-        ensures small { IsBounded2 (3 * (offset_limit * axis_limit)) result.height_step.c }
     {
         let u_step = scalar_product_on_cell(step, step, &turn.first, &turn.last);
         let d_step = scalar_product_on_cell(&start.from, &start.to, step, step);
@@ -96,8 +98,8 @@ impl Line {
             constant: start.width,
             first: spread_form(&d_step, &turn.n, &start.height, &u_step, 8),
             second: spread_form(&step_square, &turn.n, &u_step, &u_step, 4),
-            height: start.height,
-            height_step: u_step,
+            height: heights(&start.from, &start.to, &turn.first, &turn.last),
+            height_step: heights(step, step, &turn.first, &turn.last),
         }
     }
 
@@ -158,32 +160,32 @@ impl Line {
         true
     }
 
-    /// A coefficient of u, of the point l steps on.
+    /// A coefficient of u, of the point l steps on. It fits 64 bits.
     #[inline]
-    fn height(&self, k: usize, l: u32) -> i128
+    fn height(&self, k: usize, l: u32) -> i64
         requires place { k < 3 }
-        requires small { IsSmall (height_at self.now k (pos l)) }
+        requires small { unsigned_abs (height_at self.now k (pos l)) ≤ 2 * turn_limit }
         ensures { result ≡ height_at self.now k (pos l) }
     {
-        wrapped(self.height.c[k], i128::from(l), self.height_step.c[k])
+        linear(self.height[k], self.height_step[k], l)
     }
 
-    /// u at the last sample, of the point l steps on. It fits 64 bits.
+    /// u at the last sample, of the point l steps on.
     #[inline]
     pub fn last_height(&self, l: u32) -> i64
         requires { FitsAt self.now (pos l) }
         ensures { result ≡ height_at self.now 2 (pos l) }
     {
-        self.height(2, l) as i64
+        self.height(2, l)
     }
 
-    /// u at the first sample, of the point l steps on, which is its first coefficient, and the middle one. They fit 64 bits too.
+    /// u at the first sample, of the point l steps on, which is its first coefficient, and the middle one.
     #[inline]
     pub fn first_height(&self, l: u32) -> i64
         requires { FitsAt self.now (pos l) }
         ensures { result ≡ height_at self.now 0 (pos l) }
     {
-        self.height(0, l) as i64
+        self.height(0, l)
     }
 
     #[inline]
@@ -191,7 +193,7 @@ impl Line {
         requires { FitsAt self.now (pos l) }
         ensures { result ≡ height_at self.now 1 (pos l) }
     {
-        self.height(1, l) as i64
+        self.height(1, l)
     }
 
     /// Whether each coefficient of u is below 0 at the point l steps on, where `last` is the last one. That is looked at first, for

@@ -8,9 +8,12 @@ use width_bisect::{product, scaled_square};
 
 /// The greater of two numbers.
 #[inline]
-fn greater(a: i128, b: i128) -> i128
-    ensures first { a ≤ℤ result }
-    ensures second { b ≤ℤ result }
+fn greater(a: u64, b: u64) -> u64
+    requires a { a ≤ 6 * (offset_limit * axis_limit) }
+    requires b { b ≤ 6 * (offset_limit * axis_limit) }
+    ensures first { a ≤ result }
+    ensures second { b ≤ result }
+    ensures few { result ≤ 6 * (offset_limit * axis_limit) }
 {
     if a < b { b } else { a }
 }
@@ -24,26 +27,27 @@ fn lesser(a: i64, b: i64) -> i64
     if a < b { a } else { b }
 }
 
-/// The square of twice a coefficient.
+/// The square of a number that fits 63 bits.
 #[inline]
-fn twice_square(z: i64) -> i128
-    requires { unsigned_abs z ≤ 3 * (offset_limit * axis_limit) }
-    ensures { result ≡ (pos 2 *ℤ z) *ℤ (pos 2 *ℤ z) }
+fn square_of(a: u64) -> i128
+    requires { a ≤ 6 * (offset_limit * axis_limit) }
+    ensures { result ≡ pos (a * a) }
 {
-    product(2 * z, 2 * z)
+    let root = a as i64;
+    product(root, root)
 }
 
-/// The greatest of the square of the middle coefficient of u and the squares of twice the outer ones.
+/// The greatest of the square of the middle coefficient of u and the squares of twice the outer ones: the square of the greatest
+/// without its sign.
 #[inline]
 pub fn peak_of(first: i64, middle: i64, last: i64) -> i128
     requires first { unsigned_abs first ≤ 3 * (offset_limit * axis_limit) }
+    requires middle { unsigned_abs middle ≤ 6 * (offset_limit * axis_limit) }
     requires last { unsigned_abs last ≤ 3 * (offset_limit * axis_limit) }
     ensures { IsPeak result (first ∷ middle ∷ last ∷ []) }
 {
-    greater(
-        product(middle, middle),
-        greater(twice_square(first), twice_square(last)),
-    )
+    let outer = greater(2 * first.unsigned_abs(), 2 * last.unsigned_abs());
+    square_of(greater(middle.unsigned_abs(), outer))
 }
 
 /// Four times an outer coefficient of n.

@@ -4,14 +4,15 @@ ghost use Rattle.bern_form.specs.Forms.{IsSmall};
 ghost use Rattle.bern_form.specs.Sizes.{scale_limit};
 ghost use Rattle.wanted_marks.specs.Lines.{FitsAt, heights_at, width_at};
 ghost use Rattle.wanted_marks.specs.Sheets.{FitsOn, IsLineOn, IsSheetThrough};
-ghost use Rattle.wanted_marks.specs.Widths.{IsTurn, moved3};
+ghost use Rattle.wanted_marks.specs.Widths.{IsTurn, moved5};
 
 use crate::line::{Line, quadratic, wrapped};
-use crate::moments::Moments;
+use crate::moments::{eight_products, heights_moved, moved};
 use crate::scaled::scaled_way;
 use crate::turn::Turn;
-use axis_cells::{Sweep, scalar_product_on_cell};
+use axis_cells::Sweep;
 use bern_form::{Form2, Form4};
+use ray_runs::{Moments, heights};
 
 /// a + b l. The parts may be larger than what fits: where the whole fits, what wrapped comes back.
 #[inline]
@@ -22,15 +23,21 @@ fn linear(a: i128, b: i128, l: u32) -> i128
     wrapped(a, i128::from(l), b)
 }
 
-/// a + b l, coefficient by coefficient.
-fn moved2(a: &Form2, b: &Form2, l: u32) -> Form2
-    requires { All IsSmall (moved3 a.now.c b.now.c (pos l)) }
-    ensures { result.c ≡ moved3 a.now.c b.now.c (pos l) }
+/// a + b l, coefficient by coefficient of degree 4.
+fn moved4(a: &Form4, b: &Form4, l: u32) -> Form4
+    requires { All IsSmall (moved5 a.now.c b.now.c (pos l)) }
+    ensures { result.c ≡ moved5 a.now.c b.now.c (pos l) }
 {
-    let [a0, a1, a2] = a.c;
-    let [b0, b1, b2] = b.c;
-    Form2 {
-        c: [linear(a0, b0, l), linear(a1, b1, l), linear(a2, b2, l)],
+    let [a0, a1, a2, a3, a4] = a.c;
+    let [b0, b1, b2, b3, b4] = b.c;
+    Form4 {
+        c: [
+            linear(a0, b0, l),
+            linear(a1, b1, l),
+            linear(a2, b2, l),
+            linear(a3, b3, l),
+            linear(a4, b4, l),
+        ],
     }
 }
 
@@ -39,7 +46,10 @@ pub fn heights_on(line: &Line, l: u32) -> Form2
     requires { FitsAt line.now (pos l) }
     ensures { result.c ≡ heights_at line.now (pos l) }
 {
-    moved2(&line.height, &line.height_step, l)
+    let [first, middle, last] = heights_moved(&line.height, &line.height_step, l);
+    Form2 {
+        c: [i128::from(first), i128::from(middle), i128::from(last)],
+    }
 }
 
 /// The width form of the point l steps on along a line.
@@ -62,17 +72,18 @@ pub fn width_on(line: &Line, l: u32) -> Form4
 }
 
 /// The forms of the points of rays side by side on a whole move: the moment of the first point of the first ray, and what it grows by
-/// from point to point of a ray and from ray to ray; u likewise; and what the square of the steps along a ray is taken times in the
-/// width form, which is the same for all rays.
+/// from ray to ray; u likewise, and what it grows by from point to point of a ray; what the number of steps along the first ray is taken
+/// times in the width form, and what that grows by from ray to ray; and what its square is, which is the same for all rays.
 #[derive(Drop)]
 pub struct Sheet {
     pub start: Moments,
-    pub step: Moments,
     pub side: Moments,
+    pub first: Form4,
+    pub first_side: Form4,
     pub second: Form4,
-    pub height: Form2,
-    pub height_step: Form2,
-    pub height_side: Form2,
+    pub height: [i64; 3],
+    pub height_step: [i64; 3],
+    pub height_side: [i64; 3],
 }
 
 impl Sheet {
@@ -96,29 +107,40 @@ impl Sheet {
         let to = scaled_way(scale, &sweep.to, start);
         let way = scaled_way(scale, start, next);
         let across = scaled_way(scale, start, beside);
+        let origin = Moments::between(&from, &to, &turn.first, &turn.last);
         let step = Moments::between(&way, &way, &turn.first, &turn.last);
+        let side = Moments::between(&across, &across, &turn.first, &turn.last);
         Sheet {
-            start: Moments::between(&from, &to, &turn.first, &turn.last),
-            second: step.product(&step, 4),
-            step,
-            side: Moments::between(&across, &across, &turn.first, &turn.last),
-            height: scalar_product_on_cell(&from, &to, &turn.first, &turn.last),
-            height_step: scalar_product_on_cell(&way, &way, &turn.first, &turn.last),
-            height_side: scalar_product_on_cell(&across, &across, &turn.first, &turn.last),
+            first: Form4 {
+                c: eight_products(&origin, &step),
+            },
+            first_side: Form4 {
+                c: eight_products(&side, &step),
+            },
+            second: Form4 {
+                c: step.four_squares(),
+            },
+            start: origin,
+            side,
+            height: heights(&from, &to, &turn.first, &turn.last),
+            height_step: heights(&way, &way, &turn.first, &turn.last),
+            height_side: heights(&across, &across, &turn.first, &turn.last),
         }
     }
 
-    /// The line of ray j. Four times the scalar product of a moment with itself is the width form.
+    /// The line of ray j. Four times the squared length of a moment is the width form.
     pub fn line(&self, j: u32) -> Line
         requires { FitsOn self.now (pos j) }
         ensures { IsLineOn result self.now (pos j) }
     {
-        let moments = self.start.moved(&self.side, j);
+        let moments = moved(&self.start, &self.side, j);
         Line {
-            constant: moments.product(&moments, 4),
-            first: moments.product(&self.step, 8),
+            constant: Form4 {
+                c: moments.four_squares(),
+            },
+            first: moved4(&self.first, &self.first_side, j),
             second: self.second,
-            height: moved2(&self.height, &self.height_side, j),
+            height: heights_moved(&self.height, &self.height_side, j),
             height_step: self.height_step,
         }
     }

@@ -11,8 +11,8 @@ pub returns : goal.returns
 returns c =
     let f0 : FitsSigned w128 c.four.result = search rules in let f1 : FitsSigned w128 c.four-2.result = search rules in let f2 : FitsSigned w128 c.four-3.result = search rules in
     let f3 : FitsSigned w128 c.four-4.result = search rules in let f4 : FitsSigned w128 c.four-5.result = search rules in
-    let t0 : FitsSigned w128 c.times.result = search rules in let t1 : FitsSigned w128 c.times-2.result = search rules in let t2 : FitsSigned w128 c.times-3.result = search rules in
-    let t3 : FitsSigned w128 c.times-4.result = search rules in let t4 : FitsSigned w128 c.times-5.result = search rules in
-    five_same _ _ _ _ _ _ _ _ _ _ (four_is c.four.result c.times.result _ f0 t0 c.times.ensures.value c.four.ensures) (four_is c.four-2.result c.times-2.result _ f1 t1 c.times-2.ensures.value c.four-2.ensures)
-    (four_is c.four-3.result c.times-3.result _ f2 t2 c.times-3.ensures.value c.four-3.ensures) (four_is c.four-4.result c.times-4.result _ f3 t3 c.times-4.ensures.value c.four-4.ensures)
-    (four_is c.four-5.result c.times-5.result _ f4 t4 c.times-5.ensures.value c.four-5.ensures)
+    let t0 : FitsSigned w128 c.squared.result = search rules in let t1 : FitsSigned w128 c.squared-2.result = search rules in let t2 : FitsSigned w128 c.squared-3.result = search rules in
+    let t3 : FitsSigned w128 c.squared-4.result = search rules in let t4 : FitsSigned w128 c.squared-5.result = search rules in
+    five_same _ _ _ _ _ _ _ _ _ _ (four_is c.four.result c.squared.result _ f0 t0 c.squared.ensures.value c.four.ensures) (four_is c.four-2.result c.squared-2.result _ f1 t1 c.squared-2.ensures.value c.four-2.ensures)
+    (four_is c.four-3.result c.squared-3.result _ f2 t2 c.squared-3.ensures.value c.four-3.ensures) (four_is c.four-4.result c.squared-4.result _ f3 t3 c.squared-4.ensures.value c.four-4.ensures)
+    (four_is c.four-5.result c.squared-5.result _ f4 t4 c.squared-5.ensures.value c.four-5.ensures)

@@ -1,4 +1,6 @@
-use Rattle.std.proofs.Common.{◌*◌, refl, subst, sym}
+use Rattle.std.proofs.Common.{◌≡◌, ◌*◌, pos, refl, ap₂, subst, sym, ◌∙◌}
+use Rattle.space.specs.Motion.{offset_at}
+use Rattle.bern_form.specs.Cells.{dot_on_cell}
 use Rattle.bern_form.specs.Sizes.{IsBounded2, axis_limit, offset_limit}
 use Rattle.axis_cells.proofs.Bounds.{cross_bounded}
 use Rattle.wanted_marks.specs.declared.line.Line.{Line}
@@ -30,15 +32,13 @@ spread_form-requires-2-clause-v c =
     let v = c.args.step.now in let t = c.args.turn.now in
     subst (IsBounded2 (3 * (offset_limit * axis_limit))) (sym c.scalar_product_on_cell-u_step.ensures) (cross_bounded v v t.first t.last offset_limit axis_limit c.requires c.requires t.first_within t.last_within)
 
-pub returns-clause-through : goal.returns-clause-through
-returns-clause-through c = λ m p S is turn.
+pub returns : goal.returns
+returns c = λ m p S is turn.
     let s = c.args.start.now in let t = c.args.turn.now in let v = c.args.step.now in
-    let made : Line = record { constant = s.width; first = c.spread_form.result; second = c.spread_form-2.result; height = s.height; height_step = c.scalar_product_on_cell-u_step.result } in
+    let made : Line = record { constant = s.width; first = c.spread_form.result; second = c.spread_form-2.result; height = c.heights.result; height_step = c.heights-2.result } in
+    let height : c.heights.result ≡ s.height.c = c.heights.ensures ∙ ap₂ (λ x y. dot_on_cell x y t.first t.last) is.from_is is.to_is
+    ∙ ap₂ (λ x y. dot_on_cell (offset_at m p (pos 0) (pos S)) (offset_at m p (pos S) (pos S)) x y) turn.first_is turn.last_is ∙ sym is.height_is in
     through_is made s.from s.to s.height.c s.width.c m p v S t.first t.last t.n.c
     c.scalar_product_on_cell-u_step.result.c c.scalar_product_on_cell-d_step.result.c c.scalar_product_on_cell-step_square.result.c is turn
-    c.scalar_product_on_cell-u_step.ensures c.scalar_product_on_cell-d_step.ensures c.scalar_product_on_cell-step_square.ensures refl c.spread_form.ensures c.spread_form-2.ensures refl refl
-
-pub returns-clause-small : goal.returns-clause-small
-returns-clause-small c =
-    let v = c.args.step.now in let t = c.args.turn.now in
-    subst (IsBounded2 (3 * (offset_limit * axis_limit))) (sym c.scalar_product_on_cell-u_step.ensures) (cross_bounded v v t.first t.last offset_limit axis_limit c.requires c.requires t.first_within t.last_within)
+    c.scalar_product_on_cell-u_step.ensures c.scalar_product_on_cell-d_step.ensures c.scalar_product_on_cell-step_square.ensures refl c.spread_form.ensures c.spread_form-2.ensures
+    height (c.heights-2.ensures ∙ sym c.scalar_product_on_cell-u_step.ensures)
