@@ -177,7 +177,7 @@ searched_as inner outer u n width u' n' width' m p S high levels j eu en ew s =
     (subst (λ l. IsWidthSearch inner outer u' n' l m p S high levels j) (sym ew) s))
 
 -- a sample's answer is whether some of the slabs holds the point
-covers_as : (slabs : List SlabSize) (scale S : ℕ) (u n w x y : ℤ) → scale ≡ S → u ≡ x → n ≡ y → some_covers (pos scale) u n w slabs ≡ some_covers (pos S) x y w slabs
+pub covers_as : (slabs : List SlabSize) (scale S : ℕ) (u n w x y : ℤ) → scale ≡ S → u ≡ x → n ≡ y → some_covers (pos scale) u n w slabs ≡ some_covers (pos S) x y w slabs
 covers_as slabs scale S u n w x y eS eu en =
     ap (λ z. some_covers (pos z) u n w slabs) eS ∙ ap (λ z. some_covers (pos S) z n w slabs) eu ∙ ap (λ z. some_covers (pos S) x z w slabs) en
 
