@@ -17,7 +17,7 @@ use Rattle.width_bisect.specs.Early.{lows_of, sample_mark, slabs_after}
 use Rattle.width_bisect.specs.Forms.{AreWidthForms}
 use Rattle.width_bisect.specs.Searches.{IsWidthSearch}
 use Rattle.width_bisect.proofs.Lows.{as_many, low_at}
-use Rattle.width_bisect.proofs.Searching.{covers_as, covers_last, four_last, spread_at}
+use Rattle.width_bisect.proofs.Searching.{covers_as, covers_first, covers_last, four_first, four_last, spread_at}
 
 -- the slab that a sample reaches has the same number in stacks that begin alike
 reached_as : (S u n : ℤ) (a b : List SlabSize) (i : ℕ) → lows_of a ≡ lows_of b → is_reached S u n (get_or a i no_slab) ≡ is_reached S u n (get_or b i no_slab)
@@ -40,6 +40,15 @@ marked_as_last inner outer mark scale x y z u n width m p j k S f is eS ex ey ez
     is w (ez ∙ four_last u n width m p j k S f)
     ∙ ap (λ b. sample_mark b (some_covers (pos scale) x y w outer)) (covers_as inner scale S x y w (at u 2) (at n 2) eS ex ey ∙ covers_last inner u n width m p j k S f)
     ∙ ap (λ b. sample_mark (some_holds inner m p k S) b) (covers_as outer scale S x y w (at u 2) (at n 2) eS ex ey ∙ covers_last outer u n width m p j k S f)
+
+pub marked_as_first : (inner outer : List SlabSize) (mark : Mark) (scale : ℕ) (x y z : ℤ) (u n width : List ℤ) (m : Motion) (p : List ℤ) (j k S : ℕ) → AreWidthForms u n width m p j k S
+    → ((w : ℤ) → z ≡ pos 4 *ℤ w → mark ≡ sample_mark (some_covers (pos scale) x y w inner) (some_covers (pos scale) x y w outer)) → scale ≡ S → x ≡ at u 0 → y ≡ at n 0 → z ≡ at width 0
+    → mark ≡ sample_mark (some_holds inner m p j S) (some_holds outer m p j S)
+marked_as_first inner outer mark scale x y z u n width m p j k S f is eS ex ey ez =
+    let w = spread_at 0 u n (d_between m p j k S) in
+    is w (ez ∙ four_first u n width m p j k S f)
+    ∙ ap (λ b. sample_mark b (some_covers (pos scale) x y w outer)) (covers_as inner scale S x y w (at u 0) (at n 0) eS ex ey ∙ covers_first inner u n width m p j k S f)
+    ∙ ap (λ b. sample_mark (some_holds inner m p j S) b) (covers_as outer scale S x y w (at u 0) (at n 0) eS ex ey ∙ covers_first outer u n width m p j k S f)
 
 -- what it tells: where it is Removed an inner slab holds the point, else none does, and where it is Possible an outer one does
 pub tried_held : (mark : Mark) (a b : Bool) → mark ≡ sample_mark a b → is_removed_mark mark ≡ true → a ≡ true
@@ -70,6 +79,21 @@ left_beside outer m p j k i S some cells after before held =
     ⊎_elim (λ inside. record { cell = i; after = after; before = inside; left = cell_is_left outer m p S i i some held (omega arith) (omega arith) })
     (λ (end : k ≤ i). record { cell = i - 1; after = omega arith; before = omega arith; left = cell_is_left outer m p S (i - 1) i some held (omega arith) (omega arith) })
     (cases_lt i k)
+
+-- two marks by one sample each, at the ends of a stretch: the greater of them
+pub both_free : (a b : Mark) → is_removed_mark a ≡ false → is_removed_mark b ≡ false → is_removed_mark (joined_mark a b) ≡ false
+both_free Removed b h k = h
+both_free Possible b h k = refl
+both_free Clear b h k = k
+
+pub left_at_ends : (first last : Mark) (inner outer : List SlabSize) (m : Motion) (p : List ℤ) (j k S : ℕ) → 0 < S → j < k → first ≡ sample_mark (some_holds inner m p j S) (some_holds outer m p j S)
+    → last ≡ sample_mark (some_holds inner m p k S) (some_holds outer m p k S) → is_possible_mark (joined_mark first last) ≡ true → IsLeftWithin outer m p j k S
+left_at_ends Removed last inner outer m p j k S some cells ef el h =
+    left_beside outer m p j k j S some cells (omega arith) (omega (arith, cells)) (tried_outer Removed (some_holds inner m p j S) (some_holds outer m p j S) ef refl)
+left_at_ends Possible last inner outer m p j k S some cells ef el h =
+    left_beside outer m p j k j S some cells (omega arith) (omega (arith, cells)) (tried_outer Possible (some_holds inner m p j S) (some_holds outer m p j S) ef refl)
+left_at_ends Clear last inner outer m p j k S some cells ef el h =
+    left_beside outer m p j k k S some cells (omega (arith, cells)) (omega arith) (tried_outer last (some_holds inner m p k S) (some_holds outer m p k S) el h)
 
 -- the mark of a stretch by the slabs that are excluded once a mark is known, and that mark
 pub joined_known : (found known : Mark) (inner outer slabs : List SlabSize) (m : Motion) (p : List ℤ) (j k S : ℕ) → slabs ≡ slabs_after known inner outer → is_removed_mark known ≡ false

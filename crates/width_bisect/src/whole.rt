@@ -32,8 +32,8 @@ pub fn reached_on_whole(whole: &Stretch, lists: &Lists, slabs: &[Slab], near: us
 
 /// The mark of the point whose forms these are on a stretch of 2^`levels` cells, on which some outer slab is not excluded: both ends are
 /// tried, and then what is between them. n raised to degree 4 is above 0, and the point is below the outer slab with the number `high`
-/// throughout, where there is one. What an outer slab holds at the last sample, as most that lies ahead of a tool that goes on, is
-/// Possible, so it is only asked whether an inner one holds it before: mostly these are all excluded on the stretch.
+/// throughout, where there is one. What an outer slab holds at an end is Possible, and only asked whether an inner one holds
+/// it between: so is most that lies right ahead of a tool that goes on, and mostly all inner slabs are excluded there.
 pub fn mark_of_whole(
     whole: &Stretch,
     inner: &[Slab],
@@ -59,12 +59,14 @@ pub fn mark_of_whole(
     if is_removed(last) {
         return Mark::Removed;
     }
-    if Sample::first_of(whole, scale).is_held(inner, high) {
+    let first = Sample::first_of(whole, scale).mark(inner, outer, high);
+    if is_removed(first) {
         return Mark::Removed;
     }
-    if is_possible(last) {
+    let known = joined(first, last);
+    if is_possible(known) {
         let found = mark_between(whole, inner, inner, scale, high, levels);
-        return joined(found, last);
+        return joined(found, known);
     }
     mark_by_halves(whole, inner, outer, scale, high, levels)
 }
