@@ -10,24 +10,24 @@ use Rattle.cutter_slabs.specs.Rising.{IsRising}
 use Rattle.box_bisect.specs.Between.{IsMarkBetween, joined_mark}
 use Rattle.box_bisect.specs.SlabTests.{TurnsBetween}
 use Rattle.box_bisect.proofs.Searching.{free_both, halved, held_early, join_marks, left_late}
-use Rattle.width_bisect.specs.Early.{early_slabs, lows_of}
+use Rattle.width_bisect.specs.Early.{slabs_after, lows_of}
 use Rattle.width_bisect.specs.Searches.{IsWidthSearch, is_not_below}
 use Rattle.width_bisect.proofs.Lows.{as_many, low_at}
 
 -- whichever slabs they are, they rise and begin where the inner ones do
-pub early_rises : (late : Mark) (inner outer slabs : List SlabSize) → slabs ≡ early_slabs late inner outer → IsRising inner → IsRising outer → IsRising slabs
-early_rises Removed inner outer slabs e h k = subst IsRising (sym e) k
-early_rises Possible inner outer slabs e h k = subst IsRising (sym e) h
-early_rises Clear inner outer slabs e h k = subst IsRising (sym e) k
+pub after_rises : (late : Mark) (inner outer slabs : List SlabSize) → slabs ≡ slabs_after late inner outer → IsRising inner → IsRising outer → IsRising slabs
+after_rises Removed inner outer slabs e h k = subst IsRising (sym e) k
+after_rises Possible inner outer slabs e h k = subst IsRising (sym e) h
+after_rises Clear inner outer slabs e h k = subst IsRising (sym e) k
 
-pub early_lows : (late : Mark) (inner outer slabs : List SlabSize) → slabs ≡ early_slabs late inner outer → lows_of inner ≡ lows_of outer → lows_of inner ≡ lows_of slabs
-early_lows Removed inner outer slabs e h = h ∙ ap lows_of (sym e)
-early_lows Possible inner outer slabs e h = ap lows_of (sym e)
-early_lows Clear inner outer slabs e h = h ∙ ap lows_of (sym e)
+pub after_lows : (late : Mark) (inner outer slabs : List SlabSize) → slabs ≡ slabs_after late inner outer → lows_of inner ≡ lows_of outer → lows_of inner ≡ lows_of slabs
+after_lows Removed inner outer slabs e h = h ∙ ap lows_of (sym e)
+after_lows Possible inner outer slabs e h = ap lows_of (sym e)
+after_lows Clear inner outer slabs e h = h ∙ ap lows_of (sym e)
 
-pub early_within : (late : Mark) (inner outer slabs : List SlabSize) (high : ℕ) → slabs ≡ early_slabs late inner outer → lows_of inner ≡ lows_of outer → high ≤ length outer → high ≤ length slabs
-early_within late inner outer slabs high e h within =
-    subst (λ k. high ≤ k) (sym (as_many inner outer h) ∙ as_many inner slabs (early_lows late inner outer slabs e h)) within
+pub after_within : (late : Mark) (inner outer slabs : List SlabSize) (high : ℕ) → slabs ≡ slabs_after late inner outer → lows_of inner ≡ lows_of outer → high ≤ length outer → high ≤ length slabs
+after_within late inner outer slabs high e h within =
+    subst (λ k. high ≤ k) (sym (as_many inner outer h) ∙ as_many inner slabs (after_lows late inner outer slabs e h)) within
 
 -- a test of where slabs begin turns alike
 turns_alike : (a b : List SlabSize) (S high : ℕ) (u n : List ℤ) → lows_of a ≡ lows_of b → TurnsBetween (is_not_below S u n) b 0 high → TurnsBetween (is_not_below S u n) a 0 high
@@ -40,7 +40,7 @@ turns_alike a b S high u n e turns =
           ∙ turns.after (subst (λ k. high < k) many l);
     }
 
-inner_search : (inner outer : List SlabSize) (u n width : List ℤ) (m : Motion) (p : List ℤ) (S high levels j : ℕ) → lows_of inner ≡ lows_of outer
+pub inner_search : (inner outer : List SlabSize) (u n width : List ℤ) (m : Motion) (p : List ℤ) (S high levels j : ℕ) → lows_of inner ≡ lows_of outer
     → IsWidthSearch inner outer u n width m p S high levels j → IsWidthSearch inner inner u n width m p S high levels j
 inner_search inner outer u n width m p S high levels j e s = record {
   searched = record {
@@ -56,12 +56,12 @@ inner_search inner outer u n width m p S high levels j e s = record {
 }
 
 -- so the search of the early half starts as it would with the outer slabs
-pub early_search : (late : Mark) (inner outer slabs : List SlabSize) (u n width : List ℤ) (m : Motion) (p : List ℤ) (S high levels j : ℕ) → slabs ≡ early_slabs late inner outer
+pub after_search : (late : Mark) (inner outer slabs : List SlabSize) (u n width : List ℤ) (m : Motion) (p : List ℤ) (S high levels j : ℕ) → slabs ≡ slabs_after late inner outer
     → lows_of inner ≡ lows_of outer → IsWidthSearch inner outer u n width m p S high levels j → IsWidthSearch inner slabs u n width m p S high levels j
-early_search Removed inner outer slabs u n width m p S high levels j e h s = subst (λ l. IsWidthSearch inner l u n width m p S high levels j) (sym e) s
-early_search Possible inner outer slabs u n width m p S high levels j e h s =
+after_search Removed inner outer slabs u n width m p S high levels j e h s = subst (λ l. IsWidthSearch inner l u n width m p S high levels j) (sym e) s
+after_search Possible inner outer slabs u n width m p S high levels j e h s =
     subst (λ l. IsWidthSearch inner l u n width m p S high levels j) (sym e) (inner_search inner outer u n width m p S high levels j h s)
-early_search Clear inner outer slabs u n width m p S high levels j e h s = subst (λ l. IsWidthSearch inner l u n width m p S high levels j) (sym e) s
+after_search Clear inner outer slabs u n width m p S high levels j e h s = subst (λ l. IsWidthSearch inner l u n width m p S high levels j) (sym e) s
 
 -- and both marks are the stretch's, for a late one that is Possible makes it that at least
 join_at : (early : Mark) (inner outer : List SlabSize) (m : Motion) (p : List ℤ) (j i k S : ℕ) → j ≤ i → i ≤ k → IsMarkBetween early inner inner m p j i S
@@ -77,7 +77,7 @@ join_possible early inner outer m p S levels n j e a b =
     subst (λ k. IsMarkBetween (joined_mark early Possible) inner outer m p j k S) (halved levels n j e).end
     (join_at early inner outer m p j i (i + 2 ^ n) S (omega arith) (omega arith) a b)
 
-pub join_early : (early late : Mark) (inner outer slabs : List SlabSize) (m : Motion) (p : List ℤ) (S levels n j : ℕ) → levels ≡ n + 1 → slabs ≡ early_slabs late inner outer
+pub join_early : (early late : Mark) (inner outer slabs : List SlabSize) (m : Motion) (p : List ℤ) (S levels n j : ℕ) → levels ≡ n + 1 → slabs ≡ slabs_after late inner outer
     → ¬ (late ≡ Removed) → IsMarkBetween early inner slabs m p j (j + 2 ^ n) S → IsMarkBetween late inner outer m p (j + 2 ^ n) ((j + 2 ^ n) + 2 ^ n) S
     → IsMarkBetween (joined_mark early late) inner outer m p j (j + 2 ^ levels) S
 join_early early Removed inner outer slabs m p S levels n j e is not_late a b = absurd (not_late refl)

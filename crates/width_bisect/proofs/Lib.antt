@@ -6,6 +6,7 @@ pub mod Sampling
 pub mod Searching
 pub mod Lows
 pub mod Early
+pub mod Tried
 pub mod Beginning
 pub mod Closing
 pub mod Answering

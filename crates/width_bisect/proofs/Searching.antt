@@ -176,22 +176,10 @@ searched_as inner outer u n width u' n' width' m p S high levels j eu en ew s =
     (subst (λ l. IsWidthSearch inner outer u' l width m p S high levels j) (sym en)
     (subst (λ l. IsWidthSearch inner outer u' n' l m p S high levels j) (sym ew) s))
 
--- a sample's answer is whether some of the slabs holds the point
-covers_as : (slabs : List SlabSize) (scale S : ℕ) (u n w x y : ℤ) → scale ≡ S → u ≡ x → n ≡ y → some_covers (pos scale) u n w slabs ≡ some_covers (pos S) x y w slabs
+-- the place at a sample, by numbers that are equal
+pub covers_as : (slabs : List SlabSize) (scale S : ℕ) (u n w x y : ℤ) → scale ≡ S → u ≡ x → n ≡ y → some_covers (pos scale) u n w slabs ≡ some_covers (pos S) x y w slabs
 covers_as slabs scale S u n w x y eS eu en =
     ap (λ z. some_covers (pos z) u n w slabs) eS ∙ ap (λ z. some_covers (pos S) z n w slabs) eu ∙ ap (λ z. some_covers (pos S) x z w slabs) en
-
-pub held_as_first : (slabs : List SlabSize) (held : Bool) (scale : ℕ) (x y z : ℤ) (u n width : List ℤ) (m : Motion) (p : List ℤ) (j k S : ℕ) → AreWidthForms u n width m p j k S
-    → ((w : ℤ) → z ≡ pos 4 *ℤ w → held ≡ some_covers (pos scale) x y w slabs) → scale ≡ S → x ≡ at u 0 → y ≡ at n 0 → z ≡ at width 0 → held ≡ some_holds slabs m p j S
-held_as_first slabs held scale x y z u n width m p j k S f is eS ex ey ez =
-    let w = spread_at 0 u n (d_between m p j k S) in
-    is w (ez ∙ four_first u n width m p j k S f) ∙ covers_as slabs scale S x y w (at u 0) (at n 0) eS ex ey ∙ covers_first slabs u n width m p j k S f
-
-pub held_as_last : (slabs : List SlabSize) (held : Bool) (scale : ℕ) (x y z : ℤ) (u n width : List ℤ) (m : Motion) (p : List ℤ) (j k S : ℕ) → AreWidthForms u n width m p j k S
-    → ((w : ℤ) → z ≡ pos 4 *ℤ w → held ≡ some_covers (pos scale) x y w slabs) → scale ≡ S → x ≡ at u 2 → y ≡ at n 2 → z ≡ at width 4 → held ≡ some_holds slabs m p k S
-held_as_last slabs held scale x y z u n width m p j k S f is eS ex ey ez =
-    let w = spread_at 2 u n (d_between m p j k S) in
-    is w (ez ∙ four_last u n width m p j k S f) ∙ covers_as slabs scale S x y w (at u 2) (at n 2) eS ex ey ∙ covers_last slabs u n width m p j k S f
 
 -- a walk's answer and that of the lists' tests, by the forms
 pub turns_by : (slabs : List SlabSize) (S kept high reached : ℕ) (raised height u n : List ℤ) → kept ≡ S → raised ≡ lifted n → height ≡ product22 u u

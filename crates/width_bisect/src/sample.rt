@@ -5,11 +5,13 @@ ghost use Rattle.bern_form.specs.Sizes.{scale_limit};
 ghost use Rattle.cutter_slabs.specs.Rising.{IsRising};
 ghost use Rattle.box_bisect.specs.SlabTests.{TurnsAt, is_reached, no_slab, some_covers};
 ghost use Rattle.width_bisect.specs.Bounds.{HoldsBy, bounds_of, no_bounds};
+ghost use Rattle.width_bisect.specs.Early.{lows_of, sample_mark};
 
 use crate::bounds::Bounds;
 use crate::length::{product, scaled_square};
 use crate::stretch::Stretch;
 use crate::turn::{Reaches, walk_down, walk_up};
+use axis_cells::Mark;
 use bern_form::Slab;
 
 /// What the slabs' tests at one sample share: u, n, and the width, which is four times the squared distance from the axis times n.
@@ -174,5 +176,28 @@ impl Sample {
             return false;
         }
         self.holds(slabs, self.reached(slabs, near))
+    }
+
+    /// The mark by this sample alone: Possible where some outer slab holds the point, and Removed where some inner one does too. Both
+    /// stacks begin at the same heights, so the highest slab that the point reaches has one number in either.
+    #[inline(always)]
+    pub(crate) fn mark(&self, inner: &[Slab], outer: &[Slab], near: usize) -> Mark
+        requires inner { IsRising inner.now }
+        requires outer { IsRising outer.now }
+        requires lows { lows_of inner.now ≡ lows_of outer.now }
+        ensures { let at = self.now in (w : ℤ) → at.width ≡ pos 4 *ℤ w
+            → result ≡ sample_mark (some_covers (pos at.scale) at.u at.n w inner.now) (some_covers (pos at.scale) at.u at.n w outer.now) }
+    {
+        if self.u < 0 {
+            return Mark::Clear;
+        }
+        let reached = self.reached(outer, near);
+        if !self.holds(outer, reached) {
+            return Mark::Clear;
+        }
+        if self.holds(inner, reached) {
+            return Mark::Removed;
+        }
+        Mark::Possible
     }
 }

@@ -4,8 +4,9 @@ ghost use Rattle.bern_form.specs.Between.{d_between};
 ghost use Rattle.bern_form.specs.Sizes.{scale_limit};
 ghost use Rattle.cutter_slabs.specs.Rising.{IsRising};
 ghost use Rattle.box_bisect.specs.Between.{IsMarkBetween, is_removed_mark, joined_mark};
+ghost use Rattle.box_bisect.specs.RayMarks.{is_possible_mark};
 ghost use Rattle.box_bisect.specs.SlabTests.{is_left_with};
-ghost use Rattle.width_bisect.specs.Early.{early_slabs, lows_of};
+ghost use Rattle.width_bisect.specs.Early.{lows_of, slabs_after};
 ghost use Rattle.width_bisect.specs.Searches.{IsWidthSearch};
 
 use crate::lists::Lists;
@@ -52,6 +53,7 @@ pub fn mark_between(
 
 /// The same, where some outer slab is not excluded on the stretch, so that a cell is Possible. Else the sample in the middle is
 /// tried, and then both halves, the late one first: a tool that goes on takes nearly all of what is new near the end of its move.
+/// What an outer slab holds in the middle is Possible, so of both halves it is only asked whether an inner one holds it.
 #[cycle(search)]
 pub fn mark_by_halves(
     stretch: &Stretch,
@@ -75,35 +77,38 @@ pub fn mark_by_halves(
         return Mark::Possible;
     }
     let first = stretch.first_half();
-    if Sample::last_of(&first, scale).is_held(inner, high) {
+    let middle = Sample::last_of(&first, scale).mark(inner, outer, high);
+    if is_removed(middle) {
         return Mark::Removed;
     }
     let last = stretch.last_half();
-    let late = mark_between(&last, inner, outer, scale, high, levels - 1);
+    let late_slabs = slabs_after(middle, inner, outer);
+    let found = mark_between(&last, inner, late_slabs, scale, high, levels - 1);
+    let late = joined(found, middle);
     if is_removed(late) {
         return Mark::Removed;
     }
-    let slabs = early_slabs(late, inner, outer);
-    let early = mark_between(&first, inner, slabs, scale, high, levels - 1);
+    let early_slabs = slabs_after(late, inner, outer);
+    let early = mark_between(&first, inner, early_slabs, scale, high, levels - 1);
     joined(early, late)
 }
 
-/// The slabs that are excluded on the early half. Where the late half is Possible the whole is that at least, and of the early half
-/// it is only asked whether some inner slab holds the point: the inner slabs are excluded on more.
+/// The slabs that are excluded once a mark is known. Where that is Possible the whole is that at least, and of what is left it is only
+/// asked whether some inner slab holds the point: the inner slabs are excluded on more.
 #[inline]
-fn early_slabs<'a>(late: Mark, inner: &'a [Slab], outer: &'a [Slab]) -> &'a [Slab]
-    ensures { result.now ≡ early_slabs late inner.now outer.now }
+fn slabs_after<'a>(known: Mark, inner: &'a [Slab], outer: &'a [Slab]) -> &'a [Slab]
+    ensures { result.now ≡ slabs_after known inner.now outer.now }
 {
-    match late {
+    match known {
         Mark::Possible => inner,
         Mark::Removed => outer,
         Mark::Clear => outer,
     }
 }
 
-/// The greater of the marks of two halves, of which the late one isn't Removed.
+/// The greater of two marks, of which the second isn't Removed.
 #[inline]
-fn joined(early: Mark, late: Mark) -> Mark
+pub fn joined(early: Mark, late: Mark) -> Mark
     ensures { result ≡ joined_mark early late }
 {
     match early {
@@ -115,12 +120,24 @@ fn joined(early: Mark, late: Mark) -> Mark
 
 /// Whether a mark is Removed.
 #[inline]
-fn is_removed(mark: Mark) -> bool
+pub fn is_removed(mark: Mark) -> bool
     ensures { result ≡ is_removed_mark mark }
 {
     match mark {
         Mark::Removed => true,
         Mark::Possible => false,
+        Mark::Clear => false,
+    }
+}
+
+/// Whether a mark is Possible or Removed.
+#[inline]
+pub fn is_possible(mark: Mark) -> bool
+    ensures { result ≡ is_possible_mark mark }
+{
+    match mark {
+        Mark::Removed => true,
+        Mark::Possible => true,
         Mark::Clear => false,
     }
 }

@@ -12,7 +12,7 @@ ghost use Rattle.width_bisect.specs.Forms.{AreWidthForms};
 
 use crate::lists::Lists;
 use crate::sample::Sample;
-use crate::search::mark_by_halves;
+use crate::search::{is_possible, is_removed, joined, mark_between, mark_by_halves};
 use crate::stretch::Stretch;
 use crate::turn::walk_up;
 use axis_cells::Mark;
@@ -32,7 +32,8 @@ pub fn reached_on_whole(whole: &Stretch, lists: &Lists, slabs: &[Slab], near: us
 
 /// The mark of the point whose forms these are on a stretch of 2^`levels` cells, on which some outer slab is not excluded: both ends are
 /// tried, and then what is between them. n raised to degree 4 is above 0, and the point is below the outer slab with the number `high`
-/// throughout, where there is one.
+/// throughout, where there is one. What an outer slab holds at an end is Possible, and only asked whether an inner one holds
+/// it between: so is most that lies right ahead of a tool that goes on, and mostly all inner slabs are excluded there.
 pub fn mark_of_whole(
     whole: &Stretch,
     inner: &[Slab],
@@ -54,11 +55,18 @@ pub fn mark_of_whole(
         → is_left_with outer.now scale whole.now.u whole.now.n (d_between m p j (j + 2 ^ levels) scale) ≡ true
         → IsMarkBetween result inner.now outer.now m p j (j + 2 ^ levels) scale }
 {
-    if Sample::last_of(whole, scale).is_held(inner, high) {
+    let last = Sample::last_of(whole, scale).mark(inner, outer, high);
+    if is_removed(last) {
         return Mark::Removed;
     }
-    if Sample::first_of(whole, scale).is_held(inner, high) {
+    let first = Sample::first_of(whole, scale).mark(inner, outer, high);
+    if is_removed(first) {
         return Mark::Removed;
+    }
+    let known = joined(first, last);
+    if is_possible(known) {
+        let found = mark_between(whole, inner, inner, scale, high, levels);
+        return joined(found, known);
     }
     mark_by_halves(whole, inner, outer, scale, high, levels)
 }
