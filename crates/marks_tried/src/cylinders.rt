@@ -28,6 +28,24 @@ fn cylinder(axis: [i64; 3], least: i64, most: i64, moment: i64) -> BoundingCylin
         least,
         most,
         moment,
+        side: [0, 0, 0],
+        across: 0,
+    }
+}
+
+/// The upright one, between two planes across x.
+fn flat_cylinder(across: i64) -> BoundingCylinder
+    requires { pos 0 ≤ℤ across }
+{
+    BoundingCylinder {
+        scale: 2,
+        tip: [4_000, 2_000, 0],
+        axis: [0, 0, 2],
+        least: 0,
+        most: 4_000,
+        moment: 4_000,
+        side: [0, 1, 0],
+        across,
     }
 }
 
@@ -70,4 +88,16 @@ fn a_tilted_cylinder(rt: HostRuntime) {
     let tilted = cylinder([2, 0, 2], -2_000, 4_000, 4_000);
     assert_eq!(rt; held(&tilted, Family::X, 1, 0), Some(0b111_1000));
     assert_eq!(rt; held(&tilted, Family::X, 1, 1), Some(0b001_0000));
+}
+
+/// Of the upright cylinder the part no further than half a millimetre along x from its axis: a point at the distance x from it has 4 x
+/// of its moment along y.
+#[test]
+fn a_cylinder_between_planes(rt: HostRuntime) {
+    let flat = flat_cylinder(2_000);
+    assert_eq!(rt; held(&flat, Family::X, 1, 0), Some(0b011_1000));
+    assert_eq!(rt; held(&flat, Family::Y, 2, 0), Some(0b001_1111));
+    assert_eq!(rt; held(&flat, Family::Y, 3, 0), Some(0));
+    let flatter = flat_cylinder(1_999);
+    assert_eq!(rt; held(&flatter, Family::X, 1, 0), Some(0b001_0000));
 }

@@ -5,10 +5,10 @@ use Rattle.space.proofs.Tests.{decides_le}
 use Rattle.near_points.specs.declared.hold.Hold.{Hold}
 use Rattle.near_points.specs.declared.stance.Stance.{Stance}
 use Rattle.near_points.specs.declared.step.Step.{Step}
-use Rattle.near_points.specs.Lines.{is_held_after, is_high_after, is_narrow_after, second_at, third_at, width_at}
+use Rattle.near_points.specs.Lines.{is_amid_after, is_held_after, is_narrow_after, second_at, third_at, width_at}
 use Rattle.near_points.proofs.Growing.{growth_at, grows_back, grows_on, less_between, more_between, two_squares}
 use Rattle.near_points.proofs.Leaving.{on_to}
-use Rattle.near_points.proofs.Told.{held_by_parts, high_parts}
+use Rattle.near_points.proofs.Told.{amid_parts, held_by_parts}
 
 sign : (g : ℤ) → (pos 0 ≤ℤ g) ⊎ (g <ℤ pos 0)
 sign (pos n) = inl (omega (arith, ints))
@@ -44,12 +44,17 @@ at_most_between : (h t y : ℤ) (l x m : ℕ) → l ≤ x → x ≤ m → (h +�
 at_most_between h t y l x m from to first last =
     let less = less_between h t (y +ℤ pos 1) l x m from to (omega (arith, ints, first)) (omega (arith, ints, last)) in omega (arith, ints, less)
 
--- a point is held that lies between two heights that are held, and between two moments that aren't too long
-pub held_amid : (hold : Hold) (s : Stance) (t : Step) (bottom from x to top : ℕ) → bottom ≤ from → from ≤ x → x ≤ to → to ≤ top → is_high_after hold s t (pos bottom) ≡ true → is_high_after hold s t (pos top) ≡ true
+-- a point is held that lies between two that are amid, and between two moments that aren't too long
+pub held_amid : (hold : Hold) (s : Stance) (t : Step) (bottom from x to top : ℕ) → bottom ≤ from → from ≤ x → x ≤ to → to ≤ top → is_amid_after hold s t (pos bottom) ≡ true → is_amid_after hold s t (pos top) ≡ true
     → is_narrow_after hold s t (pos from) ≡ true → is_narrow_after hold s t (pos to) ≡ true → is_held_after hold s t (pos x) ≡ true
 held_amid hold s t bottom from x to top first before behind last low high near far =
-    let a = high_parts hold s t (pos bottom) low in let b = high_parts hold s t (pos top) high in
+    let a = amid_parts hold s t (pos bottom) low in let b = amid_parts hold s t (pos top) high in
     let up : bottom ≤ x = omega (arith, first, before) in let down : x ≤ top = omega (arith, behind, last) in
     held_by_parts hold s t (pos x)
     (narrow_between s t hold.square from x to before behind ((decides_le (width_at s t (pos from)) hold.square).0 near) ((decides_le (width_at s t (pos to)) hold.square).0 far))
-    (at_least_between s.height t.height hold.least bottom x top up down a.0 b.0) (at_most_between s.height t.height hold.most bottom x top up down a.1 b.1)
+    record {
+      low = at_least_between s.height t.height hold.least bottom x top up down a.low b.low;
+      high = at_most_between s.height t.height hold.most bottom x top up down a.high b.high;
+      left = at_least_between s.side t.side (pos 0 -ℤ hold.across) bottom x top up down a.left b.left;
+      right = at_most_between s.side t.side hold.across bottom x top up down a.right b.right;
+    }

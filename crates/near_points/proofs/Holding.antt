@@ -1,11 +1,12 @@
 -- Which points of a ray a cylinder holds.
-use Rattle.std.proofs.Common.{◌≡◌, true, ℕ, ◌<◌, ℤ, pos, ◌*ℤ◌, ◌≤ℤ◌, arith, sym, ap, ◌∙◌}
+use Rattle.std.proofs.Common.{◌≡◌, true, ℕ, ◌<◌, ℤ, pos, ◌-ℤ◌, ◌*ℤ◌, ◌≤ℤ◌, unsigned_abs, arith, sym, subst, ap, ◌∙◌}
 use Rattle.std.proofs.lemmas.Int.{ints}
+use borrow.Author.Differences.{abs_is}
 use Rattle.ray_grid.specs.Lattice.{points_of}
 use Rattle.near_points.specs.declared.hold.Hold.{Hold}
 use Rattle.near_points.specs.declared.stance.Stance.{Stance}
 use Rattle.near_points.specs.declared.step.Step.{Step}
-use Rattle.near_points.specs.Lines.{height_at, is_held_after, width_at}
+use Rattle.near_points.specs.Lines.{height_at, is_held_after, side_at, width_at}
 use Rattle.near_points.specs.Rays.{IsHeldAt, NearRayOf}
 use Rattle.near_points.specs.Ready.{IsReadyRay}
 use Rattle.near_points.proofs.Told.{held_by_parts, held_parts}
@@ -13,17 +14,34 @@ use Rattle.near_points.proofs.Told.{held_by_parts, held_parts}
 at_most_by : (a b x y : ℤ) → a ≤ℤ b → a ≡ x → b ≡ y → x ≤ℤ y
 at_most_by a b x y h e f = omega (arith, ints, h, e, f)
 
+small_by : (x a c d : ℤ) → (pos 0 -ℤ a) ≤ℤ x → x ≤ℤ a → a ≡ c → x ≡ d → pos (unsigned_abs d) ≤ℤ c
+small_by x a c d h k e f = subst (λ (z : ℤ). pos (unsigned_abs z) ≤ℤ c) f (omega (arith, ints, h, k, e, abs_is x))
+
+least_by : (x a c d : ℤ) → pos (unsigned_abs d) ≤ℤ c → a ≡ c → x ≡ d → (pos 0 -ℤ a) ≤ℤ x
+least_by x a c d h e f = omega (arith, ints, h, e, f, abs_is d)
+
+most_by : (x a c d : ℤ) → pos (unsigned_abs d) ≤ℤ c → a ≡ c → x ≡ d → x ≤ℤ a
+most_by x a c d h e f = omega (arith, ints, h, e, f, abs_is d)
+
 pub holds_point : (first : Stance) (step : Step) (hold : Hold) (r : NearRayOf) (l : ℕ) → IsReadyRay first step hold r → l < points_of r.grid r.ray.family → is_held_after hold first step (pos l) ≡ true → IsHeldAt r l
 holds_point first step hold r l ready within told =
-    let parts = held_parts hold first step (pos l) told in record {
-      above = at_most_by hold.least (height_at first step (pos l)) _ _ parts.1 ready.hold_is.least (ready.heights l within);
-      below = at_most_by (height_at first step (pos l)) hold.most _ _ parts.2 (ready.heights l within) ready.hold_is.most;
-      beside = at_most_by (width_at first step (pos l)) hold.square _ _ parts.0 (ready.widths l within) (hold.square_is ∙ ap (λ z. z *ℤ z) ready.hold_is.moment);
+    let parts = held_parts hold first step (pos l) told in let amid = parts.1 in record {
+      about = record {
+        above = at_most_by hold.least (height_at first step (pos l)) _ _ amid.low ready.hold_is.least (ready.heights l within);
+        below = at_most_by (height_at first step (pos l)) hold.most _ _ amid.high (ready.heights l within) ready.hold_is.most;
+        beside = at_most_by (width_at first step (pos l)) hold.square _ _ parts.0 (ready.widths l within) (hold.square_is ∙ ap (λ z. z *ℤ z) ready.hold_is.moment);
+      };
+      across = small_by (side_at first step (pos l)) hold.across _ _ amid.left amid.right ready.hold_is.across (ready.sides l within);
     }
 
 pub point_holds : (first : Stance) (step : Step) (hold : Hold) (r : NearRayOf) (l : ℕ) → IsReadyRay first step hold r → l < points_of r.grid r.ray.family → IsHeldAt r l → is_held_after hold first step (pos l) ≡ true
 point_holds first step hold r l ready within held =
+    let about = held.about in
     held_by_parts hold first step (pos l)
-    (at_most_by _ _ (width_at first step (pos l)) hold.square held.beside (sym (ready.widths l within)) (sym (hold.square_is ∙ ap (λ z. z *ℤ z) ready.hold_is.moment)))
-    (at_most_by _ _ hold.least (height_at first step (pos l)) held.above (sym ready.hold_is.least) (sym (ready.heights l within)))
-    (at_most_by _ _ (height_at first step (pos l)) hold.most held.below (sym (ready.heights l within)) (sym ready.hold_is.most))
+    (at_most_by _ _ (width_at first step (pos l)) hold.square about.beside (sym (ready.widths l within)) (sym (hold.square_is ∙ ap (λ z. z *ℤ z) ready.hold_is.moment)))
+    record {
+      low = at_most_by _ _ hold.least (height_at first step (pos l)) about.above (sym ready.hold_is.least) (sym (ready.heights l within));
+      high = at_most_by _ _ (height_at first step (pos l)) hold.most about.below (sym (ready.heights l within)) (sym ready.hold_is.most);
+      left = least_by (side_at first step (pos l)) hold.across _ _ held.across ready.hold_is.across (ready.sides l within);
+      right = most_by (side_at first step (pos l)) hold.across _ _ held.across ready.hold_is.across (ready.sides l within);
+    }

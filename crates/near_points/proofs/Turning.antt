@@ -17,13 +17,13 @@ use Rattle.ray_grid.specs.Lattice.{node_at, nodes_of, per_node, place_at, point_
 use Rattle.ray_grid.specs.Ranges.{IsGrid}
 use Rattle.ray_grid.proofs.Sizes.{abs_is, axis_of, few_places, node_within, place_within, some_per_node, times_is}
 use Rattle.sweep_boxes.specs.declared.cylinder.BoundingCylinder.{BoundingCylinder}
-use Rattle.sweep_boxes.specs.Limits.{place_limit, side_limit}
+use Rattle.sweep_boxes.specs.Limits.{aim_limit, place_limit, side_limit}
 use Rattle.sweep_boxes.specs.Vectors.{cross}
 use Rattle.near_points.specs.declared.hold.Hold.{Hold}
 use Rattle.near_points.specs.declared.stance.Stance.{Stance}
 use Rattle.near_points.specs.declared.step.Step.{Step}
-use Rattle.near_points.specs.Limits.{moment_limit}
-use Rattle.near_points.specs.Lines.{FitsMoved, IsMoved, height_at, second_at, third_at}
+use Rattle.near_points.specs.Limits.{moment_limit, tilt_limit}
+use Rattle.near_points.specs.Lines.{FitsMoved, IsMoved, height_at, second_at, side_at, third_at}
 use Rattle.near_points.specs.Rays.{NearStripOf, near_ray_at}
 use Rattle.near_points.specs.Ready.{IsReadyRay, IsReadyStrip, offset_of}
 use Rattle.near_points.specs.Stances.{IsStance, IsStep, IsStepLike}
@@ -145,6 +145,24 @@ dot_moves p v e w a j l h =
     dot_by a (at p 0) (at p 1) (at p 2) _ _ _ h.first h.second h.third
     ∙ ring (at v 0 ∷ at v 1 ∷ at v 2 ∷ at e 0 ∷ at e 1 ∷ at e 2 ∷ at w 0 ∷ at w 1 ∷ at w 2 ∷ at a 0 ∷ at a 1 ∷ at a 2 ∷ j ∷ l ∷ []) (dots moved A) (add (add (dots V A) (mul J (dots E A))) (mul L (dots W A))) refl
 
+-- what is along a side grows as evenly
+side_by : (d : List ℤ) (p q r x y z : ℤ) → p ≡ x → q ≡ y → r ≡ z → (at d 0 *ℤ p +ℤ at d 1 *ℤ q) +ℤ at d 2 *ℤ r ≡ (at d 0 *ℤ x +ℤ at d 1 *ℤ y) +ℤ at d 2 *ℤ z
+side_by d p q r x y z e f g = ap₂ (λ u v. (at d 0 *ℤ u +ℤ at d 1 *ℤ v) +ℤ at d 2 *ℤ r) e f ∙ ap (λ u. (at d 0 *ℤ x +ℤ at d 1 *ℤ y) +ℤ at d 2 *ℤ u) g
+
+side_moves : (d p v e w : List ℤ) (j l : ℤ) → IsMovedOffset p v e w j l → dot d p ≡ (dot d v +ℤ j *ℤ dot d e) +ℤ l *ℤ dot d w
+side_moves d p v e w j l h =
+    let V = from 0 in let E = from 3 in let W = from 6 in let D = from 9 in let J = var 12 in let L = var 13 in
+    let moved = λ (k : ℕ). add (add (V k) (mul J (E k))) (mul L (W k)) in
+    side_by d (at p 0) (at p 1) (at p 2) _ _ _ h.first h.second h.third
+    ∙ ring (at v 0 ∷ at v 1 ∷ at v 2 ∷ at e 0 ∷ at e 1 ∷ at e 2 ∷ at w 0 ∷ at w 1 ∷ at w 2 ∷ at d 0 ∷ at d 1 ∷ at d 2 ∷ j ∷ l ∷ []) (dots D moved) (add (add (dots D V) (mul J (dots D E))) (mul L (dots D W))) refl
+
+moments_move : (p v e w a : List ℤ) (j l : ℤ) → IsMovedOffset p v e w j l → IsMovedOffset (cross p a) (cross v a) (cross e a) (cross w a) j l
+moments_move p v e w a j l o = record {
+  first = minor_moves (at p 1) (at p 2) (at v 1) (at v 2) (at e 1) (at e 2) (at w 1) (at w 2) (at a 1) (at a 2) j l o.second o.third;
+  second = minor_moves (at p 2) (at p 0) (at v 2) (at v 0) (at e 2) (at e 0) (at w 2) (at w 0) (at a 2) (at a 0) j l o.third o.first;
+  third = minor_moves (at p 0) (at p 1) (at v 0) (at v 1) (at e 0) (at e 1) (at w 0) (at w 1) (at a 0) (at a 1) j l o.first o.second;
+}
+
 combined : (s t u x y z j l r : ℤ) → s ≡ x → t ≡ y → u ≡ z → r ≡ (x +ℤ j *ℤ y) +ℤ l *ℤ z → (s +ℤ j *ℤ t) +ℤ l *ℤ u ≡ r
 combined s t u x y z j l r e f g h = ap₂ (λ a b. (a +ℤ j *ℤ b) +ℤ l *ℤ u) e f ∙ ap (λ a. (x +ℤ j *ℤ y) +ℤ l *ℤ a) g ∙ sym h
 
@@ -153,18 +171,19 @@ no_along : (w a : List ℤ) (z : ℤ) → z ≡ pos 0 *ℤ at a 2 -ℤ pos 0 *�
 no_along w a z e = e ∙ ring (at a 1 ∷ at a 2 ∷ []) (sub (mul (num (pos 0)) (var 1)) (mul (num (pos 0)) (var 0))) (num (pos 0)) refl
 
 -- so the stance on the ray
-pub record HasStance (first : Stance) (step : Step) (l : ℤ) (p a : List ℤ) : Type 0 where
+pub record HasStance (first : Stance) (step : Step) (l : ℤ) (p a d : List ℤ) : Type 0 where
   pub along : first.along ≡ at (cross p a) 0
   pub second : second_at first step l ≡ at (cross p a) 1
   pub third : third_at first step l ≡ at (cross p a) 2
+  pub side : side_at first step l ≡ dot d (cross p a)
   pub height : height_at first step l ≡ dot p a
 
 stays : (x l y : ℤ) → y ≡ pos 0 → (x +ℤ l *ℤ y) ≡ x
 stays x l y e = ap (λ z. x +ℤ l *ℤ z) e ∙ ring (x ∷ l ∷ []) (add (var 0) (mul (var 1) (num (pos 0)))) (var 0) refl
 
-has_stance : (start across first : Stance) (step : Step) (p v e a : List ℤ) (w j l : ℤ) → IsStance start v a → IsStance across e a → IsStep step (way_along w) a → IsMoved first start across j
-    → IsMovedOffset p v e (way_along w) j l → HasStance first step l p a
-has_stance start across first step p v e a w j l s t u moved o =
+has_stance : (start across first : Stance) (step : Step) (p v e a d : List ℤ) (w j l : ℤ) → IsStance start v a d → IsStance across e a d → IsStep step (way_along w) a d → IsMoved first start across j
+    → IsMovedOffset p v e (way_along w) j l → HasStance first step l p a d
+has_stance start across first step p v e a d w j l s t u moved o =
     let none = no_along (way_along w) a (at (cross (way_along w) a) 0) refl in record {
       along = moved.along ∙ sym (stays (start.along +ℤ j *ℤ across.along) l (at (cross (way_along w) a) 0) none)
           ∙ combined start.along across.along (at (cross (way_along w) a) 0) _ _ _ j l _ s.along t.along refl (minor_moves (at p 1) (at p 2) (at v 1) (at v 2) (at e 1) (at e 2) (pos 0) (pos 0) (at a 1) (at a 2) j l o.second o.third);
@@ -172,6 +191,8 @@ has_stance start across first step p v e a w j l s t u moved o =
           ∙ combined start.second across.second step.second _ _ _ j l _ s.second t.second u.second (minor_moves (at p 2) (at p 0) (at v 2) (at v 0) (at e 2) (at e 0) (pos 0) w (at a 2) (at a 0) j l o.third o.first);
       third = ap (λ z. z +ℤ l *ℤ step.third) moved.third
           ∙ combined start.third across.third step.third _ _ _ j l _ s.third t.third u.third (minor_moves (at p 0) (at p 1) (at v 0) (at v 1) (at e 0) (at e 1) w (pos 0) (at a 0) (at a 1) j l o.first o.second);
+      side = ap (λ z. z +ℤ l *ℤ step.side) moved.side
+          ∙ combined start.side across.side step.side _ _ _ j l _ s.side t.side u.side (side_moves d (cross p a) (cross v a) (cross e a) (cross (way_along w) a) j l (moments_move p v e (way_along w) a j l o));
       height = ap (λ z. z +ℤ l *ℤ step.height) moved.height
           ∙ combined start.height across.height step.height _ _ _ j l _ s.height t.height u.height (dot_moves p v e (way_along w) a j l o);
     }
@@ -181,7 +202,7 @@ by_none : (x y r : ℤ) → x +ℤ pos 0 *ℤ y ≡ r → x ≡ r
 by_none x y r e = ring (x ∷ y ∷ []) (var 0) (add (var 0) (mul (num (pos 0)) (var 1))) refl ∙ e
 
 -- how large they are
-turned_within : (f : Family) (m : ℕ) (v : List ℤ) → IsWithin m v → IsWithin m (turned f v)
+pub turned_within : (f : Family) (m : ℕ) (v : List ℤ) → IsWithin m v → IsWithin m (turned f v)
 turned_within X m v h = (h.0, h.1, h.2)
 turned_within Y m v h = (h.1, h.2, h.0)
 turned_within Z m v h = (h.2, h.0, h.1)
@@ -197,21 +218,33 @@ offset_within c p h = (
   offset_small c.scale (at p 2) (at c.tip 2) c.scaled.1 h.2 c.tip_within.2,
 )
 
-minor_small : (p q a b : ℤ) → unsigned_abs p ≤ side_limit → unsigned_abs q ≤ side_limit → unsigned_abs a ≤ side_limit → unsigned_abs b ≤ side_limit → unsigned_abs (p *ℤ b -ℤ q *ℤ a) ≤ moment_limit
+minor_small : (p q a b : ℤ) → unsigned_abs p ≤ side_limit → unsigned_abs q ≤ side_limit → unsigned_abs a ≤ side_limit → unsigned_abs b ≤ side_limit → unsigned_abs (p *ℤ b -ℤ q *ℤ a) ≤ 2 * (side_limit * side_limit)
 minor_small p q a b hp hq ha hb =
     let x = abs_mul p b side_limit side_limit hp hb in let y = abs_mul q a side_limit side_limit hq ha in let s = abs_sub (p *ℤ b) (q *ℤ a) in omega (arith, x, y, s)
 
-record AreSmall (p a : List ℤ) : Type 0 where
+record AreSmall (p a d : List ℤ) : Type 0 where
   along : unsigned_abs (at (cross p a) 0) ≤ moment_limit
   second : unsigned_abs (at (cross p a) 1) ≤ moment_limit
   third : unsigned_abs (at (cross p a) 2) ≤ moment_limit
+  side : unsigned_abs (dot d (cross p a)) ≤ tilt_limit
   height : unsigned_abs (dot p a) ≤ moment_limit
 
-are_small : (p a : List ℤ) → IsWithin side_limit p → IsWithin side_limit a → AreSmall p a
-are_small p a hp ha = record {
-  along = minor_small (at p 1) (at p 2) (at a 1) (at a 2) hp.1 hp.2 ha.1 ha.2;
-  second = minor_small (at p 2) (at p 0) (at a 2) (at a 0) hp.2 hp.0 ha.2 ha.0;
-  third = minor_small (at p 0) (at p 1) (at a 0) (at a 1) hp.0 hp.1 ha.0 ha.1;
+moment_small : (p a : List ℤ) → IsWithin side_limit p → IsWithin side_limit a → IsWithin (2 * (side_limit * side_limit)) (cross p a)
+moment_small p a hp ha = (
+  minor_small (at p 1) (at p 2) (at a 1) (at a 2) hp.1 hp.2 ha.1 ha.2,
+  minor_small (at p 2) (at p 0) (at a 2) (at a 0) hp.2 hp.0 ha.2 ha.0,
+  minor_small (at p 0) (at p 1) (at a 0) (at a 1) hp.0 hp.1 ha.0 ha.1,
+)
+
+less_small : (z : ℤ) → unsigned_abs z ≤ 2 * (side_limit * side_limit) → unsigned_abs z ≤ moment_limit
+less_small z h = omega (arith, h)
+
+are_small : (p a d : List ℤ) → IsWithin side_limit p → IsWithin side_limit a → IsWithin aim_limit d → AreSmall p a d
+are_small p a d hp ha hd = let m = moment_small p a hp ha in record {
+  along = less_small (at (cross p a) 0) m.0;
+  second = less_small (at (cross p a) 1) m.1;
+  third = less_small (at (cross p a) 2) m.2;
+  side = dot_small d (cross p a) aim_limit (2 * (side_limit * side_limit)) hd m;
   height = dot_small p a side_limit side_limit hp ha;
 }
 
@@ -219,16 +252,20 @@ small_by : (x y : ℤ) → x ≡ y → unsigned_abs y ≤ moment_limit → unsig
 small_by x y e h = subst (λ (z : ℤ). unsigned_abs z ≤ moment_limit) (sym e) h
 
 strip_small : (start across : Stance) (step : Step) (hold : Hold) (s : NearStripOf) (j l : ℕ) → IsReadyStrip start across step hold s → j < nodes_of s.grid (second_axis s.family) → l < points_of s.grid s.family
-    → AreSmall (offset_in s.cylinder s.grid s.family s.i j l) (turned s.family s.cylinder.axis)
+    → AreSmall (offset_in s.cylinder s.grid s.family s.i j l) (turned s.family s.cylinder.axis) (turned s.family s.cylinder.side)
 strip_small start across step hold s j l ready there within =
     let p = point_at s.grid s.family s.i j l in
-    are_small (turned s.family (offset_of s.cylinder p)) (turned s.family s.cylinder.axis)
+    are_small (turned s.family (offset_of s.cylinder p)) (turned s.family s.cylinder.axis) (turned s.family s.cylinder.side)
     (turned_within s.family side_limit (offset_of s.cylinder p) (offset_within s.cylinder p (point_near s.grid s.family s.i j l ready.sized ready.first there within)))
     (turned_within s.family side_limit s.cylinder.axis s.cylinder.axis_within)
+    (turned_within s.family aim_limit s.cylinder.side s.cylinder.side_within)
+
+tilted_by : (x y : ℤ) → x ≡ y → unsigned_abs y ≤ tilt_limit → unsigned_abs x ≤ tilt_limit
+tilted_by x y e h = subst (λ (z : ℤ). unsigned_abs z ≤ tilt_limit) (sym e) h
 
 pub first_fits : (start across : Stance) (step : Step) (hold : Hold) (s : NearStripOf) (j : ℕ) → IsReadyStrip start across step hold s → j < nodes_of s.grid (second_axis s.family) → FitsMoved start across (pos j)
 first_fits start across step hold s j ready there =
-    let c = s.cylinder in let f = s.family in let a = turned f c.axis in let w = pos c.scale *ℤ s.grid.step in
+    let c = s.cylinder in let f = s.family in let a = turned f c.axis in let d = turned f c.side in let w = pos c.scale *ℤ s.grid.step in
     let p = offset_in c s.grid f s.i j 0 in let v = offset_in c s.grid f s.i 0 0 in let e = way_across f (pos c.scale *ℤ s.grid.pitch) in
     let o = offset_moves c s.grid f s.i j 0 in
     let small = strip_small start across step hold s j 0 ready there (has_first s.grid f ready.sized) in
@@ -242,6 +279,9 @@ first_fits start across step hold s j ready there =
       third = small_by (start.third +ℤ pos j *ℤ across.third) (at (cross p a) 2)
           (by_none (start.third +ℤ pos j *ℤ across.third) (at (cross (way_along w) a) 2) (at (cross p a) 2)
           (combined start.third across.third (at (cross (way_along w) a) 2) _ _ _ (pos j) (pos 0) _ b.third t.third refl (minor_moves (at p 0) (at p 1) (at v 0) (at v 1) (at e 0) (at e 1) w (pos 0) (at a 0) (at a 1) (pos j) (pos 0) o.first o.second))) small.third;
+      side = tilted_by (start.side +ℤ pos j *ℤ across.side) (dot d (cross p a))
+          (by_none (start.side +ℤ pos j *ℤ across.side) (dot d (cross (way_along w) a)) (dot d (cross p a))
+          (combined start.side across.side (dot d (cross (way_along w) a)) _ _ _ (pos j) (pos 0) _ b.side t.side refl (side_moves d (cross p a) (cross v a) (cross e a) (cross (way_along w) a) (pos j) (pos 0) (moments_move p v e (way_along w) a (pos j) (pos 0) o)))) small.side;
       height = small_by (start.height +ℤ pos j *ℤ across.height) (dot p a)
           (by_none (start.height +ℤ pos j *ℤ across.height) (dot (way_along w) a) (dot p a)
           (combined start.height across.height (dot (way_along w) a) _ _ _ (pos j) (pos 0) _ b.height t.height refl (dot_moves p v e (way_along w) a (pos j) (pos 0) o))) small.height;
@@ -259,6 +299,15 @@ width_turned X v a = refl
 width_turned Y v a = ring (at (cross v a) 0 ∷ at (cross v a) 1 ∷ at (cross v a) 2 ∷ []) (squares (var 1) (var 2) (var 0)) (squares (var 0) (var 1) (var 2)) refl
 width_turned Z v a = ring (at (cross v a) 0 ∷ at (cross v a) 1 ∷ at (cross v a) 2 ∷ []) (squares (var 2) (var 0) (var 1)) (squares (var 0) (var 1) (var 2)) refl
 
+side_turned : (f : Family) (d v a : List ℤ) → dot (turned f d) (cross (turned f v) (turned f a)) ≡ dot d (cross v a)
+side_turned X d v a = refl
+side_turned Y d v a =
+    let D = from 0 in let C = from 3 in
+    ring (at d 0 ∷ at d 1 ∷ at d 2 ∷ at (cross v a) 0 ∷ at (cross v a) 1 ∷ at (cross v a) 2 ∷ []) (add (add (mul (D 1) (C 1)) (mul (D 2) (C 2))) (mul (D 0) (C 0))) (dots D C) refl
+side_turned Z d v a =
+    let D = from 0 in let C = from 3 in
+    ring (at d 0 ∷ at d 1 ∷ at d 2 ∷ at (cross v a) 0 ∷ at (cross v a) 1 ∷ at (cross v a) 2 ∷ []) (add (add (mul (D 2) (C 2)) (mul (D 0) (C 0))) (mul (D 1) (C 1))) (dots D C) refl
+
 height_turned : (f : Family) (v a : List ℤ) → dot (turned f v) (turned f a) ≡ dot v a
 height_turned X v a = refl
 height_turned Y v a =
@@ -274,8 +323,8 @@ few_points g f h = let few = few_places g (ray_axis f) h (axis_below f) in omega
 pub ready_ray : (start across first : Stance) (step : Step) (hold : Hold) (s : NearStripOf) (j : ℕ) → IsReadyStrip start across step hold s → j < nodes_of s.grid (second_axis s.family) → IsMoved first start across (pos j)
     → IsReadyRay first step hold (near_ray_at s j)
 ready_ray start across first step hold s j ready there moved =
-    let c = s.cylinder in let f = s.family in let a = turned f c.axis in let w = pos c.scale *ℤ s.grid.step in let e = way_across f (pos c.scale *ℤ s.grid.pitch) in
-    let has = λ (l : ℕ). has_stance start across first step (offset_in c s.grid f s.i j l) (offset_in c s.grid f s.i 0 0) e a w (pos j) (pos l) ready.start_is ready.across_is ready.step_is moved (offset_moves c s.grid f s.i j l) in
+    let c = s.cylinder in let f = s.family in let a = turned f c.axis in let d = turned f c.side in let w = pos c.scale *ℤ s.grid.step in let e = way_across f (pos c.scale *ℤ s.grid.pitch) in
+    let has = λ (l : ℕ). has_stance start across first step (offset_in c s.grid f s.i j l) (offset_in c s.grid f s.i 0 0) e a d w (pos j) (pos l) ready.start_is ready.across_is ready.step_is moved (offset_moves c s.grid f s.i j l) in
     record {
       few = few_points s.grid f ready.sized;
       hold_is = ready.hold_is;
@@ -283,14 +332,16 @@ ready_ray start across first step hold s j ready there moved =
           let small = strip_small start across step hold s j l ready there within in record {
             second = small_by (second_at first step (pos l)) (at (cross (offset_in c s.grid f s.i j l) a) 1) (has l).second small.second;
             third = small_by (third_at first step (pos l)) (at (cross (offset_in c s.grid f s.i j l) a) 2) (has l).third small.third;
+            side = tilted_by (side_at first step (pos l)) (dot d (cross (offset_in c s.grid f s.i j l) a)) (has l).side small.side;
             height = small_by (height_at first step (pos l)) (dot (offset_in c s.grid f s.i j l) a) (has l).height small.height;
           };
       widths = λ l within.
           squares_by first.along (second_at first step (pos l)) (third_at first step (pos l)) _ _ _ (has l).along (has l).second (has l).third
           ∙ width_turned f (offset_of c (point_at s.grid f s.i j l)) c.axis;
+      sides = λ l within. (has l).side ∙ side_turned f c.side (offset_of c (point_at s.grid f s.i j l)) c.axis;
       heights = λ l within. (has l).height ∙ height_turned f (offset_of c (point_at s.grid f s.i j l)) c.axis;
     }
 
 -- a step by the stance of its way
-pub step_by : (t : Step) (way : Stance) (v a : List ℤ) → IsStepLike t way → IsStance way v a → IsStep t v a
-step_by t way v a like is = record { second = like.second ∙ is.second; third = like.third ∙ is.third; height = like.height ∙ is.height }
+pub step_by : (t : Step) (way : Stance) (v a d : List ℤ) → IsStepLike t way → IsStance way v a d → IsStep t v a d
+step_by t way v a d like is = record { second = like.second ∙ is.second; third = like.third ∙ is.third; side = like.side ∙ is.side; height = like.height ∙ is.height }

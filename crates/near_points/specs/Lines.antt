@@ -1,9 +1,9 @@
 -- The stances of the points of a ray, by that of its first point and by what a step adds, at the point l steps on.
-use Rattle.std.specs.Prelude.{◌≡◌, ◌≤◌, ℤ, pos, ◌+ℤ◌, ◌*ℤ◌, ◌<ℤ◌, ◌⊎◌, ◌&&◌, Bool, int_le, unsigned_abs}
+use Rattle.std.specs.Prelude.{◌≡◌, ◌≤◌, ℤ, pos, ◌+ℤ◌, ◌-ℤ◌, ◌*ℤ◌, ◌<ℤ◌, ◌⊎◌, ◌&&◌, Bool, int_le, unsigned_abs}
 use Rattle.near_points.specs.declared.hold.Hold.{Hold}
 use Rattle.near_points.specs.declared.stance.Stance.{Stance}
 use Rattle.near_points.specs.declared.step.Step.{Step}
-use Rattle.near_points.specs.Limits.{moment_limit}
+use Rattle.near_points.specs.Limits.{moment_limit, tilt_limit}
 
 abbrev pub second_at : Stance → Step → ℤ → ℤ
 second_at s t l = s.second +ℤ l *ℤ t.second
@@ -14,6 +14,10 @@ third_at s t l = s.third +ℤ l *ℤ t.third
 abbrev pub height_at : Stance → Step → ℤ → ℤ
 height_at s t l = s.height +ℤ l *ℤ t.height
 
+-- what of the moment is along the side
+abbrev pub side_at : Stance → Step → ℤ → ℤ
+side_at s t l = s.side +ℤ l *ℤ t.side
+
 -- the square of the moment
 abbrev pub width_at : Stance → Step → ℤ → ℤ
 width_at s t l = (s.along *ℤ s.along +ℤ second_at s t l *ℤ second_at s t l) +ℤ third_at s t l *ℤ third_at s t l
@@ -23,12 +27,14 @@ pub record IsAfter (r s : Stance) (t : Step) (l : ℤ) : Type 0 where
   pub along : r.along ≡ s.along
   pub second : r.second ≡ second_at s t l
   pub third : r.third ≡ third_at s t l
+  pub side : r.side ≡ side_at s t l
   pub height : r.height ≡ height_at s t l
 
 -- its numbers fit
 pub record FitsAfter (s : Stance) (t : Step) (l : ℤ) : Type 0 where
   pub second : unsigned_abs (second_at s t l) ≤ moment_limit
   pub third : unsigned_abs (third_at s t l) ≤ moment_limit
+  pub side : unsigned_abs (side_at s t l) ≤ tilt_limit
   pub height : unsigned_abs (height_at s t l) ≤ moment_limit
 
 -- the square of its moment is at most that of the cylinder
@@ -39,11 +45,19 @@ is_narrow_after hold s t l = int_le (width_at s t l) hold.square
 abbrev pub is_high_after : Hold → Stance → Step → ℤ → Bool
 is_high_after hold s t l = int_le hold.least (height_at s t l) && int_le (height_at s t l) hold.most
 
--- the point is held: both
-abbrev pub is_held_after : Hold → Stance → Step → ℤ → Bool
-is_held_after hold s t l = is_narrow_after hold s t l && is_high_after hold s t l
+-- it is not too far to either side
+abbrev pub is_beside_after : Hold → Stance → Step → ℤ → Bool
+is_beside_after hold s t l = int_le (pos 0 -ℤ hold.across) (side_at s t l) && int_le (side_at s t l) hold.across
 
--- two heights are beyond the same end
+-- neither too low nor too high nor too far to either side
+abbrev pub is_amid_after : Hold → Stance → Step → ℤ → Bool
+is_amid_after hold s t l = is_high_after hold s t l && is_beside_after hold s t l
+
+-- the point is held: all of it
+abbrev pub is_held_after : Hold → Stance → Step → ℤ → Bool
+is_held_after hold s t l = is_narrow_after hold s t l && is_amid_after hold s t l
+
+-- two numbers are beyond the same end
 abbrev pub AreBeyond : ℤ → ℤ → ℤ → ℤ → Type 0
 AreBeyond least most a b = ((a <ℤ least) × (b <ℤ least)) ⊎ ((most <ℤ a) × (most <ℤ b))
 
@@ -59,10 +73,12 @@ pub record IsMoved (r s t : Stance) (n : ℤ) : Type 0 where
   pub along : r.along ≡ s.along +ℤ n *ℤ t.along
   pub second : r.second ≡ s.second +ℤ n *ℤ t.second
   pub third : r.third ≡ s.third +ℤ n *ℤ t.third
+  pub side : r.side ≡ s.side +ℤ n *ℤ t.side
   pub height : r.height ≡ s.height +ℤ n *ℤ t.height
 
 pub record FitsMoved (s t : Stance) (n : ℤ) : Type 0 where
   pub along : unsigned_abs (s.along +ℤ n *ℤ t.along) ≤ moment_limit
   pub second : unsigned_abs (s.second +ℤ n *ℤ t.second) ≤ moment_limit
   pub third : unsigned_abs (s.third +ℤ n *ℤ t.third) ≤ moment_limit
+  pub side : unsigned_abs (s.side +ℤ n *ℤ t.side) ≤ tilt_limit
   pub height : unsigned_abs (s.height +ℤ n *ℤ t.height) ≤ moment_limit

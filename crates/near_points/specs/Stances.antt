@@ -1,4 +1,4 @@
--- How an offset v stands to an axis a: its moment v x a and its height v . a.
+-- How an offset v stands to an axis a: its moment v x a, what of that is along a side d, and its height v . a.
 use Rattle.std.specs.Prelude.{◌≡◌, List, ℤ}
 use Rattle.space.specs.Vectors.{at, dot}
 use Rattle.sweep_boxes.specs.Vectors.{cross}
@@ -6,20 +6,23 @@ use Rattle.near_points.specs.declared.stance.Stance.{Stance}
 use Rattle.near_points.specs.declared.step.Step.{Step}
 
 -- the stance is that of the offset v under the axis a
-pub record IsStance (s : Stance) (v a : List ℤ) : Type 0 where
+pub record IsStance (s : Stance) (v a d : List ℤ) : Type 0 where
   pub along : s.along ≡ at (cross v a) 0
   pub second : s.second ≡ at (cross v a) 1
   pub third : s.third ≡ at (cross v a) 2
+  pub side : s.side ≡ dot d (cross v a)
   pub height : s.height ≡ dot v a
 
 -- the step is that of the way v along a ray, whose moment has no component along the ray
-pub record IsStep (t : Step) (v a : List ℤ) : Type 0 where
+pub record IsStep (t : Step) (v a d : List ℤ) : Type 0 where
   pub second : t.second ≡ at (cross v a) 1
   pub third : t.third ≡ at (cross v a) 2
+  pub side : t.side ≡ dot d (cross v a)
   pub height : t.height ≡ dot v a
 
 -- the step adds what the stance of its way has
 pub record IsStepLike (t : Step) (way : Stance) : Type 0 where
   pub second : t.second ≡ way.second
   pub third : t.third ≡ way.third
+  pub side : t.side ≡ way.side
   pub height : t.height ≡ way.height

@@ -1,19 +1,19 @@
 ghost use Rattle.std.specs.Prelude.{◌≡◌, ℕ, ◌+◌, ◌^◌, ◌<◌, ◌≤◌, ◌<ℤ◌, ◌≤ℤ◌, ◌⊎◌, pos, true, false, IsTrue};
 ghost use Rattle.vf_spans.specs.Words.{has_bit};
 ghost use Rattle.near_points.specs.declared.stance.Stance.{Stance};
-ghost use Rattle.near_points.specs.Lines.{AreBeyond, FitsAfter, IsAfter, is_held_after, is_high_after, is_narrow_after};
+ghost use Rattle.near_points.specs.Lines.{AreBeyond, FitsAfter, IsAfter, is_amid_after, is_held_after, is_narrow_after};
 
 use crate::hold::Hold;
-use crate::stance::{Stance, moved};
+use crate::stance::{Stance, moved, tilted};
 use crate::step::Step;
 use vf_spans::bits::{bits_from, lowest_bits};
 
-/// Whether two heights are both below the least one that is held, or both above the most.
+/// Whether two numbers are both below the least one that is held, or both above the most.
 #[inline]
-fn are_beyond(hold: &Hold, a: i64, b: i64) -> bool
-    ensures { IsTrue result → AreBeyond hold.now.least hold.now.most a b }
+fn are_beyond(least: i64, most: i64, a: i64, b: i64) -> bool
+    ensures { IsTrue result → AreBeyond least most a b }
 {
-    a < hold.least && b < hold.least || hold.most < a && hold.most < b
+    a < least && b < least || most < a && most < b
 }
 
 /// Whether a square of a moment is too large, and grows from there.
@@ -35,24 +35,27 @@ fn are_left_before(step: &Step, hold: &Hold, to: &Stance) -> bool
     is_leaving(hold, to.width(), step.curve - step.slope(to))
 }
 
-/// The first point from one on up to another with a height that is held, or the one behind them where there is none.
+/// The first point from one on up to another with a height that is held and not too far to either side, or the one behind them where
+/// there is none.
 #[inline]
-fn first_high(first: &Stance, step: &Step, hold: &Hold, l: u32, m: u32) -> u32
+fn first_amid(first: &Stance, step: &Step, hold: &Hold, l: u32, m: u32) -> u32
     requires order { l ≤ m }
     requires few { m + 1 < 2 ^ 32 }
     requires fits { (x : ℕ) → l ≤ x → x ≤ m → FitsAfter first.now step.now (pos x) }
     ensures from { l ≤ result }
     ensures to { result ≤ m + 1 }
-    ensures ahead { (x : ℕ) → l ≤ x → x < result → is_high_after hold.now first.now step.now (pos x) ≡ false }
-    ensures there { result ≤ m → is_high_after hold.now first.now step.now (pos result) ≡ true }
+    ensures ahead { (x : ℕ) → l ≤ x → x < result → is_amid_after hold.now first.now step.now (pos x) ≡ false }
+    ensures there { result ≤ m → is_amid_after hold.now first.now step.now (pos result) ≡ true }
 {
     let mut height = moved(first.height, l, step.height);
+    let mut side = tilted(first.side, l, step.side);
     let mut at = l;
     while at <= m {
-        if hold.has_height(height) {
+        if hold.has_place(height, side) {
             return at;
         }
         height += step.height;
+        side += step.side;
         at += 1;
     }
     at
@@ -60,22 +63,24 @@ fn first_high(first: &Stance, step: &Step, hold: &Hold, l: u32, m: u32) -> u32
 
 /// The last such point, where the first one is given.
 #[inline]
-fn last_high(first: &Stance, step: &Step, hold: &Hold, l: u32, m: u32) -> u32
+fn last_amid(first: &Stance, step: &Step, hold: &Hold, l: u32, m: u32) -> u32
     requires order { l ≤ m }
-    requires high { is_high_after hold.now first.now step.now (pos l) ≡ true }
+    requires amid { is_amid_after hold.now first.now step.now (pos l) ≡ true }
     requires fits { (x : ℕ) → l ≤ x → x ≤ m → FitsAfter first.now step.now (pos x) }
     ensures from { l ≤ result }
     ensures to { result ≤ m }
-    ensures behind { (x : ℕ) → result < x → x ≤ m → is_high_after hold.now first.now step.now (pos x) ≡ false }
-    ensures there { is_high_after hold.now first.now step.now (pos result) ≡ true }
+    ensures behind { (x : ℕ) → result < x → x ≤ m → is_amid_after hold.now first.now step.now (pos x) ≡ false }
+    ensures there { is_amid_after hold.now first.now step.now (pos result) ≡ true }
 {
     let mut height = moved(first.height, m, step.height);
+    let mut side = tilted(first.side, m, step.side);
     let mut at = m;
     while l < at {
-        if hold.has_height(height) {
+        if hold.has_place(height, side) {
             return at;
         }
         height -= step.height;
+        side -= step.side;
         at -= 1;
     }
     at
@@ -162,14 +167,19 @@ pub fn held_between(first: &Stance, step: &Step, hold: &Hold, start: u32, lo: u3
     let (l, m) = (start + lo, start + hi);
     let low = moved(first.height, l, step.height);
     let high = moved(first.height, m, step.height);
-    if are_beyond(hold, low, high) {
+    if are_beyond(hold.least, hold.most, low, high) {
         return 0;
     }
-    let bottom = first_high(first, step, hold, l, m);
+    let left = tilted(first.side, l, step.side);
+    let right = tilted(first.side, m, step.side);
+    if are_beyond(-hold.across, hold.across, left, right) {
+        return 0;
+    }
+    let bottom = first_amid(first, step, hold, l, m);
     if m < bottom {
         return 0;
     }
-    let top = last_high(first, step, hold, bottom, m);
+    let top = last_amid(first, step, hold, bottom, m);
     let from = first_narrow(first, step, hold, bottom, top);
     if top < from {
         return 0;

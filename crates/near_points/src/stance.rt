@@ -1,8 +1,9 @@
 ghost use Rattle.std.specs.Prelude.{◌≡◌, ◌*◌, ◌<◌, ◌≤◌, ◌+ℤ◌, ◌*ℤ◌, ◌-ℤ◌, pos, unsigned_abs};
 ghost use Rattle.space.specs.Ranges.{IsWithin};
 ghost use Rattle.space.specs.Vectors.{at, dot};
-ghost use Rattle.sweep_boxes.specs.Limits.{side_limit};
-ghost use Rattle.near_points.specs.Limits.{moment_limit};
+ghost use Rattle.sweep_boxes.specs.Limits.{aim_limit, side_limit};
+ghost use Rattle.sweep_boxes.specs.Vectors.{cross};
+ghost use Rattle.near_points.specs.Limits.{moment_limit, tilt_limit};
 
 /// The product of component `i` of a vector and component `j` of another.
 #[inline]
@@ -38,7 +39,7 @@ fn minor(p: &[i64; 3], a: &[i64; 3], i: usize, j: usize) -> i64
     requires ai { unsigned_abs (at a.now i) ≤ side_limit }
     requires aj { unsigned_abs (at a.now j) ≤ side_limit }
     ensures value { result ≡ at p.now i *ℤ at a.now j -ℤ at p.now j *ℤ at a.now i }
-    ensures small { unsigned_abs result ≤ moment_limit }
+    ensures small { unsigned_abs result ≤ 2 * (side_limit * side_limit) }
 {
     product(p, i, a, j) - product(p, j, a, i)
 }
@@ -53,6 +54,43 @@ pub fn moved(a: i64, n: u32, b: i64) -> i64
     a + i64::from(n) * b
 }
 
+/// The same of what is along a side, which can be greater.
+#[inline]
+pub fn tilted(a: i64, n: u32, b: i64) -> i64
+    requires from { unsigned_abs a ≤ tilt_limit }
+    requires to { unsigned_abs (a +ℤ pos n *ℤ b) ≤ tilt_limit }
+    ensures { result ≡ a +ℤ pos n *ℤ b }
+{
+    a + i64::from(n) * b
+}
+
+/// The product of a component of a side and one of a moment.
+#[inline]
+fn share(side: &[i64; 3], i: usize, part: i64) -> i64
+    requires i { i < 3 }
+    requires side { unsigned_abs (at side.now i) ≤ aim_limit }
+    requires part { unsigned_abs part ≤ 2 * (side_limit * side_limit) }
+    ensures value { result ≡ at side.now i *ℤ part }
+    ensures small { unsigned_abs result ≤ aim_limit * (2 * (side_limit * side_limit)) }
+{
+    side[i] * part
+}
+
+/// What of the moment of an offset under an axis is along a side, times the length of the side.
+#[inline]
+fn tilt(side: &[i64; 3], v: &[i64; 3], a: &[i64; 3]) -> i64
+    requires side { IsWithin aim_limit side.now }
+    requires v { IsWithin side_limit v.now }
+    requires a { IsWithin side_limit a.now }
+    ensures value { result ≡ dot side.now (cross v.now a.now) }
+    ensures small { unsigned_abs result ≤ tilt_limit }
+{
+    let along = share(side, 0, minor(v, a, 1, 2));
+    let second = share(side, 1, minor(v, a, 2, 0));
+    let third = share(side, 2, minor(v, a, 0, 1));
+    along + second + third
+}
+
 /// The product of two numbers of moments.
 #[inline]
 pub fn wide_product(a: i64, b: i64) -> i128
@@ -65,16 +103,19 @@ pub fn wide_product(a: i64, b: i64) -> i128
 }
 
 /// How an offset v stands to an axis a: the component of its moment v x a along the rays of a family, those along the two axes after
-/// theirs, and its height v . a. They are taken times the scale of the cylinder and the length of the axis.
+/// theirs, what of the moment is along a side, and its height v . a. They are taken times the scale of the cylinder and the length of
+/// the axis, and what is along the side also times the length of the side.
 #[derive(Drop)]
 pub struct Stance {
     pub along: i64,
     pub second: i64,
     pub third: i64,
+    pub side: i64,
     pub height: i64,
     ghost along_small: { unsigned_abs along ≤ moment_limit },
     ghost second_small: { unsigned_abs second ≤ moment_limit },
     ghost third_small: { unsigned_abs third ≤ moment_limit },
+    ghost side_small: { unsigned_abs side ≤ tilt_limit },
     ghost height_small: { unsigned_abs height ≤ moment_limit },
 }
 
@@ -82,16 +123,18 @@ impl Stance {
     ghost use Rattle.near_points.specs.Lines.{FitsMoved, IsMoved, width_of};
     ghost use Rattle.near_points.specs.Stances.{IsStance};
 
-    /// Of an offset and an axis that have the component along the rays first.
-    pub fn of_offset(v: &[i64; 3], a: &[i64; 3]) -> Stance
+    /// Of an offset, an axis and a side that have the component along the rays first.
+    pub fn of_offset(v: &[i64; 3], a: &[i64; 3], side: &[i64; 3]) -> Stance
         requires v { IsWithin side_limit v.now }
         requires a { IsWithin side_limit a.now }
-        ensures { IsStance result v.now a.now }
+        requires side { IsWithin aim_limit side.now }
+        ensures { IsStance result v.now a.now side.now }
     {
         Stance {
             along: minor(v, a, 1, 2),
             second: minor(v, a, 2, 0),
             third: minor(v, a, 0, 1),
+            side: tilt(side, v, a),
             height: dot(v, a),
         }
     }
@@ -106,6 +149,7 @@ impl Stance {
             along: moved(self.along, j, by.along),
             second: moved(self.second, j, by.second),
             third: moved(self.third, j, by.third),
+            side: tilted(self.side, j, by.side),
             height: moved(self.height, j, by.height),
         }
     }

@@ -1,7 +1,7 @@
 ghost use Rattle.std.specs.Prelude.{◌≡◌, ◌≤◌, ◌*◌, ◌+ℤ◌, ◌*ℤ◌, pos, unsigned_abs};
-ghost use Rattle.near_points.specs.Limits.{moment_limit};
+ghost use Rattle.near_points.specs.Limits.{moment_limit, tilt_limit};
 
-use crate::stance::{Stance, moved, wide_product};
+use crate::stance::{Stance, moved, tilted, wide_product};
 
 /// What a step along a ray adds to the stance of a point. To the component of the moment along the ray it adds nothing. `curve` is the
 /// square of what it adds to the moment.
@@ -9,10 +9,12 @@ use crate::stance::{Stance, moved, wide_product};
 pub struct Step {
     pub second: i64,
     pub third: i64,
+    pub side: i64,
     pub height: i64,
     pub curve: i128,
     ghost second_small: { unsigned_abs second ≤ moment_limit },
     ghost third_small: { unsigned_abs third ≤ moment_limit },
+    ghost side_small: { unsigned_abs side ≤ tilt_limit },
     ghost height_small: { unsigned_abs height ≤ moment_limit },
     ghost curve_small: { unsigned_abs curve ≤ 2 * (moment_limit * moment_limit) },
     ghost curve_is: { curve ≡ second *ℤ second +ℤ third *ℤ third },
@@ -31,6 +33,7 @@ impl Step {
         Step {
             second: way.second,
             third: way.third,
+            side: way.side,
             height: way.height,
             curve: second + third,
         }
@@ -46,6 +49,7 @@ impl Step {
             along: first.along,
             second: moved(first.second, l, self.second),
             third: moved(first.third, l, self.third),
+            side: tilted(first.side, l, self.side),
             height: moved(first.height, l, self.height),
         }
     }

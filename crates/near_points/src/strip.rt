@@ -56,14 +56,15 @@ impl<'a> NearStrip<'a> {
         let offset = offset_from(scale, &cylinder.tip, &point);
         let axis = turned(family, &cylinder.axis);
         let across = way_across(family, scaled(scale, pitch));
-        let along = Stance::of_offset(&[scaled(scale, step), 0, 0], &axis);
+        let side = turned(family, &cylinder.side);
+        let along = Stance::of_offset(&[scaled(scale, step), 0, 0], &axis, &side);
         NearStrip {
             cylinder,
             grid,
             family,
             i,
-            start: Stance::of_offset(&turned(family, &offset), &axis),
-            across: Stance::of_offset(&across, &axis),
+            start: Stance::of_offset(&turned(family, &offset), &axis, &side),
+            across: Stance::of_offset(&across, &axis, &side),
             step: Step::of_stance(&along),
             hold: Hold::of_cylinder(cylinder),
         }

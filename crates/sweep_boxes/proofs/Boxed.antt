@@ -1,5 +1,5 @@
 -- The places of a point that is held, along each axis.
-use Rattle.std.proofs.Common.{◌≡◌, true, ◌&&◌, ⊎_elim, ℕ, zero, suc, ◌+◌, ◌*◌, ◌≤◌, ◌<◌, List, ℤ, pos, ◌+ℤ◌, ◌*ℤ◌, ◌-ℤ◌, ◌≤ℤ◌, unsigned_abs, arith, ap, refl, sym, subst, ◌∙◌}
+use Rattle.std.proofs.Common.{◌≡◌, true, ◌&&◌, ⊎_elim, ℕ, zero, suc, ◌*◌, ◌≤◌, ◌<◌, List, ℤ, pos, ◌+ℤ◌, ◌*ℤ◌, ◌-ℤ◌, ◌≤ℤ◌, unsigned_abs, arith, ap, refl, sym, subst, ◌∙◌}
 use Rattle.std.proofs.lemmas.Int.{ints}
 use Rattle.space.specs.Motion.{Motion}
 use Rattle.space.specs.Ranges.{IsBetween}
@@ -8,12 +8,12 @@ use Rattle.std.proofs.lemmas.Bool.{and_parts}
 use Rattle.space.specs.Reach.{is_in_reach, is_near}
 use Rattle.space.proofs.Naturals.{square_not_negative}
 use Rattle.space.proofs.ReachLemmas.{decides_near, near_either}
-use Rattle.sweep_boxes.specs.Pieces.{IsAmong, IsHeldOn, middle_axis, middle_offset, offset_from}
+use Rattle.sweep_boxes.specs.Pieces.{IsAmong, IsBeside, IsHeldOn, middle_axis, middle_offset, offset_from}
 use Rattle.sweep_boxes.specs.Made.{IsPieceOf}
 use Rattle.sweep_boxes.specs.declared.piece.Piece.{Piece}
 use Rattle.sweep_boxes.specs.Vectors.{cross}
 use Rattle.sweep_boxes.proofs.Numbers.{product_mono}
-use Rattle.sweep_boxes.proofs.Sides.{aside, aside_below}
+use Rattle.sweep_boxes.proofs.Sides.{aside_below}
 use Rattle.sweep_boxes.proofs.Triangle.{square_of_abs}
 
 -- a component's square is no more than all
@@ -78,6 +78,12 @@ pub held_of : (piece : Piece) (m : Motion) (k S : ℕ) (p : List ℤ) (least mos
 held_of piece m k S p least most moment of held =
     subst (λ (v : List ℤ). IsHeldOn least most moment v piece.axis) (sym (offset_is piece m k S p of))
     (subst (λ (a : List ℤ). IsHeldOn least most moment (middle_offset m p k S) a) (sym of.axis) held)
+
+pub beside_of : (piece : Piece) (m : Motion) (k S : ℕ) (p side : List ℤ) (across : ℤ) → IsPieceOf piece m k S → IsBeside side across (middle_offset m p k S) (middle_axis m k S)
+    → IsBeside side across (offset_from (pos piece.scale) piece.tip p) piece.axis
+beside_of piece m k S p side across of beside =
+    subst (λ (v : List ℤ). IsBeside side across v piece.axis) (sym (offset_is piece m k S p of))
+    (subst (λ (a : List ℤ). IsBeside side across (middle_offset m p k S) a) (sym of.axis) beside)
 
 pub among_of : (piece : Piece) (m : Motion) (k S : ℕ) (p low high from to : List ℤ) → IsPieceOf piece m k S → from ≡ offset_from (pos piece.scale) piece.tip low → to ≡ offset_from (pos piece.scale) piece.tip high
     → IsAmong low high p → IsAmong from to (middle_offset m p k S)

@@ -1,9 +1,9 @@
 -- Three vectors that stand for a quantity of degree 2 on a part of a move: c - g + h at its first end, c - h in the middle, and
 -- c + g + h at its last end. Where c is long enough, all their scalar products are great.
-use Rattle.std.proofs.Common.{◌≡◌, ℕ, ◌+◌, ◌*◌, ◌≤◌, ◌<◌, [], ◌∷◌, List, ℤ, pos, ◌+ℤ◌, ◌*ℤ◌, ◌-ℤ◌, ◌≤ℤ◌, ◌<ℤ◌, arith, refl, sym, subst}
+use Rattle.std.proofs.Common.{◌≡◌, ℕ, ◌+◌, ◌*◌, [], ◌∷◌, List, ℤ, pos, ◌+ℤ◌, ◌*ℤ◌, ◌-ℤ◌, ◌≤ℤ◌, ◌<ℤ◌, arith, refl, sym, subst}
 use Rattle.std.proofs.lemmas.Int.{ints}
 use Rattle.space.specs.Vectors.{at, dot}
-use Rattle.space.proofs.Solver.{Term, var, num, add, mul, neg, ring}
+use Rattle.space.proofs.Solver.{Term, num, add, mul, ring}
 use Rattle.space.proofs.Terms.{dots, from, sub}
 use Rattle.sweep_boxes.specs.Vectors.{difference, sum}
 use Rattle.sweep_boxes.proofs.Triangle.{difference_far, difference_triangle, sum_far, triangle}
@@ -49,19 +49,19 @@ doubled_far c a b e far = quadruple (dot c c) (dot (doubled c) (doubled c)) a b 
   quadruple u v a b e far is = subst (λ (n : ℕ). pos (n * n) <ℤ v) (sym e) (omega (arith, ints, far, is))
 
 -- four times the product of two vectors is the difference of the squares of their sum and their difference
-first_product : (c g h : List ℤ)
+pub first_product : (c g h : List ℤ)
     → pos 4 *ℤ dot (first_of c g h) (middle_of c h) ≡ dot (difference (doubled c) g) (difference (doubled c) g) -ℤ dot (difference (doubled h) g) (difference (doubled h) g)
 first_product c g h =
     let s = λ (k : ℕ). sub (add (from 0 k) (from 0 k)) (from 3 k) in let d = λ (k : ℕ). sub (add (from 6 k) (from 6 k)) (from 3 k) in
     ring (nine c g h) (mul (num (pos 4)) (dots F M)) (sub (dots s s) (dots d d)) refl
 
-last_product : (c g h : List ℤ)
+pub last_product : (c g h : List ℤ)
     → pos 4 *ℤ dot (middle_of c h) (last_of c g h) ≡ dot (sum (doubled c) g) (sum (doubled c) g) -ℤ dot (sum (doubled h) g) (sum (doubled h) g)
 last_product c g h =
     let s = λ (k : ℕ). add (add (from 0 k) (from 0 k)) (from 3 k) in let d = λ (k : ℕ). add (add (from 6 k) (from 6 k)) (from 3 k) in
     ring (nine c g h) (mul (num (pos 4)) (dots M L)) (sub (dots s s) (dots d d)) refl
 
-outer_product : (c g h : List ℤ) → dot (first_of c g h) (last_of c g h) ≡ dot (sum c h) (sum c h) -ℤ dot g g
+pub outer_product : (c g h : List ℤ) → dot (first_of c g h) (last_of c g h) ≡ dot (sum c h) (sum c h) -ℤ dot g g
 outer_product c g h =
     let s = λ (k : ℕ). add (from 0 k) (from 6 k) in ring (nine c g h) (dots F L) (sub (dots s s) (dots (from 3) (from 3))) refl
 

@@ -1,11 +1,13 @@
 pub mod Triangle
 pub mod Fat
+pub mod Across
 pub mod Pieces
 pub mod Sides
 pub mod Numbers
 pub mod Kept
 pub mod Motions
 pub mod Holding
+pub mod AlongSide
 pub mod Lined
 pub mod Boxed
 pub mod Scales

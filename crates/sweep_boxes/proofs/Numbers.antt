@@ -140,7 +140,7 @@ scaled_some s (pos n) h k = let one : 1 ≤ n = omega (arith, ints, k) in let mo
 scaled_some s (negsuc n) h k = absurd (omega (arith, ints, k))
 
 -- a quotient that is rounded towards zero
-most_or_more : (a b : ℤ) → (a ≤ℤ b) ⊎ ((b +ℤ pos 1) ≤ℤ a)
+pub most_or_more : (a b : ℤ) → (a ≤ℤ b) ⊎ ((b +ℤ pos 1) ≤ℤ a)
 most_or_more (pos m) (pos n) = ⊎_elim (λ l. inr (omega (arith, ints))) (λ l. inl (omega (arith, ints))) (cases_lt n m)
 most_or_more (pos m) (negsuc n) = inr (omega (arith, ints))
 most_or_more (negsuc m) (pos n) = inl (omega (arith, ints))

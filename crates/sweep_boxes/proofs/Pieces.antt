@@ -1,15 +1,15 @@
 -- A part of a move by the offsets p and q of a point and the axes a and c at its two ends. Its forms are those of the middle, moved
 -- by the same amount to either side.
-use Rattle.std.proofs.Common.{◌≡◌, ℕ, zero, suc, ◌+◌, ◌*◌, ◌≤◌, ◌<◌, [], ◌∷◌, List, ℤ, pos, negsuc, ◌+ℤ◌, ◌*ℤ◌, ◌-ℤ◌, ◌≤ℤ◌, ◌<ℤ◌, ◌⊎◌, inl, inr, ⊎_elim, unsigned_abs, arith, refl, sym, subst, ap, ◌∙◌}
+use Rattle.std.proofs.Common.{◌≡◌, ℕ, zero, suc, ◌+◌, ◌*◌, ◌≤◌, [], ◌∷◌, List, ℤ, pos, negsuc, ◌+ℤ◌, ◌*ℤ◌, ◌-ℤ◌, ◌≤ℤ◌, ◌<ℤ◌, ◌⊎◌, inl, inr, ⊎_elim, unsigned_abs, arith, refl}
 use Rattle.std.specs.List.{All}
 use Rattle.std.proofs.lemmas.Int.{ints}
 use Rattle.std.proofs.Math.Nat.{mul-le-mul}
 use borrow.Author.Differences.{abs_is}
 use Rattle.space.specs.Vectors.{at, dot}
-use Rattle.space.proofs.Naturals.{dot_natural, natural}
-use Rattle.space.proofs.Solver.{Term, var, num, add, mul, neg, ring}
+use Rattle.space.proofs.Naturals.{dot_natural}
+use Rattle.space.proofs.Solver.{Term, var, num, add, mul, ring}
 use Rattle.space.proofs.Terms.{dots, from, sub}
-use Rattle.bern_form.specs.Forms.{lifted, product22, scaled2}
+use Rattle.bern_form.specs.Forms.{lifted}
 use Rattle.bern_form.specs.Between.{height_less, width_less}
 use Rattle.bern_form.specs.Cells.{dot_on_cell}
 use Rattle.bern_form.proofs.HalfSigns.{all_five}
@@ -219,14 +219,10 @@ times4 v n h = omega (arith, ints, h)
 times2 : (v : ℤ) (n : ℕ) → pos (3 * n) <ℤ v → pos (6 * n) <ℤ (pos 2 *ℤ v)
 times2 v n h = omega (arith, ints, h)
 
--- where the moment is long enough the point is beside the slab throughout
-pub beside : (p q a c : List ℤ) (z : ℤ) (r m n : ℕ) → IsUnder z a c r
-    → dot (moment_change p q a c) (moment_change p q a c) ≤ℤ pos (m * m) → dot (moment_bend p q a c) (moment_bend p q a c) ≤ℤ pos (n * n)
-    → pos ((r + (m + n)) * (r + (m + n))) <ℤ dot (moment p q a c) (moment p q a c)
-    → AllPositive (width_of p q a c z)
-beside p q a c z r m n under change bend far =
+-- where the moment is long enough throughout, the point is beside the slab
+pub beside_by : (p q a c : List ℤ) (z : ℤ) (r : ℕ) → IsUnder z a c r → AllFar (moment_first p q a c) (moment_middle p q a c) (moment_last p q a c) r → AllPositive (width_of p q a c z)
+beside_by p q a c z r under t =
     let l = lift_under z a c r under in
-    let t = all_far (moment p q a c) (moment_change p q a c) (moment_bend p q a c) r m n far change bend in
     let w = width_of p q a c z in
     all_five (λ y. pos 0 <ℤ y) (at w 0) (at w 1) (at w 2) (at w 3) (at w 4)
     (above _ _ _ 0 (r * r) (width0 p q a c z) t.xx l.0)
@@ -234,6 +230,13 @@ beside p q a c z r m n under change bend far =
     (above _ _ _ 2 (6 * (r * r)) (width2 p q a c z) (times2 _ (r * r) t.middle) l.2)
     (above _ _ _ 3 (4 * (r * r)) (width3 p q a c z) (times4 _ (r * r) t.yz) l.3)
     (above _ _ _ 4 (r * r) (width4 p q a c z) t.zz l.4)
+
+-- so where it is long enough in the middle
+pub beside : (p q a c : List ℤ) (z : ℤ) (r m n : ℕ) → IsUnder z a c r
+    → dot (moment_change p q a c) (moment_change p q a c) ≤ℤ pos (m * m) → dot (moment_bend p q a c) (moment_bend p q a c) ≤ℤ pos (n * n)
+    → pos ((r + (m + n)) * (r + (m + n))) <ℤ dot (moment p q a c) (moment p q a c)
+    → AllPositive (width_of p q a c z)
+beside p q a c z r m n under change bend far = beside_by p q a c z r under (all_far (moment p q a c) (moment_change p q a c) (moment_bend p q a c) r m n far change bend)
 
 -- the same of the height above the tip
 abbrev pub height_first : List ℤ → List ℤ → List ℤ → List ℤ → ℤ

@@ -9,6 +9,10 @@ most_level = 6
 abbrev pub side_limit : ℕ
 side_limit = 300000000
 
+-- no component of the side that a breadth is measured along is greater
+abbrev pub aim_limit : ℕ
+aim_limit = 8
+
 -- no coordinate of a box is further from zero: a micrometre more than a metre, for boxes that hold no point
 abbrev pub place_limit : ℕ
 place_limit = 1000001

@@ -1,9 +1,10 @@
 -- The places of a line that are held.
 use Rattle.std.specs.Prelude.{List, ℕ, ◌*◌, ◌≤◌, ℤ, pos, ◌*ℤ◌, ◌-ℤ◌, ◌≤ℤ◌, unsigned_abs}
+use Rattle.sweep_boxes.specs.declared.breadth.Breadth.{Breadth}
 use Rattle.sweep_boxes.specs.declared.held.Hold.{Hold}
 use Rattle.sweep_boxes.specs.declared.line.Line.{Line}
 use Rattle.sweep_boxes.specs.declared.piece.Piece.{Piece}
-use Rattle.sweep_boxes.specs.Pieces.{IsHeldOn, offset_from}
+use Rattle.sweep_boxes.specs.Pieces.{IsBeside, IsHeldOn, offset_from}
 
 -- The place z is in the line's range, and at the height u, which is held: what of its offset isn't along the axis is at most the
 -- distance from the axis times what of the axis isn't along the line.
@@ -18,3 +19,7 @@ pub record IsOnLine (line : Line) (hold : Hold) (z u : ℤ) : Type 0 where
 -- the point p is held on the piece
 abbrev pub IsHeldPlace : Hold → Piece → List ℤ → Type 0
 IsHeldPlace hold piece p = IsHeldOn hold.least hold.most hold.moment (offset_from (pos piece.scale) piece.tip p) piece.axis
+
+-- and it is no further to either side
+abbrev pub IsBesidePlace : Breadth → Piece → List ℤ → Type 0
+IsBesidePlace breadth piece p = IsBeside breadth.side breadth.across (offset_from (pos piece.scale) piece.tip p) piece.axis

@@ -1,5 +1,5 @@
 -- A part of a move, cell k of S that are equally long, by its middle and by what changes on it. Lengths are taken times 2 S.
-use Rattle.std.specs.Prelude.{ℕ, ◌+◌, ◌*◌, ◌≤◌, List, [], ◌∷◌, ℤ, pos, ◌+ℤ◌, ◌*ℤ◌, ◌-ℤ◌, ◌≤ℤ◌, unsigned_abs}
+use Rattle.std.specs.Prelude.{ℕ, ◌+◌, ◌*◌, List, [], ◌∷◌, ℤ, pos, ◌+ℤ◌, ◌*ℤ◌, ◌-ℤ◌, ◌≤ℤ◌, unsigned_abs}
 use Rattle.std.specs.List.{Contains}
 use Rattle.space.specs.Motion.{Motion, axis_at, between, offset_at}
 use Rattle.space.specs.Ranges.{IsBetween}
@@ -58,6 +58,10 @@ pub record IsHeldOn (least most moment : ℤ) (v a : List ℤ) : Type 0 where
   pub above : least ≤ℤ dot v a
   pub below : dot v a ≤ℤ most
   pub beside : dot (cross v a) (cross v a) ≤ℤ (moment *ℤ moment)
+
+-- The same place across the axis: what of its moment is along a side, times the length of the side, is no further from zero than a number.
+abbrev pub IsBeside : List ℤ → ℤ → List ℤ → List ℤ → Type 0
+IsBeside side across v a = pos (unsigned_abs (dot side (cross v a))) ≤ℤ across
 
 -- no component of the vector is further from zero than that of the other
 pub record IsNearer (v limit : List ℤ) : Type 0 where

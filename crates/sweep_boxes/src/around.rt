@@ -6,11 +6,12 @@ ghost use Rattle.bern_form.specs.Slab.{SlabSize};
 ghost use Rattle.cutter_marks.specs.MarkBy.{is_possible_by};
 ghost use Rattle.sweep_boxes.specs.Boxes.{IsInBox};
 ghost use Rattle.sweep_boxes.specs.Cylinders.{IsInCylinder};
-ghost use Rattle.sweep_boxes.specs.Limits.{place_limit, side_limit};
-ghost use Rattle.sweep_boxes.specs.Lines.{IsHeldPlace};
+ghost use Rattle.sweep_boxes.specs.Limits.{aim_limit, place_limit, side_limit};
+ghost use Rattle.sweep_boxes.specs.Lines.{IsBesidePlace, IsHeldPlace};
 ghost use Rattle.sweep_boxes.specs.Made.{IsPieceOf};
 ghost use Rattle.sweep_boxes.specs.Pieces.{AreAsLarge};
 
+use crate::breadth::Breadth;
 use crate::cut::piece_of;
 use crate::cylinder::BoundingCylinder;
 use crate::held::Hold;
@@ -21,6 +22,7 @@ use crate::offsets::offset_from;
 use crate::piece::Piece;
 use crate::point_box::PointBox;
 use crate::size::{Size, size_of};
+use crate::spread::breadth_of;
 use axis_cells::Sweep;
 use cutter_slabs::Stacks;
 
@@ -57,9 +59,23 @@ fn hold_in(piece: &Piece, size: &Size, region: &PointBox) -> Hold
     hold_of(piece, size.widest, size.highest, &low, &high)
 }
 
-/// The cylinder that holds what is held on a piece.
-fn cylinder_about(piece: &Piece, hold: &Hold) -> BoundingCylinder
-    ensures { (p : List ℤ) → IsHeldPlace hold.now piece.now p → IsInCylinder result p }
+/// How far to either side of its way those places are.
+fn breadth_in(piece: &Piece, size: &Size, region: &PointBox) -> Breadth
+    requires widest { unsigned_abs size.now.widest ≤ place_limit }
+    requires low { IsWithin place_limit region.now.low }
+    requires high { IsWithin place_limit region.now.high }
+    ensures { (m : Motion) (k S : ℕ) (slabs : List SlabSize) (p : List ℤ) → IsPieceOf piece.now m k S
+        → AreAsLarge size.now.widest size.now.highest slabs → IsInBox region.now p → is_left_between slabs m p k (k + 1) S ≡ true
+        → IsBesidePlace result piece.now p }
+{
+    let low = offset_from(piece.scale, &piece.tip, &region.low);
+    let high = offset_from(piece.scale, &piece.tip, &region.high);
+    breadth_of(piece, size.widest, &low, &high)
+}
+
+/// The cylinder that holds what is held on a piece, and no further to either side.
+fn cylinder_about(piece: &Piece, hold: &Hold, breadth: &Breadth) -> BoundingCylinder
+    ensures { (p : List ℤ) → IsHeldPlace hold.now piece.now p → IsBesidePlace breadth.now piece.now p → IsInCylinder result p }
 {
     BoundingCylinder {
         scale: piece.scale,
@@ -68,6 +84,8 @@ fn cylinder_about(piece: &Piece, hold: &Hold) -> BoundingCylinder
         least: short(hold.least),
         most: short(hold.most),
         moment: short(hold.moment),
+        side: narrow(&breadth.side),
+        across: short(breadth.across),
     }
 }
 
@@ -83,5 +101,6 @@ pub fn cylinder_of(sweep: &Sweep, stacks: &Stacks, region: &PointBox) -> Boundin
     let near = near_part(&sweep.from, &sweep.to, stacks.reach(), region);
     let piece = piece_of(sweep, 0, 0);
     let closer = narrowed(&piece, size.widest, size.highest, &near);
-    cylinder_about(&piece, &hold_in(&piece, &size, &closer))
+    let hold = hold_in(&piece, &size, &closer);
+    cylinder_about(&piece, &hold, &breadth_in(&piece, &size, &closer))
 }

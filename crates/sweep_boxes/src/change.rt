@@ -9,7 +9,7 @@ use crate::vector::{length_up, product};
 
 /// How far from zero a component of a vector is.
 #[inline]
-fn length_along(v: &[i128; 3], i: usize) -> i128
+pub fn length_along(v: &[i128; 3], i: usize) -> i128
     requires i { i < 3 }
     requires v { unsigned_abs (at v.now i) ≤ 2 * (side_limit * side_limit) }
     ensures { result ≡ pos (unsigned_abs (at v.now i)) }

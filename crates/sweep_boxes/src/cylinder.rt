@@ -1,10 +1,12 @@
 ghost use Rattle.std.specs.Prelude.{◌*◌, ◌≤◌, ◌^◌, ◌≤ℤ◌, pos, unsigned_abs};
 ghost use Rattle.space.specs.Ranges.{IsWithin};
-ghost use Rattle.sweep_boxes.specs.Limits.{place_limit, side_limit};
+ghost use Rattle.sweep_boxes.specs.Limits.{aim_limit, place_limit, side_limit};
 
 /// A cylinder about the tool axis in the middle of a move, wide and high enough that it holds every point of a region at which the move
 /// is possible. The tip and the axis are those in the middle, times `scale`. Of an offset from that tip, times `scale`, the scalar
-/// product with the axis is from `least` to `most`, and the cross product no longer than `moment`.
+/// product with the axis is from `least` to `most`, the cross product is no longer than `moment`, and what of it is along `side`, times
+/// the length of `side`, is no further from zero than `across`: most of the way is along the other two, so it bounds the place more
+/// closely across the way.
 #[derive(Drop)]
 pub struct BoundingCylinder {
     pub scale: u32,
@@ -13,9 +15,13 @@ pub struct BoundingCylinder {
     pub least: i64,
     pub most: i64,
     pub moment: i64,
+    pub side: [i64; 3],
+    pub across: i64,
     ghost scaled: { (1 ≤ scale) × (scale ≤ 128) },
     ghost tip_within: { IsWithin (128 * place_limit) tip },
     ghost axis_within: { IsWithin side_limit axis },
     ghost moment_some: { pos 0 ≤ℤ moment },
     ghost moment_small: { unsigned_abs moment ≤ 3 * 10 ^ 18 },
+    ghost side_within: { IsWithin aim_limit side },
+    ghost across_some: { pos 0 ≤ℤ across },
 }

@@ -16,7 +16,7 @@ use crate::piece::Piece;
 use crate::vector::{cross, dot, root_up, weighted};
 
 /// A length whose square is at least that of another one, taken times a scale, times the axis' square.
-fn radius(scale: u32, length: i32, longest: i128) -> i128
+pub fn radius(scale: u32, length: i32, longest: i128) -> i128
     requires scale { scale ≤ 256 }
     requires length { unsigned_abs length ≤ place_limit }
     requires some { pos 0 ≤ℤ longest }
@@ -31,8 +31,8 @@ fn radius(scale: u32, length: i32, longest: i128) -> i128
 
 /// How far a number is from zero.
 #[inline]
-fn distance(z: i128) -> i128
-    requires { unsigned_abs z ≤ 3 * (side_limit * side_limit) }
+pub fn distance(z: i128) -> i128
+    requires { unsigned_abs z ≤ 48 * (side_limit * side_limit) }
     ensures { result ≡ pos (unsigned_abs z) }
 {
     if z < 0 { -z } else { z }

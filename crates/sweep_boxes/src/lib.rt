@@ -1,8 +1,10 @@
 //! Boxes that hold all points which a part of a move may meet.
 #![tactic(auto)]
 
+mod aim;
 mod around;
 mod boxes;
+mod breadth;
 mod change;
 mod cut;
 mod cylinder;
@@ -16,6 +18,7 @@ mod piece;
 mod point_box;
 mod side;
 mod size;
+mod spread;
 mod vector;
 
 pub use around::cylinder_of;

@@ -22,7 +22,7 @@ fn aside(square: i128, a: i128) -> i128
 
 /// A height times a component of the axis.
 #[inline]
-fn height_along(height: i128, a: i128) -> i128
+pub fn height_along(height: i128, a: i128) -> i128
     requires a { unsigned_abs a ≤ side_limit }
     requires height { unsigned_abs height ≤ 4 * 10 ^ 18 }
     ensures value { result ≡ height *ℤ a }
@@ -74,7 +74,7 @@ fn most_along(least: i128, most: i128, a: i128) -> i128
 
 /// A quotient, rounded towards zero: it is at least each number whose product with the divisor is at most the dividend, and at most
 /// each whose product is at least that.
-fn quotient(dividend: i128, divisor: i128) -> i128
+pub fn quotient(dividend: i128, divisor: i128) -> i128
     requires divisor { pos 1 ≤ℤ divisor }
     ensures last { (p : ℤ) → (p *ℤ divisor) ≤ℤ dividend → p ≤ℤ result }
     ensures first { (p : ℤ) → dividend ≤ℤ (p *ℤ divisor) → result ≤ℤ p }

@@ -1,14 +1,20 @@
-use Rattle.std.proofs.Common.{◌≡◌, ◌*ℤ◌, ℤ, List, pos, FitsSigned, arith, rules, subst, ap, ◌∙◌}
+use Rattle.std.proofs.Common.{◌≡◌, ◌*ℤ◌, ℤ, List, pos, FitsSigned, arith, rules, subst, sym, ap, ◌∙◌}
 use Rattle.std.proofs.lemmas.Int.{ints, to_z-of_z}
 use mir.Syntax.{w32, w64}
 use borrow.Author.Differences.{abs_is}
+use Rattle.space.specs.Ranges.{IsWithin}
+use Rattle.sweep_boxes.specs.Limits.{aim_limit}
 use Rattle.ray_grid.specs.Lattice.{point_at}
 use Rattle.ray_grid.specs.Ranges.{IsGrid}
 use Rattle.near_points.specs.Ready.{offset_of}
+use Rattle.near_points.specs.declared.stance.Stance.{Stance}
 use Rattle.near_points.specs.Stances.{IsStance}
 use Rattle.near_points.specs.Turned.{turned, way_across, way_along}
-use Rattle.near_points.proofs.Turning.{has_first, step_by}
+use Rattle.near_points.proofs.Turning.{has_first, step_by, turned_within}
 use Rattle.near_points.proofs.strip.NearStrip.new.Goals as goal
+
+stance_by : (s : Stance) {v w a b d e : List ℤ} → v ≡ w → a ≡ b → d ≡ e → IsStance s v a d → IsStance s w b e
+stance_by s {v} {w} {a} {b} {d} {e} h k l is = subst (λ (z : List ℤ). IsStance s w b z) l (subst (λ (z : List ℤ). IsStance s w z d) k (subst (λ (z : List ℤ). IsStance s z a d) h is))
 
 pub point-point-requires-clause-point : goal.point-point-requires-clause-point
 point-point-requires-clause-point c = has_first c.args.grid.now c.args.family (subst IsGrid c.grid.view_is c.grid.invariant)
@@ -26,6 +32,18 @@ scaled-requires-2-clause-place c =
     let f : FitsSigned w32 g.step = omega (arith, ints, from, to, high) in
     omega (arith, ints, from, to, high, abs_is g.step)
 
+pub of_offset-along-requires-clause-side : goal.of_offset-along-requires-clause-side
+of_offset-along-requires-clause-side c =
+    subst (IsWithin aim_limit) (sym c.turned-side.ensures.value) (turned_within c.args.family aim_limit c.args.cylinder.now.side c.args.cylinder.now.side_within)
+
+pub of_offset-requires-clause-side : goal.of_offset-requires-clause-side
+of_offset-requires-clause-side c =
+    subst (IsWithin aim_limit) (sym c.turned-side.ensures.value) (turned_within c.args.family aim_limit c.args.cylinder.now.side c.args.cylinder.now.side_within)
+
+pub of_offset-requires-2-clause-side : goal.of_offset-requires-2-clause-side
+of_offset-requires-2-clause-side c =
+    subst (IsWithin aim_limit) (sym c.turned-side.ensures.value) (turned_within c.args.family aim_limit c.args.cylinder.now.side c.args.cylinder.now.side_within)
+
 pub invariant_of-result : goal.invariant_of-result
 invariant_of-result c =
     let g = c.grid.inside in let n = c.args.grid.now in let cylinder = c.args.cylinder.now in let f = c.args.family in let i = c.args.i in
@@ -41,13 +59,14 @@ invariant_of-result c =
     let pitch : c.scaled.result ≡ pos cylinder.scale *ℤ n.pitch = (simp to_z-of_z at c.scaled.ensures.value) ∙ ap (λ z. pos cylinder.scale *ℤ z.pitch) c.grid.view_is in
     let step : c.scaled-2.result ≡ pos cylinder.scale *ℤ n.step = (simp to_z-of_z at c.scaled-2.ensures.value) ∙ ap (λ z. pos cylinder.scale *ℤ z.step) c.grid.view_is in
     let across : c.way_across-across.result ≡ way_across f (pos cylinder.scale *ℤ n.pitch) = (simp to_z-of_z at c.way_across-across.ensures.value) ∙ ap (way_across f) pitch in
-    let along : IsStance c.of_offset-along.result (way_along c.scaled-2.result) c.turned-axis.result = simp to_z-of_z at c.of_offset-along.ensures in
+    let side = c.turned-side.ensures.value in let d = turned f cylinder.side in
+    let along : IsStance c.of_offset-along.result (way_along c.scaled-2.result) c.turned-axis.result c.turned-side.result = simp to_z-of_z at c.of_offset-along.ensures in
     record {
       sized = subst IsGrid c.grid.view_is c.grid.invariant;
       first = c.requires;
-      start_is = subst (λ (a : List ℤ). IsStance c.of_offset.result (turned f (offset_of cylinder (point_at n f i 0 0))) a) axis (subst (λ (v : List ℤ). IsStance c.of_offset.result v c.turned-axis.result) first c.of_offset.ensures);
-      across_is = subst (λ (a : List ℤ). IsStance c.of_offset-2.result (way_across f (pos cylinder.scale *ℤ n.pitch)) a) axis (subst (λ (v : List ℤ). IsStance c.of_offset-2.result v c.turned-axis.result) across c.of_offset-2.ensures);
-      step_is = step_by c.of_stance.result c.of_offset-along.result (way_along (pos cylinder.scale *ℤ n.step)) (turned f cylinder.axis) c.of_stance.ensures
-          (subst (λ (a : List ℤ). IsStance c.of_offset-along.result (way_along (pos cylinder.scale *ℤ n.step)) a) axis (subst (λ (z : ℤ). IsStance c.of_offset-along.result (way_along z) c.turned-axis.result) step along));
+      start_is = stance_by c.of_offset.result first axis side c.of_offset.ensures;
+      across_is = stance_by c.of_offset-2.result across axis side c.of_offset-2.ensures;
+      step_is = step_by c.of_stance.result c.of_offset-along.result (way_along (pos cylinder.scale *ℤ n.step)) (turned f cylinder.axis) d c.of_stance.ensures
+          (stance_by c.of_offset-along.result (ap way_along step) axis side along);
       hold_is = c.of_cylinder.ensures;
     }

@@ -1,13 +1,14 @@
 use Rattle.std.specs.Prelude.{◌≡◌, ℕ, ◌+◌, ◌-◌, ◌<◌, ◌≤◌, pos, false}
-use Rattle.near_points.specs.Lines.{height_at, is_high_after}
-use Rattle.near_points.proofs.scan.first_high.Given as goal
+use Rattle.near_points.specs.Lines.{height_at, is_amid_after, side_at}
+use Rattle.near_points.proofs.scan.first_amid.Given as goal
 
 abbrev pub invariant-loop-at : goal.invariant-loop-at
 invariant-loop-at l = record {
   from : l.l ≤ l.at;
   to : l.at ≤ l.m + 1;
   height_is : l.height ≡ height_at l.first l.step (pos l.at);
-  ahead : (x : ℕ) → l.l ≤ x → x < l.at → is_high_after l.hold l.first l.step (pos x) ≡ false;
+  side_is : l.side ≡ side_at l.first l.step (pos l.at);
+  ahead : (x : ℕ) → l.l ≤ x → x < l.at → is_amid_after l.hold l.first l.step (pos x) ≡ false;
 }
 
 abbrev pub decreases-loop-at : goal.decreases-loop-at

@@ -1,0 +1,182 @@
+-- How far to either side of a piece's way each place is that some slab is left of.
+use Rattle.std.proofs.Common.{◌≡◌, true, ℕ, zero, suc, ◌+◌, ◌*◌, ◌≤◌, ◌<◌, List, [], ◌∷◌, ℤ, pos, ◌+ℤ◌, ◌*ℤ◌, ◌≤ℤ◌, unsigned_abs, inr, ⊎_elim, arith, refl, sym, subst, ◌∙◌}
+use Rattle.std.proofs.lemmas.Int.{ints}
+use Rattle.std.proofs.lemmas.Bool.{cases_lt}
+use borrow.Author.Differences.{abs_is}
+use Rattle.space.specs.Motion.{Motion, axis_at, offset_at}
+use Rattle.space.specs.Vectors.{at, dot}
+use Rattle.space.proofs.Naturals.{abs_add, abs_mul, dot_natural, square_not_negative}
+use Rattle.space.proofs.Solver.{Term, var, num, add, mul, ring}
+use Rattle.space.proofs.Terms.{dots, from, sub}
+use Rattle.bern_form.specs.Between.{is_left_between}
+use Rattle.bern_form.specs.Cells.{dot_on_cell, scaled_square}
+use Rattle.bern_form.specs.Slab.{SlabSize}
+use Rattle.bern_form.proofs.Finer.{ExcludedWith}
+use Rattle.sweep_boxes.specs.declared.piece.Piece.{Piece}
+use Rattle.sweep_boxes.specs.Held.{IsSpread}
+use Rattle.sweep_boxes.specs.Made.{IsPieceOf}
+use Rattle.sweep_boxes.specs.Pieces.{AreAsLarge, IsBeside, IsNearer, middle_axis, middle_offset, moment_change}
+use Rattle.sweep_boxes.specs.Vectors.{cross, difference, sum}
+use Rattle.sweep_boxes.proofs.Across.{all_far_along}
+use Rattle.sweep_boxes.proofs.Kept.{some_left, under_of}
+use Rattle.sweep_boxes.proofs.Motions.{axes_step, axes_sum, offsets_step, offsets_sum}
+use Rattle.sweep_boxes.proofs.Numbers.{most_or_more}
+use Rattle.sweep_boxes.proofs.Pieces.{IsUnder, beside_by}
+use Rattle.sweep_boxes.proofs.Triangle.{square_of_abs}
+
+-- the numbers of a place, by the offset and the axis in the middle, the shift and the turn
+pub record AlongSide (v x d e side : List ℤ) (r y m n t q s : ℕ) : Type 0 where
+  pub root : (dot side side *ℤ pos (r * r + y)) ≤ℤ pos (t * t)
+  pub spare : (m + 2 * n) * (m + 2 * n) ≤ 3 * y
+  pub change : dot (moment_change v x d e) (moment_change v x d e) ≤ℤ pos (m * m)
+  pub bend : dot (cross d e) (cross d e) ≤ℤ pos (n * n)
+  pub swing : unsigned_abs (dot side (moment_change v x d e)) ≤ q
+  pub bow : unsigned_abs (dot side (cross d e)) ≤ s
+
+along_by : (p q a c side : List ℤ) (S : ℕ) (slab : SlabSize) (r y m n t w s : ℕ) → IsUnder (scaled_square S slab.dia) a c r
+    → ¬ ExcludedWith slab S (dot_on_cell p q a c) (dot_on_cell a c a c) (dot_on_cell p q p q)
+    → AlongSide (sum p q) (sum a c) (difference q p) (difference c a) side r y m n t w s → unsigned_abs (dot side (cross (sum p q) (sum a c))) ≤ t + (w + s)
+along_by p q a c side S slab r y m n t w s under left z =
+    let P = sum p q in let A = sum a c in let D = difference q p in let E = difference c a in
+    ⊎_elim
+    (λ (far : t + (w + s) < unsigned_abs (dot side (cross P A))).
+    absurd (left (inr (inr (inr (beside_by p q a c (scaled_square S slab.dia) r under (all_far_along side (cross P A) (moment_change P A D E) (cross D E) r y m n t w s record {
+      root = z.root;
+      spare = z.spare;
+      change = z.change;
+      bend = z.bend;
+      swing = z.swing;
+      bow = z.bow;
+      far = far;
+    })))))))
+    (λ near. near) (cases_lt (t + (w + s)) (unsigned_abs (dot side (cross P A))))
+
+along_with : (p q a c v x d e side : List ℤ) (S : ℕ) (slab : SlabSize) (r y m n t w s : ℕ) → sum p q ≡ v → sum a c ≡ x → difference q p ≡ d → difference c a ≡ e
+    → IsUnder (scaled_square S slab.dia) a c r → ¬ ExcludedWith slab S (dot_on_cell p q a c) (dot_on_cell a c a c) (dot_on_cell p q p q)
+    → AlongSide v x d e side r y m n t w s → unsigned_abs (dot side (cross v x)) ≤ t + (w + s)
+along_with p q a c v x d e side S slab r y m n t w s ev ex ed ee under left =
+    let held : List ℤ → List ℤ → List ℤ → List ℤ → Type 0 = λ v x d e. AlongSide v x d e side r y m n t w s → unsigned_abs (dot side (cross v x)) ≤ t + (w + s) in
+    subst (λ (z : List ℤ). held z x d e) ev (subst (λ (z : List ℤ). held (sum p q) z d e) ex (subst (λ (z : List ℤ). held (sum p q) (sum a c) z e) ed
+    (subst (λ (z : List ℤ). held (sum p q) (sum a c) (difference q p) z) ee (along_by p q a c side S slab r y m n t w s under left))))
+
+pub beside_on : (piece : Piece) (m : Motion) (k S : ℕ) (slabs : List SlabSize) (p : List ℤ) (widest highest across : ℤ) (side far : List ℤ)
+    → IsPieceOf piece m k S → AreAsLarge widest highest slabs → is_left_between slabs m p k (k + 1) S ≡ true → IsNearer (middle_offset m p k S) far
+    → (g : IsSpread across side piece widest far) → unsigned_abs (dot side (cross (middle_offset m p k S) (middle_axis m k S))) ≤ g.t + (g.q + g.s)
+beside_on piece m k S slabs p widest highest across side far of large left near g =
+    let one = some_left slabs m p k (k + 1) S left in
+    let size = large one.slab one.among in
+    let P = offset_at m p (pos k) (pos S) in let Q = offset_at m p (pos (k + 1)) (pos S) in let A = axis_at m (pos k) (pos S) in let C = axis_at m (pos (k + 1)) (pos S) in
+    let v = middle_offset m p k S in
+    let under : IsUnder (scaled_square S one.slab.dia) A C g.r = record {
+      some = square_not_negative (pos S *ℤ one.slab.dia);
+      first = under_of piece.scale S one.slab.dia widest piece.longest (dot A A) (pos (g.r * g.r)) of.scale size.thick size.width (dot_natural A) of.first g.wide;
+      last = under_of piece.scale S one.slab.dia widest piece.longest (dot C C) (pos (g.r * g.r)) of.scale size.thick size.width (dot_natural C) of.last g.wide;
+    } in
+    subst (λ (a : List ℤ). unsigned_abs (dot side (cross v a)) ≤ g.t + (g.q + g.s)) of.axis
+    (along_with P Q A C v piece.axis piece.shift piece.turn side S one.slab g.r g.e g.m g.n g.t g.q g.s (offsets_sum m p k S) (axes_sum m k S ∙ sym of.axis) (offsets_step m p k S ∙ sym of.shift) (axes_step m k S ∙ sym of.turn)
+    under one.left record { root = g.root; spare = g.spare; change = g.change v near; bend = g.bend; swing = g.swing v near; bow = g.bow })
+
+-- a third of a number, rounded up
+pub third_up : (q n : ℤ) → ((p : ℤ) → (p *ℤ pos 3) ≤ℤ n → p ≤ℤ q) → n ≤ℤ (pos 3 *ℤ (q +ℤ pos 1))
+third_up q n last = ⊎_elim (λ most. most) (λ more. absurd (one_less q (last (q +ℤ pos 1) (omega (arith, ints, more))))) (most_or_more n (pos 3 *ℤ (q +ℤ pos 1))) where
+  one_less : (q : ℤ) → (q +ℤ pos 1) ≤ℤ q → ⊥
+  one_less q h = omega (arith, ints, h)
+
+-- by how far from zero the components are
+pub reach_below : (p far w : List ℤ) → IsNearer p far
+    → unsigned_abs (dot p w) ≤ (unsigned_abs (at far 0) * unsigned_abs (at w 0) + unsigned_abs (at far 1) * unsigned_abs (at w 1)) + unsigned_abs (at far 2) * unsigned_abs (at w 2)
+reach_below p far w near =
+    let x = abs_mul (at p 0) (at w 0) (unsigned_abs (at far 0)) (unsigned_abs (at w 0)) (nearer (at p 0) (at far 0) near.x) (omega arith) in
+    let y = abs_mul (at p 1) (at w 1) (unsigned_abs (at far 1)) (unsigned_abs (at w 1)) (nearer (at p 1) (at far 1) near.y) (omega arith) in
+    let z = abs_mul (at p 2) (at w 2) (unsigned_abs (at far 2)) (unsigned_abs (at w 2)) (nearer (at p 2) (at far 2) near.z) (omega arith) in
+    omega (arith, x, y, z, abs_add (at p 0 *ℤ at w 0) (at p 1 *ℤ at w 1), abs_add (at p 0 *ℤ at w 0 +ℤ at p 1 *ℤ at w 1) (at p 2 *ℤ at w 2)) where
+      nearer : (x f : ℤ) → pos (unsigned_abs x) ≤ℤ f → unsigned_abs x ≤ unsigned_abs f
+      nearer x f h = omega (arith, ints, h, abs_is f)
+
+-- what a moment's change has along the side
+abbrev crossed : (ℕ → Term) → (ℕ → Term) → ℕ → Term
+crossed p a zero = sub (mul (p 1) (a 2)) (mul (p 2) (a 1))
+crossed p a (suc zero) = sub (mul (p 2) (a 0)) (mul (p 0) (a 2))
+crossed p a (suc (suc k)) = sub (mul (p 0) (a 1)) (mul (p 1) (a 0))
+
+swing_is : (side d v e : List ℤ) → dot side (sum d (cross v e)) ≡ dot side d +ℤ dot v (cross e side)
+swing_is side d v e =
+    ring (at side 0 ∷ at side 1 ∷ at side 2 ∷ at d 0 ∷ at d 1 ∷ at d 2 ∷ at v 0 ∷ at v 1 ∷ at v 2 ∷ at e 0 ∷ at e 1 ∷ at e 2 ∷ [])
+    (dots (from 0) (λ k. add (from 3 k) (crossed (from 6) (from 9) k))) (add (dots (from 0) (from 3)) (dots (from 6) (crossed (from 9) (from 0)))) refl
+
+swing_below : (w x y s t : ℤ) → w ≡ x +ℤ y → s ≡ pos (unsigned_abs x) → pos (unsigned_abs y) ≤ℤ t → unsigned_abs w ≤ unsigned_abs (s +ℤ t)
+swing_below w x y s t is e h = omega (arith, ints, is, e, h, abs_is w, abs_is x, abs_is y, abs_is (s +ℤ t))
+
+total_of : (across reach share far bow : ℤ) (x y : ℤ) → across ≡ reach +ℤ ((share +ℤ far) +ℤ bow) → pos 0 ≤ℤ reach → share ≡ pos (unsigned_abs x) → pos 0 ≤ℤ far → bow ≡ pos (unsigned_abs y)
+    → across ≡ pos (unsigned_abs reach + (unsigned_abs (share +ℤ far) + unsigned_abs y))
+total_of across reach share far bow x y is some e more f = omega (arith, ints, is, some, e, more, f, abs_is reach, abs_is (share +ℤ far))
+
+spare_of : (spare change bent third : ℤ) → spare ≡ change +ℤ (bent +ℤ bent) → pos 0 ≤ℤ change → pos 0 ≤ℤ bent → pos 0 ≤ℤ third → (spare *ℤ spare) ≤ℤ (pos 3 *ℤ third)
+    → (unsigned_abs change + 2 * unsigned_abs bent) * (unsigned_abs change + 2 * unsigned_abs bent) ≤ 3 * unsigned_abs third
+spare_of spare change bent third is c b t h =
+    let e : spare ≡ pos (unsigned_abs change + 2 * unsigned_abs bent) = omega (arith, ints, is, c, b, abs_is change, abs_is bent) in
+    natural_of (unsigned_abs change + 2 * unsigned_abs bent) third t (subst (λ (z : ℤ). (z *ℤ z) ≤ℤ (pos 3 *ℤ third)) e h) where
+      natural_of : (k : ℕ) (third : ℤ) → pos 0 ≤ℤ third → (pos k *ℤ pos k) ≤ℤ (pos 3 *ℤ third) → k * k ≤ 3 * unsigned_abs third
+      natural_of k third t h = omega (arith, ints, t, h, abs_is third)
+
+root_by : (square half third reach : ℤ) → pos 0 ≤ℤ third → (square *ℤ (half *ℤ half +ℤ third)) ≤ℤ (reach *ℤ reach)
+    → (square *ℤ pos (unsigned_abs half * unsigned_abs half + unsigned_abs third)) ≤ℤ pos (unsigned_abs reach * unsigned_abs reach)
+root_by square half third reach t h =
+    let e : half *ℤ half +ℤ third ≡ pos (unsigned_abs half * unsigned_abs half + unsigned_abs third) = omega (arith, ints, t, square_of_abs half, abs_is third) in
+    subst (λ (z : ℤ). (square *ℤ z) ≤ℤ pos (unsigned_abs reach * unsigned_abs reach)) e (subst (λ (z : ℤ). (square *ℤ (half *ℤ half +ℤ third)) ≤ℤ z) (sym (square_of_abs reach)) h)
+
+-- the numbers of a piece, from what their reckoning gives
+pub record Reckoned (across half change bent spare third reach share reached bow : ℤ) (piece : Piece) (widest : ℤ) (side far turn drift bend around : List ℤ) : Type 0 where
+  pub across_is : across ≡ reach +ℤ ((share +ℤ reached) +ℤ bow)
+  pub change_some : pos 0 ≤ℤ change
+  pub bent_some : pos 0 ≤ℤ bent
+  pub third_some : pos 0 ≤ℤ third
+  pub reach_some : pos 0 ≤ℤ reach
+  pub reached_some : pos 0 ≤ℤ reached
+  pub drift_is : drift ≡ cross piece.shift piece.axis
+  pub bend_is : bend ≡ cross piece.shift piece.turn
+  pub around_is : around ≡ cross piece.turn side
+  pub near : IsNearer piece.turn turn
+  pub wide : (((pos piece.scale *ℤ widest) *ℤ (pos piece.scale *ℤ widest)) *ℤ piece.longest) ≤ℤ (half *ℤ half)
+  pub changes : (v e : List ℤ) → IsNearer v far → IsNearer e turn → dot (sum drift (cross v e)) (sum drift (cross v e)) ≤ℤ (change *ℤ change)
+  pub bends : dot bend bend ≤ℤ (bent *ℤ bent)
+  pub spare_is : spare ≡ change +ℤ (bent +ℤ bent)
+  pub thirds : (spare *ℤ spare) ≤ℤ (pos 3 *ℤ third)
+  pub root : (dot side side *ℤ (half *ℤ half +ℤ third)) ≤ℤ (reach *ℤ reach)
+  pub share_is : share ≡ pos (unsigned_abs (dot side drift))
+  pub reaches : (p : List ℤ) → IsNearer p far → pos (unsigned_abs (dot p around)) ≤ℤ reached
+  pub bow_is : bow ≡ pos (unsigned_abs (dot side bend))
+
+pub spread_by : (across half change bent spare third reach share reached bow : ℤ) (piece : Piece) (widest : ℤ) (side far turn drift bend around : List ℤ)
+    → Reckoned across half change bent spare third reach share reached bow piece widest side far turn drift bend around → IsSpread across side piece widest far
+spread_by across half change bent spare third reach share reached bow piece widest side far turn drift bend around h = record {
+  r = unsigned_abs half;
+  m = unsigned_abs change;
+  n = unsigned_abs bent;
+  e = unsigned_abs third;
+  t = unsigned_abs reach;
+  q = unsigned_abs (share +ℤ reached);
+  s = unsigned_abs (dot side bend);
+  across_is = total_of across reach share reached bow (dot side drift) (dot side bend) h.across_is h.reach_some h.share_is h.reached_some h.bow_is;
+  wide = subst (λ (z : ℤ). (((pos piece.scale *ℤ widest) *ℤ (pos piece.scale *ℤ widest)) *ℤ piece.longest) ≤ℤ z) (sym (square_of_abs half)) h.wide;
+  change = λ v nearer.
+      subst (λ (z : ℤ). dot (moment_change v piece.axis piece.shift piece.turn) (moment_change v piece.axis piece.shift piece.turn) ≤ℤ z) (sym (square_of_abs change))
+      (subst (λ (d : List ℤ). dot (sum d (cross v piece.turn)) (sum d (cross v piece.turn)) ≤ℤ (change *ℤ change)) h.drift_is (h.changes v piece.turn nearer h.near));
+  bend = subst (λ (z : ℤ). dot (cross piece.shift piece.turn) (cross piece.shift piece.turn) ≤ℤ z) (sym (square_of_abs bent))
+      (subst (λ (d : List ℤ). dot d d ≤ℤ (bent *ℤ bent)) h.bend_is h.bends);
+  spare = spare_of spare change bent third h.spare_is h.change_some h.bent_some h.third_some h.thirds;
+  root = root_by (dot side side) half third reach h.third_some h.root;
+  swing = λ v nearer.
+      subst (λ (d : List ℤ). unsigned_abs (dot side (sum d (cross v piece.turn))) ≤ unsigned_abs (share +ℤ reached)) h.drift_is
+      (swing_below (dot side (sum drift (cross v piece.turn))) (dot side drift) (dot v (cross piece.turn side)) share reached (swing_is side drift v piece.turn) h.share_is
+      (subst (λ (w : List ℤ). pos (unsigned_abs (dot v w)) ≤ℤ reached) h.around_is (h.reaches v nearer)));
+  bow = subst (λ (d : List ℤ). unsigned_abs (dot side d) ≤ unsigned_abs (dot side bend)) h.bend_is (omega arith);
+}
+
+-- along no side there is nothing
+pub along_none : (v a : List ℤ) → IsBeside (pos 0 ∷ pos 0 ∷ pos 0 ∷ []) (pos 0) v a
+along_none v a = none (at (cross v a) 0) (at (cross v a) 1) (at (cross v a) 2) where
+  none : (x y z : ℤ) → pos (unsigned_abs ((pos 0 *ℤ x +ℤ pos 0 *ℤ y) +ℤ pos 0 *ℤ z)) ≤ℤ pos 0
+  none x y z =
+      let e : (pos 0 *ℤ x +ℤ pos 0 *ℤ y) +ℤ pos 0 *ℤ z ≡ pos 0 = ring (x ∷ y ∷ z ∷ []) (add (add (mul (num (pos 0)) (var 0)) (mul (num (pos 0)) (var 1))) (mul (num (pos 0)) (var 2))) (num (pos 0)) refl in
+      subst (λ (w : ℤ). pos (unsigned_abs w) ≤ℤ pos 0) (sym e) (omega (arith, ints))
