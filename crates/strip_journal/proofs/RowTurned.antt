@@ -1,5 +1,5 @@
 -- A change is taken away from one of the rays, or given to it, and the table of the wanted words tells of the rays after it too.
-use Rattle.std.proofs.Common.{◌≡◌, ◌≢◌, ℕ, ◌+◌, ◌*◌, ◌/◌, ◌<◌, Bool, true, false, not, ◌&&◌, ◌||◌, List, [], ◌∷◌, ◌++◌, length, set, arith, refl, sym, ap, ◌∙◌, subst, ⊎_elim}
+use Rattle.std.proofs.Common.{◌≡◌, ◌≢◌, ℕ, ◌+◌, ◌*◌, ◌/◌, ◌<◌, Bool, true, false, not, ◌||◌, List, [], ◌∷◌, ◌++◌, length, set, arith, refl, sym, ap, ◌∙◌, subst, ⊎_elim}
 use Rattle.std.proofs.lemmas.Bool.{cases_eq}
 use Rattle.std.proofs.lemmas.List.{get_or-set_other, get_or-set_same, length-set}
 use Rattle.vf_spans.specs.Members.{has}
@@ -98,23 +98,6 @@ turned_more before mid after changes change is_undo t row = record {
       (λ (other : n ≢ change.ray).
       ray_left (kept_of mid n) (kept_of after n) change n is_undo (row.others n other) (λ e. other (sym e)))
       (cases_eq n change.ray));
-}
-
--- the rays before any change
-pub turned_none : (rays : List KeptSets) (is_undo : Bool) → AreRaysTurned rays rays [] is_undo
-turned_none rays is_undo = record {
-  many = refl;
-  each = λ n low. record {
-    stock = refl;
-    part = refl;
-    fixture = refl;
-    sure_bound = refl;
-    possible_bound = refl;
-    sure = λ l. sym (was_same (not is_undo) (has (sets_of rays n).sure l));
-    possible = λ l. sym (was_same (not is_undo) (has (sets_of rays n).possible l));
-    first = refl;
-    count = refl;
-  };
 }
 
 -- the change's ray is written in its place

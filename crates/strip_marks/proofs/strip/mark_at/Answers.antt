@@ -1,4 +1,4 @@
-use Rattle.std.proofs.Common.{arith, sym, ◌∙◌, subst}
+use Rattle.std.proofs.Common.{sym, ◌∙◌, subst}
 use Rattle.near_points.specs.Rays.{near_ray_at}
 use Rattle.wanted_marks.specs.Rays.{RayOf}
 use Rattle.strip_marks.specs.RayMarks.{IsNearOf, IsWindow}

@@ -1,5 +1,5 @@
 -- With fresh rays and nothing of edits it is a journal of its job.
-use Rattle.std.proofs.Common.{◌<◌, ◌≤◌, ◌^◌, List, length, arith, refl, sym, ap, ◌∙◌, subst}
+use Rattle.std.proofs.Common.{◌≤◌, List, length, arith, refl, sym, ap, ◌∙◌, subst}
 use Rattle.ray_grid.specs.Grids.{GridSize}
 use Rattle.ray_grid.specs.Ranges.{IsGrid}
 use Rattle.ray_grid.specs.Strips.{strip_at}
