@@ -16,5 +16,4 @@ pub mod Running
 pub mod OnRuns
 pub mod Peaking
 pub mod Outside
-pub mod Narrowing
 pub mod Opening

@@ -14,7 +14,7 @@ use Rattle.bern_form.specs.Between.{n_between, u_between}
 use Rattle.bern_form.specs.Forms.{IsSmall}
 use Rattle.bern_form.specs.Sizes.{IsBounded2, axis_limit, offset_limit, scale_limit}
 use Rattle.bern_form.proofs.Sizes.{axis_within, offset_within, small_as}
-use Rattle.axis_cells.proofs.Bounds.{between_fits, cross_bounded, list2}
+use Rattle.axis_cells.proofs.Bounds.{between_fits, cross_bounded}
 use Rattle.ray_runs.specs.Moments.{moment, vector_sum}
 use Rattle.ray_runs.specs.Sizes.{part_limit, turn_limit}
 use Rattle.ray_runs.proofs.Fits.{minor_small, two_small}

@@ -13,7 +13,6 @@ use Rattle.ray_runs.proofs.Lagrange.{lagrange_at, less_squares}
 use Rattle.wanted_marks.specs.declared.line.Line.{Line}
 use Rattle.ray_runs.specs.declared.moments.Moments.{Moments}
 use Rattle.wanted_marks.specs.declared.sheet.Sheet.{Sheet}
-use Rattle.wanted_marks.specs.Starts.{IsStart}
 use Rattle.wanted_marks.specs.Lines.{HasForms, IsThrough, d_step, u_step}
 use Rattle.wanted_marks.specs.Sheets.{AreMoments, IsLineOn, IsSheet, end_at, first_at, middle_at, own_product, start_at}
 use Rattle.wanted_marks.specs.Ways.{IsAlong, scaled_vector, scaled_way}
@@ -168,35 +167,6 @@ turn_is m S first last n ef el en =
       first_is = f;
       last_is = l;
       n_is = en ∙ ap₂ (λ x y. dot_on_cell x y x y) f l;
-    }
-
--- a start by its parts
-pub start_is : (from to u width : List ℤ) (m : Motion) (p : List ℤ) (S : ℕ) (A C n d : List ℤ) → IsTurn A C n m S → from ≡ scaled_way (pos S) m.from p → to ≡ scaled_way (pos S) m.to p
-    → u ≡ dot_on_cell from to A C → d ≡ dot_on_cell from to from to
-    → width ≡ spread_form (pos 4) d n u u → IsStart from to u width m p S
-start_is from to u width m p S A C n d turn ef et eu ed ew =
-    let s = pos S in let f = ef ∙ first_offset m p s in let t = et ∙ last_offset m p s in
-    let U : u ≡ u_between m p 0 S S = eu ∙ ap₂ (λ x y. dot_on_cell x y A C) f t ∙ ap₂ (λ x y. dot_on_cell (offset_at m p (pos 0) s) (offset_at m p s s) x y) turn.first_is turn.last_is in
-    let D : d ≡ d_between m p 0 S S = ed ∙ ap₂ (λ x y. dot_on_cell x y x y) f t in record {
-      from_is = f;
-      to_is = t;
-      height_is = U;
-      width_is = ew ∙ ap₂ (λ x y. spread_form (pos 4) x y u u) D turn.n_is ∙ ap (λ x. spread_form (pos 4) (d_between m p 0 S S) (n_between m 0 S S) x x) U;
-    }
-
--- a line by its parts
-pub through_is : (line : Line) (from to u width : List ℤ) (m : Motion) (p v : List ℤ) (S : ℕ) (A C n w f g : List ℤ) → IsStart from to u width m p S → IsTurn A C n m S
-    → w ≡ dot_on_cell v v A C → f ≡ dot_on_cell from to v v → g ≡ dot_on_cell v v v v → line.constant.c ≡ width
-    → line.first.c ≡ spread_form (pos 8) f n u w → line.second.c ≡ spread_form (pos 4) g n w w → line.height ≡ u → line.height_step ≡ w → IsThrough line m p v S
-through_is line from to u width m p v S A C n w f g is turn ew ef eg e0 e1 e2 e3 e4 =
-    let W : w ≡ u_step m v S = ew ∙ ap₂ (λ x y. dot_on_cell v v x y) turn.first_is turn.last_is in
-    let F : f ≡ d_step m p v S = ef ∙ ap₂ (λ x y. dot_on_cell x y v v) is.from_is is.to_is in
-    let N = turn.n_is in record {
-      constant_is = e0 ∙ is.width_is;
-      first_is = e1 ∙ ap₂ (λ x y. spread_form (pos 8) x y u w) F N ∙ ap₂ (λ x y. spread_form (pos 8) (d_step m p v S) (n_between m 0 S S) x y) is.height_is W;
-      second_is = e2 ∙ ap₂ (λ x y. spread_form (pos 4) x y w w) eg N ∙ ap (λ x. spread_form (pos 4) (dot_on_cell v v v v) (n_between m 0 S S) x x) W;
-      height_is = e3 ∙ is.height_is;
-      height_step_is = e4 ∙ W;
     }
 
 -- the forms of the point l steps on

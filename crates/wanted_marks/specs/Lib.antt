@@ -8,7 +8,6 @@ pub mod Nears
 pub mod Runs
 pub mod Peaks
 pub mod Parts
-pub mod Starts
 pub mod Sheets
 pub mod Limits
 pub mod Ready

@@ -1,40 +1,24 @@
-ghost use Rattle.std.specs.Prelude.{◌≡◌, ℕ, ◌*◌, ◌<◌, ◌≤◌, ℤ, List, pos, ◌+ℤ◌, ◌*ℤ◌, int_lt, unsigned_abs};
+ghost use Rattle.std.specs.Prelude.{◌≡◌, ◌*◌, ◌<◌, ◌≤◌, ℤ, pos, ◌+ℤ◌, ◌*ℤ◌, int_lt, unsigned_abs};
 ghost use Rattle.std.specs.Int.{int_wrap};
 ghost use mir.Syntax.{w128};
-ghost use Rattle.space.specs.Motion.{Motion};
-ghost use Rattle.space.specs.Ranges.{IsPoint, IsWithin};
+ghost use Rattle.space.specs.Ranges.{IsPoint};
 ghost use Rattle.space.specs.Vectors.{at};
 ghost use Rattle.bern_form.specs.Forms.{IsSmall, all_negative, all_positive, difference4, scaled4};
-ghost use Rattle.bern_form.specs.Sizes.{IsBounded2, axis_limit, offset_limit, scale_limit};
+ghost use Rattle.bern_form.specs.Sizes.{scale_limit};
 ghost use Rattle.ray_runs.specs.Sizes.{turn_limit};
 ghost use Rattle.wanted_marks.specs.Ways.{scaled_way};
-ghost use Rattle.wanted_marks.specs.Starts.{IsStart};
 ghost use Rattle.wanted_marks.specs.Lines.{FitsAt, IsThrough, coefficient_at, height_at, heights_at, width_at};
 ghost use Rattle.wanted_marks.specs.Peaks.{IsPeak};
-ghost use Rattle.wanted_marks.specs.Widths.{IsTurn, quadratic, spread_form};
+ghost use Rattle.wanted_marks.specs.Widths.{IsTurn, quadratic};
 
-use crate::moments::linear;
-use crate::narrow::times_narrow;
+use crate::moments::{eight_products, linear};
 use crate::peak::peak_of;
 use crate::scaled::scaled_way;
-use crate::start::Start;
 use crate::turn::Turn;
-use axis_cells::{Sweep, scalar_product_on_cell};
-use bern_form::{Form2, Form4, minus4, scale4, times22};
-use ray_runs::heights;
+use axis_cells::Sweep;
+use bern_form::Form4;
+use ray_runs::{Moments, heights};
 use width_bisect::product;
-
-/// A multiple of d n - u v.
-pub fn spread_form(d: &Form2, n: &Form2, u: &Form2, v: &Form2, by: i128) -> Form4
-    requires d { IsBounded2 (3 * (offset_limit * offset_limit)) d.now.c }
-    requires n { IsBounded2 (3 * (axis_limit * axis_limit)) n.now.c }
-    requires u { IsBounded2 (3 * (offset_limit * axis_limit)) u.now.c }
-    requires v { IsBounded2 (3 * (offset_limit * axis_limit)) v.now.c }
-    requires by { unsigned_abs by ≤ 8 }
-    ensures { result.c ≡ spread_form by d.now.c n.now.c u.now.c v.now.c }
-{
-    scale4(&minus4(&times22(d, n), &times_narrow(u, v)), by)
-}
 
 /// a + l x, or what is left of it in 128 bits.
 #[inline]
@@ -66,8 +50,8 @@ pub struct Line {
 }
 
 impl Line {
-    /// The line through two points. Along it the offset from the tip grows by the same vector w with each step, so u by w.a
-    /// and d by 2 p.w, and |w|^2 with the square.
+    /// The line through two points. Along it the offset from the tip grows by the same vector w with each step, so u by w.a and the
+    /// moment by w x a.
     pub fn through(
         start: &[i32; 3],
         next: &[i32; 3],
@@ -81,25 +65,23 @@ impl Line {
         requires scale { scale ≤ scale_limit }
         ensures { IsThrough result sweep.now start.now (scaled_way (pos scale) start.now next.now) scale }
     {
-        let step = scaled_way(scale, start, next);
-        Line::from_start(&Start::of_point(start, sweep, turn, scale), &step, turn)
-    }
-
-    /// The line that begins at a point and goes on by a step, which is taken times the scale.
-    pub fn from_start(start: &Start, step: &[i64; 3], turn: &Turn) -> Line
-        requires { IsWithin offset_limit step.now }
-        ensures { (m : Motion) (p : List ℤ) (S : ℕ) → IsStart start.now.from start.now.to start.now.height.c start.now.width.c m p S
-            → IsTurn turn.now.first turn.now.last turn.now.n.c m S → IsThrough result m p step.now S }
-    {
-        let u_step = scalar_product_on_cell(step, step, &turn.first, &turn.last);
-        let d_step = scalar_product_on_cell(&start.from, &start.to, step, step);
-        let step_square = scalar_product_on_cell(step, step, step, step);
+        let from = scaled_way(scale, &sweep.from, start);
+        let to = scaled_way(scale, &sweep.to, start);
+        let way = scaled_way(scale, start, next);
+        let origin = Moments::between(&from, &to, &turn.first, &turn.last);
+        let step = Moments::between(&way, &way, &turn.first, &turn.last);
         Line {
-            constant: start.width,
-            first: spread_form(&d_step, &turn.n, &start.height, &u_step, 8),
-            second: spread_form(&step_square, &turn.n, &u_step, &u_step, 4),
-            height: heights(&start.from, &start.to, &turn.first, &turn.last),
-            height_step: heights(step, step, &turn.first, &turn.last),
+            constant: Form4 {
+                c: origin.four_squares(),
+            },
+            first: Form4 {
+                c: eight_products(&origin, &step),
+            },
+            second: Form4 {
+                c: step.four_squares(),
+            },
+            height: heights(&from, &to, &turn.first, &turn.last),
+            height_step: heights(&way, &way, &turn.first, &turn.last),
         }
     }
 

@@ -1,4 +1,4 @@
-use Rattle.std.proofs.Common.{pos, FitsSigned, arith, rules, refl}
+use Rattle.std.proofs.Common.{FitsSigned, arith, rules, refl}
 use Rattle.std.proofs.lemmas.Int.{to_z-of_z}
 use mir.Syntax.{w64}
 use Rattle.space.specs.Vectors.{at}

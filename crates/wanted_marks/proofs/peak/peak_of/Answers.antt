@@ -1,4 +1,4 @@
-use Rattle.std.proofs.Common.{◌≡◌, ◌*◌, ◌≤◌, [], ◌∷◌, unsigned_abs, FitsSigned, arith, rules}
+use Rattle.std.proofs.Common.{◌≡◌, [], ◌∷◌, unsigned_abs, FitsSigned, arith, rules}
 use Rattle.std.proofs.lemmas.Int.{to_z-of_z}
 use mir.Syntax.{w64, w128}
 use Rattle.wanted_marks.proofs.Peaking.{peak_by}
