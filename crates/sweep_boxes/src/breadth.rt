@@ -2,8 +2,9 @@ ghost use Rattle.std.specs.Prelude.{◌*◌, ◌≤◌, ◌^◌, ◌≤ℤ◌, p
 ghost use Rattle.space.specs.Ranges.{IsWithin};
 ghost use Rattle.sweep_boxes.specs.Limits.{aim_limit};
 
-/// How far the places that are left on a piece can be to either side of its way: what of their moment is along `side` is at most
-/// `across`, both taken times the length of `side`. Where that isn't known, both are zero, which holds of every place.
+/// How far the places that are left on a piece can be to either side of its way: the product of their moment with `side`, which is near
+/// to where the way goes across the axis, is no further from zero than `across`. Where that isn't known, both are zero, which holds of
+/// every place.
 #[derive(Drop)]
 pub struct Breadth {
     pub side: [i128; 3],

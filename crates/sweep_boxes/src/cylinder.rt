@@ -4,9 +4,9 @@ ghost use Rattle.sweep_boxes.specs.Limits.{aim_limit, place_limit, side_limit};
 
 /// A cylinder about the tool axis in the middle of a move, wide and high enough that it holds every point of a region at which the move
 /// is possible. The tip and the axis are those in the middle, times `scale`. Of an offset from that tip, times `scale`, the scalar
-/// product with the axis is from `least` to `most`, the cross product is no longer than `moment`, and what of it is along `side`, times
-/// the length of `side`, is no further from zero than `across`: most of the way is along the other two, so it bounds the place more
-/// closely across the way.
+/// product with the axis is from `least` to `most`, the cross product is no longer than `moment`, and its product with `side` is no
+/// further from zero than `across`. The side is near to where the way goes across the axis, so the last is how far the offset is from
+/// the plane of the axis and the way.
 #[derive(Drop)]
 pub struct BoundingCylinder {
     pub scale: u32,
