@@ -4,7 +4,7 @@ use crate::move_marker::MoveMarker;
 use crate::near::Near;
 use crate::on_stretch::Ends;
 use crate::part::Part;
-use crate::sides::{Sides, is_few};
+use crate::sides::{Sides, are_many, is_few};
 use crate::word::{WordMarks, asked_at, bits_between, bits_without, chosen_bits};
 use axis_cells::Mark;
 use ray_grid::{Grid, Ray};
@@ -444,6 +444,12 @@ impl<'a> RayMarker<'a> {
         self.mark_by_runs(first, wanted, sure_only)
     }
 
+    /// Whether it pays to ask first whether all points of a word are apart: of a few that a short move is near, each is told as fast.
+    #[inline]
+    fn is_asked_at_once(&self, wanted: u64) -> bool {
+        self.mover.is_long() || are_many(wanted)
+    }
+
     /// The marks of the wanted points of a word: bit b is the point at the index `first + b`. Each wanted bit is a point of the
     /// ray. Of those in `sure_only` it is told only whether they are sure: both words have the same bit there.
     pub fn mark(&self, first: u32, wanted: u64, sure_only: u64) -> WordMarks
@@ -451,7 +457,7 @@ impl<'a> RayMarker<'a> {
         ensures sure { (b : ℕ) → b < 64 → has_bit result.sure b ≡ is_sure_bit self.now first wanted b }
         ensures possible { (b : ℕ) → b < 64 → has_bit result.possible b ≡ is_told_bit self.now first wanted sure_only b }
     {
-        if self.are_bits_apart(first, wanted) {
+        if self.is_asked_at_once(wanted) && self.are_bits_apart(first, wanted) {
             return WordMarks {
                 sure: 0,
                 possible: 0,

@@ -41,6 +41,12 @@ impl Sides {
     }
 }
 
+/// Whether so many bits are set that it pays to ask of all their points at once whether they are apart.
+#[inline]
+pub fn are_many(bits: u64) -> bool {
+    16 <= bits.count_ones()
+}
+
 /// Whether so few bits are set that a sample for all of them isn't worth its price.
 #[inline]
 pub fn is_few(bits: u64) -> bool {
