@@ -8,7 +8,8 @@ ghost use Rattle.wanted_marks.specs.Widths.{moved3};
 
 use ray_runs::Moments;
 
-/// A component of a coefficient, or a coefficient of u, j steps on. The parts may be larger than what fits: where the whole fits, what wrapped comes back.
+/// A component of a coefficient, or a coefficient of u, j steps on. The parts may be larger than what fits: where the whole fits,
+/// what wrapped comes back.
 #[inline]
 pub fn linear(a: i64, b: i64, j: u32) -> i64
     requires { unsigned_abs (a +ℤ pos j *ℤ b) ≤ 2 * turn_limit }
