@@ -1,5 +1,5 @@
 -- All strips of a job, and at which version they stand.
-use Rattle.std.specs.Prelude.{◌≡◌, ℕ, ◌<◌, List, Some, length, slice_get}
+use Rattle.std.specs.Prelude.{◌≡◌, ℕ, ◌+◌, ◌<◌, List, Some, length, slice_get}
 use Rattle.ray_grid.specs.Ranges.{IsGrid}
 use Rattle.ray_grid.specs.Strips.{strips_of}
 use Rattle.job_model.specs.Tasks.{Job, PlanOf}
@@ -14,6 +14,11 @@ strip_with job done number = record { job = job; number = number; done = done }
 pub record AreFirst (job : Job) (done count : ℕ) (strips : List StripOf) : Type 0 where
   pub many : length strips ≡ count
   pub each : (k : ℕ) (s : StripOf) → slice_get strips k ≡ Some s → s ≡ strip_with job done k
+
+-- the strips of the job with the numbers from one on and below another, in order, each after so many edits
+pub record AreFrom (job : Job) (done from to : ℕ) (strips : List StripOf) : Type 0 where
+  pub many : from + length strips ≡ to
+  pub each : (k : ℕ) (s : StripOf) → slice_get strips k ≡ Some s → s ≡ strip_with job done (from + k)
 
 -- all strips of a job with this plan, each after so many edits
 pub record AreAt (plan : PlanOf) (job : Job) (done : ℕ) (strips : List StripOf) : Type 0 where

@@ -55,7 +55,7 @@ pub fn run_job<R: Threads + Wait + Sync, G: Gate + Sync>(
 {
     let (moves, edits) = (plan.moves(), plan.edits());
     let left = left_moves(alloc, &plan)?;
-    let strips = fresh_strips(alloc, &plan, bodies)?;
+    let strips = fresh_strips(rt, alloc, &plan, bodies, workers)?;
     let (answers, strips) = bring_up(rt, alloc, plan, strips, queries, workers, gate)?;
     let left = found_moves(alloc, &left, &strips)?;
     let totals = last_totals(edits, &strips);

@@ -1,20 +1,24 @@
-ghost use Rattle.std.specs.Prelude.{◌≡◌, IfOk};
+ghost use Rattle.std.specs.Prelude.{◌≡◌, ◌<◌, ◌≤◌, IfOk, length};
 ghost use Rattle.std.specs.Fn.{FnReturnsAt};
+ghost use Rattle.std.specs.Thread.{IsSync};
 ghost use Rattle.ray_grid.specs.Lattice.{IsRay};
+ghost use Rattle.ray_grid.specs.Ranges.{IsGrid};
+ghost use Rattle.ray_grid.specs.Strips.{strips_of};
 ghost use Rattle.ray_shapes.specs.Sets.{Gives};
 ghost use Rattle.job_run.specs.Jobs.{job_with};
-ghost use Rattle.job_run.specs.Strips.{AreAt};
+ghost use Rattle.job_run.specs.Strips.{AreAt, AreFrom};
 
 use crate::bodies::JobBodies;
 use ray_grid::Ray;
 use ray_shapes::{RayShape, Solid, body_spans};
 use std::alloc::Global;
+use std::thread::{Threads, join};
 use strip_journal::Strip;
 use strip_plan::Plan;
 use vf_io::NoMemory;
 use vf_spans::Spans;
 
-/// The strips of a plan before the first edit, by shapes of the three bodies.
+/// The strips of a plan from one number on and below another, before the first edit, by shapes of the three bodies.
 fn strips_by<
     A: Fn(&Ray) -> Result<Spans, NoMemory>,
     B: Fn(&Ray) -> Result<Spans, NoMemory>,
@@ -22,10 +26,14 @@ fn strips_by<
 >(
     alloc: Global,
     plan: &Plan,
+    from: u32,
+    to: u32,
     stock: &RayShape<A>,
     part: &RayShape<B>,
     fixture: &RayShape<C>,
 ) -> Result<Vec<Strip>, NoMemory>
+    requires order { from ≤ to }
+    requires within { to ≤ length (strips_of plan.now.grid) }
     requires stock_grid { stock.now.grid ≡ plan.now.grid }
     requires part_grid { part.now.grid ≡ plan.now.grid }
     requires fixture_grid { fixture.now.grid ≡ plan.now.grid }
@@ -35,23 +43,27 @@ fn strips_by<
     requires stock_gives { Gives (FnReturnsAt A.Fn stock.now.source) stock.now.grid stock.now.solid }
     requires part_gives { Gives (FnReturnsAt B.Fn part.now.source) part.now.grid part.now.solid }
     requires fixture_gives { Gives (FnReturnsAt C.Fn fixture.now.source) fixture.now.grid fixture.now.solid }
-    ensures { IfOk result (λ strips. AreAt plan.now
-        record { plan = plan.now; stock = stock.now.solid; part = part.now.solid; fixture = fixture.now.solid } 0 strips.items) }
+    ensures { IfOk result (λ strips. AreFrom
+        record { plan = plan.now; stock = stock.now.solid; part = part.now.solid; fixture = fixture.now.solid } 0 from to strips.items) }
 {
-    let grid = plan.grid();
-    // A grid is valid by its type, which is known where a field of it is seen.
-    let _valid = &grid.origin;
-    let count = grid.strips();
-    let mut strips = Vec::with_capacity(alloc, count as usize)?;
-    for number in 0..count {
+    let mut strips = Vec::with_capacity(alloc, (to - from) as usize)?;
+    for number in from..to {
         strips.push(Strip::fresh(alloc, plan, number, stock, part, fixture)?)?;
     }
     Ok(strips)
 }
 
-/// The strips of a plan before the first edit.
-pub fn fresh_strips(alloc: Global, plan: &Plan, bodies: &JobBodies) -> Result<Vec<Strip>, NoMemory>
-    ensures { IfOk result (λ strips. AreAt plan.now (job_with plan.now bodies.now) 0 strips.items) }
+/// The strips of a plan from one number on and below another, before the first edit.
+fn strips_between(
+    alloc: Global,
+    plan: &Plan,
+    bodies: &JobBodies,
+    from: u32,
+    to: u32,
+) -> Result<Vec<Strip>, NoMemory>
+    requires order { from ≤ to }
+    requires within { to ≤ length (strips_of plan.now.grid) }
+    ensures { IfOk result (λ strips. AreFrom (job_with plan.now bodies.now) 0 from to strips.items) }
 {
     let grid = plan.grid();
     let stock = &bodies.stock;
@@ -66,5 +78,67 @@ pub fn fresh_strips(alloc: Global, plan: &Plan, bodies: &JobBodies) -> Result<Ve
     let fixture = RayShape::new(*grid, Solid::Bodies(fixture.copy()?), move |ray: &Ray| {
         body_spans(alloc, fixture.as_slice(), grid, ray)
     });
-    strips_by(alloc, plan, &stock, &part, &fixture)
+    strips_by(alloc, plan, from, to, &stock, &part, &fixture)
+}
+
+/// The same strips, made in so many parts, each in a thread of its own where one can be made.
+#[cycle(parts)]
+fn strips_in_parts<R: Threads + Sync>(
+    rt: &R,
+    alloc: Global,
+    plan: &Plan,
+    bodies: &JobBodies,
+    from: u32,
+    to: u32,
+    parts: u32,
+) -> Result<Vec<Strip>, NoMemory>
+    requires parts { 0 < parts }
+    requires order { from ≤ to }
+    requires within { to ≤ length (strips_of plan.now.grid) }
+    ensures { IfOk result (λ strips. AreFrom (job_with plan.now bodies.now) 0 from to strips.items) }
+{
+    if parts == 1 {
+        return strips_between(alloc, plan, bodies, from, to);
+    }
+    let next = from + (to - from) / parts;
+    let others = parts - 1;
+    let front = move || -> Result<Vec<Strip>, NoMemory>
+        requires { (from ≤ next) × (next ≤ length (strips_of plan.now.grid)) }
+        ensures { IfOk result (λ strips. AreFrom (job_with plan.entry.now bodies.entry.now) 0 from next strips.items) }
+    { strips_between(alloc, plan, bodies, from, next) };
+    let back = move || -> Result<Vec<Strip>, NoMemory>
+        requires { IsSync R.row × (0 < others) × (next ≤ to) × (to ≤ length (strips_of plan.now.grid)) }
+        ensures { IfOk result (λ strips. AreFrom (job_with plan.entry.now bodies.entry.now) 0 next to strips.items) }
+    { strips_in_parts(rt, alloc, plan, bodies, next, to, others) };
+    let (first, rest) = join(rt, front, back);
+    let mut strips = first?;
+    let mut rest = rest?;
+    strips.append(&mut rest)?;
+    Ok(strips)
+}
+
+/// How many strips the grid of a plan has. Its numbers make one.
+fn strip_count(plan: &Plan) -> u32
+    ensures count { result ≡ length (strips_of plan.now.grid) }
+    ensures valid { IsGrid plan.now.grid }
+{
+    let grid = plan.grid();
+    // A grid is valid by its type, which is known where a field of it is seen.
+    let _valid = &grid.origin;
+    grid.strips()
+}
+
+/// The strips of a plan before the first edit, made by so many workers.
+pub fn fresh_strips<R: Threads + Sync>(
+    rt: &R,
+    alloc: Global,
+    plan: &Plan,
+    bodies: &JobBodies,
+    workers: u32,
+) -> Result<Vec<Strip>, NoMemory>
+    requires { 0 < workers }
+    ensures { IfOk result (λ strips. AreAt plan.now (job_with plan.now bodies.now) 0 strips.items) }
+{
+    let count = strip_count(plan);
+    strips_in_parts(rt, alloc, plan, bodies, 0, count, workers)
 }

@@ -1,6 +1,6 @@
-use Rattle.job_run.specs.Strips.{AreFirst}
+use Rattle.job_run.specs.Strips.{AreFrom}
 use Rattle.job_run.proofs.strips.strips_by.Given as goal
 
 abbrev pub invariant-loop-number : goal.invariant-loop-number
 invariant-loop-number g l =
-    AreFirst record { plan = l.plan; stock = l.stock.solid; part = l.part.solid; fixture = l.fixture.solid } 0 l.number l.strips.items
+    AreFrom record { plan = l.plan; stock = l.stock.solid; part = l.part.solid; fixture = l.fixture.solid } 0 l.from l.number l.strips.items
