@@ -57,11 +57,10 @@ impl WordRay {
         }
     }
 
-    /// How many points the ray has; the five sets have this bound, and each word that is kept has a point below it.
+    /// How many points the ray has; the five sets have this bound.
     pub fn bound(&self) -> u32
         ensures points { result ≡ length self.now.sets.stock }
         ensures all { HaveBound result self.now.sets }
-        ensures kept { (n : ℕ) → IsKept self.now n → n < words_below result }
     {
         self.stock.bound()
     }

@@ -147,18 +147,18 @@ job_made j plan stock part fixture p s q f = λ i. record { plan = p i; stock = 
 
 -- a journal that keeps nothing of edits
 pub record IsUnedited (j : Journal) : Type 0 where
-  pub of : j.of ≡ stock_points j.rays
+  pub of : j.of ≡ stock_points j.rays.items
   pub changes : j.changes.items ≡ []
   pub entries : j.entries.items ≡ []
   pub line : j.line ≡ []
   pub at : j.at ≡ 0
   pub done : j.done ≡ 0
 
-parts_made : (j : Journal) → IsUnedited j → parts_of j ≡ first_parts j.number (stock_points j.rays) j.rays
+parts_made : (j : Journal) → IsUnedited j → parts_of j ≡ first_parts j.number (stock_points j.rays.items) j.rays.items
 parts_made j is = λ i. record {
   number = j.number;
   of = is.of i;
-  rays = j.rays;
+  rays = j.rays.items;
   changes = is.changes i;
   entries = is.entries i;
   line = is.line i;
@@ -178,9 +178,9 @@ pub first_journal : (j : Journal) (plan : PlanOf) (stock part fixture : Solid) �
     → j.part.value ≡ part → j.fixture.value ≡ fixture → IsPlan plan → IsGrid plan.grid → j.number < length (strips_of plan.grid)
     → length plan.edits ≤ most_edits
     → All (AppliesBelow (length plan.moves)) plan.edits
-    → AreFreshRays plan.grid j.number (length (strip_at plan.grid j.number)) stock part fixture j.rays
+    → AreFreshRays plan.grid j.number (length (strip_at plan.grid j.number)) stock part fixture j.rays.items
     → IsUnedited j → IsJournal (job_of j) j
 first_journal j plan stock part fixture p s q f valid grid strip few named fresh unedited =
     let job : Job = record { plan = plan; stock = stock; part = part; fixture = fixture } in
-    journal_by job j (first_parts j.number (stock_points j.rays) j.rays) (job_made j plan stock part fixture p s q f)
-    (parts_made j unedited) (first_held job j.number j.rays valid grid strip few named fresh)
+    journal_by job j (first_parts j.number (stock_points j.rays.items) j.rays.items) (job_made j plan stock part fixture p s q f)
+    (parts_made j unedited) (first_held job j.number j.rays.items valid grid strip few named fresh)

@@ -39,4 +39,3 @@ pub mod ToldNext
 pub mod Sent
 pub mod Unentered
 pub mod StoodBy
-pub mod RowTurned

@@ -1,5 +1,5 @@
 -- What one edit makes of what a strip keeps.
-use Rattle.std.specs.Prelude.{◌≡◌, ◌≢◌, ℕ, ◌+◌, ◌-◌, ◌^◌, ◌<◌, ◌≤◌, ◌&&◌, ◌==◌, not, Bool, false, if◌then◌else◌, List, [], ◌∷◌, ◌++◌, length, take, vec_capacity, vec_len}
+use Rattle.std.specs.Prelude.{◌≡◌, ℕ, ◌+◌, ◌-◌, ◌^◌, ◌<◌, ◌≤◌, ◌&&◌, ◌==◌, not, Bool, false, if◌then◌else◌, List, [], ◌∷◌, ◌++◌, length, take, vec_capacity, vec_len}
 use Rattle.std.specs.List.{range_with_len}
 use Rattle.vf_spans.specs.Members.{has}
 use Rattle.edit_plan.specs.Limits.{most_edits}
@@ -30,12 +30,6 @@ pub record IsRayTurned (before after : KeptSets) (changes : List WordChange) (n 
 pub record AreRaysTurned (before after : List KeptSets) (changes : List WordChange) (is_undo : Bool) : Type 0 where
   pub many : length after ≡ length before
   pub each : (n : ℕ) → n < length before → IsRayTurned (kept_of before n) (kept_of after n) changes n is_undo
-
--- one of the rays with a change, or without it; the others stay
-pub record IsRowTurned (before after : List KeptSets) (change : WordChange) (is_undo : Bool) : Type 0 where
-  pub many : length after ≡ length before
-  pub own : IsRayTurned (kept_of before change.ray) (kept_of after change.ray) (change ∷ []) change.ray is_undo
-  pub others : (n : ℕ) → n ≢ change.ray → kept_of after n ≡ kept_of before n
 
 -- a move with these changes and counts changes nothing and finds nothing
 abbrev pub does_nothing : List WordChange → Counts → Bool
@@ -99,7 +93,7 @@ pub record CanStand (j : Journal) : Type 0 where
 -- a journal after this edit was added to those that are left
 pub record IsStood (j k : Journal) : Type 0 where
   pub strip : IsSameStrip j k
-  pub rays : k.rays ≡ j.rays
+  pub rays : k.rays.items ≡ j.rays.items
   pub changes : k.changes.items ≡ j.changes.items
   pub entries : k.entries.items ≡ j.entries.items
   pub line : k.line ≡ take j.at j.line ++ j.done ∷ []
@@ -109,7 +103,7 @@ pub record IsStood (j k : Journal) : Type 0 where
 -- a journal after so many edits from this one on were added to those that are left
 pub record IsStoodBy (j k : Journal) (count : ℕ) : Type 0 where
   pub strip : IsSameStrip j k
-  pub rays : k.rays ≡ j.rays
+  pub rays : k.rays.items ≡ j.rays.items
   pub changes : k.changes.items ≡ j.changes.items
   pub entries : k.entries.items ≡ j.entries.items
   pub line : k.line ≡ take j.at j.line ++ range_with_len j.done count
@@ -119,7 +113,7 @@ pub record IsStoodBy (j k : Journal) (count : ℕ) : Type 0 where
 -- a journal after the changes and counts of an edit's move were entered
 pub record IsEntered (j k : Journal) (edit : ℕ) (changes : List WordChange) (counts : Counts) : Type 0 where
   pub strip : IsSameStrip j k
-  pub rays : AreRaysTurned j.rays k.rays changes false
+  pub rays : AreRaysTurned j.rays.items k.rays.items changes false
   pub changes_are : k.changes.items ≡ j.changes.items ++ changes
   pub entries : k.entries.items ≡ j.entries.items ++ applied_entry edit j changes counts ∷ []
   pub line : HasSameLine j k
@@ -127,7 +121,7 @@ pub record IsEntered (j k : Journal) (edit : ℕ) (changes : List WordChange) (c
 -- a journal after this edit applied a move with these changes and counts
 pub record IsApplied (j k : Journal) (changes : List WordChange) (counts : Counts) : Type 0 where
   pub strip : IsSameStrip j k
-  pub rays : AreRaysTurned j.rays k.rays changes false
+  pub rays : AreRaysTurned j.rays.items k.rays.items changes false
   pub changes_are : k.changes.items ≡ j.changes.items ++ changes
   pub entries : k.entries.items ≡ noted (does_nothing changes counts) j.entries.items (applied_entry j.done j changes counts)
   pub line : k.line ≡ take j.at j.line ++ j.done ∷ []
@@ -149,7 +143,7 @@ turned_entry j place is_undo = record {
 -- a journal after the changes of the entry at a place were taken back, or given again, but for the line and the number of edits done
 pub record IsTurnedBy (j k : Journal) (place : ℕ) (is_undo : Bool) : Type 0 where
   pub strip : IsSameStrip j k
-  pub rays : AreRaysTurned j.rays k.rays (changes_of j.changes.items (entry_at j.entries.items place)) is_undo
+  pub rays : AreRaysTurned j.rays.items k.rays.items (changes_of j.changes.items (entry_at j.entries.items place)) is_undo
   pub changes : k.changes.items ≡ j.changes.items
   pub entries : k.entries.items ≡ j.entries.items ++ turned_entry j place is_undo ∷ []
   pub line : HasSameLine j k
@@ -158,12 +152,12 @@ pub record IsTurnedBy (j k : Journal) (place : ℕ) (is_undo : Bool) : Type 0 wh
 -- and nothing is kept of it.
 pub record IsTurnedFrom (j k : Journal) (source : ℕ) (is_undo : Bool) : Type 0 where
   pub by : (place : ℕ) → place < length j.entries.items → edit_at j.entries.items place ≡ source → IsTurnedBy j k place is_undo
-  pub none : HasNo j.entries.items source → HasSameEdits j k × (k.rays ≡ j.rays)
+  pub none : HasNo j.entries.items source → HasSameEdits j k × (k.rays.items ≡ j.rays.items)
 
 -- a journal that stands at another place of its line, after so many edits
 pub record IsMovedTo (j k : Journal) (at done : ℕ) : Type 0 where
   pub strip : IsSameStrip j k
-  pub rays : k.rays ≡ j.rays
+  pub rays : k.rays.items ≡ j.rays.items
   pub changes : k.changes.items ≡ j.changes.items
   pub entries : k.entries.items ≡ j.entries.items
   pub line : k.line ≡ j.line

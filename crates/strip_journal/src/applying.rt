@@ -9,7 +9,8 @@ ghost use Rattle.strip_journal.specs.Steps.{CanStand, FitsEntry, HasRoom, HasSam
 
 use crate::entry::{Entry, Hits};
 use crate::journal::Journal;
-use strip_marks::Marked;
+use crate::rays::turn_all;
+use strip_marks::{Marked, mark_strip};
 use strip_plan::Plan;
 use vf_io::NoMemory;
 
@@ -28,7 +29,7 @@ impl Journal {
     /// Room for so many changes and for an entry.
     fn make_room(&mut self, changes: usize) -> Result<(), NoMemory>
         ensures edits { HasSameEdits self.old self.new }
-        ensures rays { self.new.rays ≡ self.old.rays }
+        ensures rays { self.new.rays.items ≡ self.old.rays.items }
         ensures room { OnOk result (HasRoom self.new changes) }
     {
         // A place in the list of changes is a number of 32 bits: more would take a hundred gigabytes.
@@ -46,7 +47,7 @@ impl Journal {
         ensures ok { OnOk result (IsStood self.old self.new) }
         ensures room { (changes : ℕ) → HasRoom self.old changes → HasRoom self.new changes }
         ensures edits { OnErr result (HasSameEdits self.old self.new) }
-        ensures rays { OnErr result (self.new.rays ≡ self.old.rays) }
+        ensures rays { OnErr result (self.new.rays.items ≡ self.old.rays.items) }
     {
         self.line.put(self.at, self.done)?;
         self.at += 1;
@@ -57,7 +58,7 @@ impl Journal {
     /// Takes over what a move changes or finds, with the entry of its edit. It takes no memory.
     fn enter(&mut self, edit: u32, marked: Marked)
         requires room { HasRoom self.old (length marked.changes.items) }
-        requires on { All (IsChangeOn self.old.rays) marked.changes.items }
+        requires on { All (IsChangeOn self.old.rays.items) marked.changes.items }
         requires fits { FitsEntry self.old marked.counts }
         requires some { does_nothing marked.changes.items marked.counts ≡ false }
         ensures { IsEntered self.old self.new edit marked.changes.items marked.counts }
@@ -68,7 +69,7 @@ impl Journal {
         } = marked;
         let (removed, possible) = self.totals_ahead(self.entries.len());
         let from = self.changes.len() as u32;
-        self.rays.turn_all(changes.as_slice(), false);
+        turn_all(self.rays.as_mut_slice(), changes.as_slice(), false);
         let _moved = self.changes.append(&mut changes);
         let entry = Entry {
             edit,
@@ -85,13 +86,13 @@ impl Journal {
     /// Takes over what a move changes or finds, if it does, and adds its edit to those that are left. What may fail comes first.
     fn take_over(&mut self, marked: Marked) -> Result<(), NoMemory>
         requires few { length self.old.changes.items < 2 ^ 32 }
-        requires on { All (IsChangeOn self.old.rays) marked.changes.items }
+        requires on { All (IsChangeOn self.old.rays.items) marked.changes.items }
         requires fits { FitsEntry self.old marked.counts }
         requires stands { CanStand self.old }
         ensures applied { OnOk result (IsApplied self.old self.new marked.changes.items marked.counts) }
         ensures few { OnOk result (length self.old.changes.items + length marked.changes.items < 2 ^ 32) }
         ensures edits { OnErr result (HasSameEdits self.old self.new) }
-        ensures rays { OnErr result (self.new.rays ≡ self.old.rays) }
+        ensures rays { OnErr result (self.new.rays.items ≡ self.old.rays.items) }
     {
         if does_nothing(&marked) {
             return self.stand();
@@ -109,11 +110,17 @@ impl Journal {
         requires plan { self.old.plan.value ≡ plan.now }
         requires number { number < length plan.now.moves }
         ensures edits { HasSameEdits self.old self.new }
-        ensures same { HaveSameSets self.old.rays self.new.rays }
+        ensures same { HaveSameSets self.old.rays.items self.new.rays.items }
         ensures marked { IfOk result (λ m. (move : JobMove) → HasNumber plan.now number move
-            → IsMarkedStrip plan.now move self.old.number self.old.rays self.new.rays m.changes.items m.counts) }
+            → IsMarkedStrip plan.now move self.old.number self.old.rays.items self.new.rays.items m.changes.items m.counts) }
     {
-        self.rays.mark(self.alloc, plan, number, self.number)
+        mark_strip(
+            self.alloc,
+            self.rays.as_mut_slice(),
+            plan,
+            number,
+            self.number,
+        )
     }
 
     /// Applies a move of the plan. Most moves leave a strip alone: then nothing is marked.

@@ -12,7 +12,6 @@ ghost use Rattle.strip_journal.specs.Strips.{AddsFound, IsFoundAt, most_before};
 use crate::edit_line::EditLine;
 use crate::fresh::{fresh_rays, hold_grid};
 use crate::journal::Journal;
-use crate::rays::RayRow;
 use job_facts::{Counts, PointState, Totals};
 use ray_grid::Ray;
 use ray_shapes::RayShape;
@@ -78,7 +77,6 @@ impl Strip {
         let _edits = plan.edits();
         hold_grid(plan.grid());
         let (rays, of) = fresh_rays(alloc, plan.grid(), number, stock, part, fixture)?;
-        let row = RayRow::fresh(alloc, rays)?;
         let journal = Journal {
             number,
             done: 0,
@@ -90,7 +88,7 @@ impl Strip {
             part: Snapshot::of(&part.solid),
             fixture: Snapshot::of(&fixture.solid),
             of,
-            rays: row,
+            rays,
             changes: Vec::new(alloc),
             entries: Vec::new(alloc),
         };

@@ -11,10 +11,10 @@ use Rattle.strip_marks.specs.RayMarks.{AreAskedIn, HasNoneAsked}
 use Rattle.strip_marks.proofs.AtWords.{AreWantedIn, in_range_below, none_asked}
 
 -- they are points of the ray
-pub wanted_on_ray : (near : NearRayOf) (word : ℕ) (window : ℕ × ℕ) (n wanted : ℕ) → window.1 ≤ points_of near.grid near.ray.family
-    → ((b : ℕ) → b < 64 → has_bit wanted b ≡ (has_bit word b && in_range (64 * n + b) window)) → AreOnRay near (64 * n) wanted
-wanted_on_ray near word window n wanted on is b lt t =
-    let both = and_parts (has_bit word b) (in_range (64 * n + b) window) (sym (is b lt) ∙ t) in
+pub wanted_on_ray : (near : NearRayOf) (d : Sets) (window : ℕ × ℕ) (n wanted : ℕ) → window.1 ≤ points_of near.grid near.ray.family
+    → AreWantedIn d n window.0 window.1 wanted → AreOnRay near (64 * n) wanted
+wanted_on_ray near d window n wanted on is b lt t =
+    let both = and_parts (is_wanted_at d (64 * n + b)) (in_range (64 * n + b) window) (sym (is b lt) ∙ t) in
     let below = in_range_below window.0 window.1 (64 * n + b) both.1 in
     omega (arith, below, on)
 

@@ -13,7 +13,7 @@ use Rattle.vf_spans.specs.Words.{words_below}
 use Rattle.near_points.specs.Rays.{NearRayOf, NearStripOf, near_ray_at}
 use Rattle.ray_words.specs.Rays.{KeptSets}
 use Rattle.job_facts.specs.Counts.{no_counts}
-use Rattle.dexel_rays.specs.Sets.{HaveBound, Sets}
+use Rattle.dexel_rays.specs.Sets.{Sets}
 use Rattle.job_model.specs.Tasks.{JobMove, PlanOf}
 use Rattle.strip_plan.specs.Plans.{HasNumber}
 use Rattle.strip_plan.specs.Windows.{HoldsMet}
@@ -70,21 +70,13 @@ pub unasked_all : (near : NearRayOf) (d : Sets) (window : ℕ × ℕ) (word : �
 unasked_all near d window word ahead le l at = let below = in_range_below window.0 window.1 l at.in_window in ahead.none l (omega (arith, below, le)) at
 
 -- a ray that the move is asked about no point of is idle
-pub idle_on : (plan : PlanOf) (number strip n lo hi : ℕ) (move : JobMove) (s : NearStripOf) (d : Sets) → IsNearStripOf plan number strip s
-    → HasNumber plan number move → strip < length (strips_of plan.grid) → n < length (strip_at plan.grid strip) → AreSetsAt plan.grid strip n d
-    → IsWindow (move_on plan move strip n) lo hi → IsUnasked (near_ray_at s n) d (lo, hi) → (l : ℕ) → l < length d.stock
-    → IsIdle d (sure_there plan move strip n) (possible_there plan move strip n) l
-idle_on plan number strip n lo hi move s d h has within lt sets w none l less =
-    let ray : KeptSets = record { sets = d; first = 0; count = 0 } in
-    idle_unasked (near_ray_at s n) (move_on plan move strip n) d lo hi l (sets_for plan move strip n (move_on plan move strip n) ray refl sets) w
+pub idle_on : (plan : PlanOf) (number strip n lo hi : ℕ) (move : JobMove) (s : NearStripOf) (ray : KeptSets) → IsNearStripOf plan number strip s
+    → HasNumber plan number move → strip < length (strips_of plan.grid) → n < length (strip_at plan.grid strip) → AreSetsAt plan.grid strip n ray.sets
+    → IsWindow (move_on plan move strip n) lo hi → IsUnasked (near_ray_at s n) ray.sets (lo, hi) → (l : ℕ) → l < length ray.sets.stock
+    → IsIdle ray.sets (sure_there plan move strip n) (possible_there plan move strip n) l
+idle_on plan number strip n lo hi move s ray h has within lt sets w none l less =
+    idle_unasked (near_ray_at s n) (move_on plan move strip n) ray.sets lo hi l (sets_for plan move strip n (move_on plan move strip n) ray refl sets) w
     (near_on plan number strip n move s h has within lt) less (none l)
-
--- and a ray's sets have few, where those of the strip's family are few
-pub sets_few : (plan : PlanOf) (number strip n : ℕ) (s : NearStripOf) (d : Sets) → IsNearStripOf plan number strip s
-    → n < length (strip_at plan.grid strip) → HaveBound (points_at plan.grid strip n) d → points_of s.grid s.family < 2 ^ 32
-    → length d.stock < 2 ^ 32
-sets_few plan number strip n s d h lt bound few =
-    let points = near_points_of plan number strip n s h lt in let size = bound.stock in omega (arith, points, size, few)
 
 -- on one idle ray more nothing is marked
 pub rays_idle : (plan : PlanOf) (move : JobMove) (strip lo n : ℕ) (rays : List KeptSets) → AreRays plan.grid strip rays → lo ≤ n → n < length rays

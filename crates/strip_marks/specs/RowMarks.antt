@@ -19,10 +19,8 @@ use Rattle.strip_plan.specs.Windows.{HoldsMet, HoldsPossible, IsCommonWindow}
 use Rattle.strip_marks.specs.declared.asked_word.AskedRay.{AskedRay}
 use Rattle.strip_marks.specs.declared.change.WordChange.{WordChange}
 use Rattle.strip_marks.specs.declared.shared.Shared.{Shared}
-use Rattle.strip_marks.specs.declared.wanted_words.WantedWords.{WantedWords}
 use Rattle.strip_marks.specs.RayMarks.{IsFirstAsked, IsIdle}
-use Rattle.strip_marks.specs.Wanted.{TellsOf, TellsOfAll}
-use Rattle.strip_marks.specs.Marks.{AreInOrder, AreRays, IsChangeOn, among, points_at, possible_of, possible_there, ray_found, ray_of, sets_of, sure_of, sure_there}
+use Rattle.strip_marks.specs.Marks.{AreInOrder, IsChangeOn, among, points_at, possible_of, possible_there, ray_found, ray_of, sets_of, sure_of, sure_there}
 
 -- the sets are those of ray n of the strip, and no point is sure that isn't possible
 pub record AreSetsAt (grid : GridSize) (strip n : ℕ) (d : Sets) : Type 0 where
@@ -54,10 +52,6 @@ pub record IsAskedRay (plan : PlanOf) (number strip n : ℕ) (near : NearRayOf) 
       → HoldsPossible plan move (ray_of plan.grid strip n) asked.window.0 asked.window.1
   pub start : IsFirstAsked near d asked.window asked.first
 
--- the same by a table that tells of the ray
-abbrev pub IsAskedBy : PlanOf → ℕ → ℕ → ℕ → NearRayOf → WantedWords → AskedRay → Type 0
-IsAskedBy plan number strip n near t asked = (d : Sets) → TellsOf t n d → IsAskedRay plan number strip n near d asked
-
 -- the move changes and finds nothing on ray n of a strip, by the ray's sets
 abbrev pub IsIdleRay : PlanOf → ℕ → ℕ → ℕ → Sets → Type 0
 IsIdleRay plan number strip n d = (move : JobMove) → HasNumber plan number move → (l : ℕ) → l < length d.stock
@@ -80,15 +74,10 @@ pub record AreRaysMarked (plan : PlanOf) (move : JobMove) (strip : ℕ) (before 
   pub order : AreInOrder changes
   pub found : counts ≡ sum_counts (map (ray_found plan move strip before) (range_with_len lo (hi - lo)))
 
--- on those rays, by the table of their wanted words, the move changes and finds nothing
-abbrev pub HasNoneOnRays : PlanOf → ℕ → ℕ → WantedWords → ℕ → ℕ → Type 0
-HasNoneOnRays plan number strip t lo hi = (rays : List KeptSets) → AreRays plan.grid strip rays → TellsOfAll t rays
-    → (move : JobMove) → HasNumber plan number move → AreRaysMarked plan move strip rays rays lo hi [] no_counts
-
 -- the first of those rays on which the move is asked about a point, and what it is asked about there
-pub record IsFirstRay (plan : PlanOf) (number strip : ℕ) (near : NearStripOf) (t : WantedWords) (lo hi : ℕ) (found : ℕ × AskedRay)
+pub record IsFirstRay (plan : PlanOf) (number strip : ℕ) (near : NearStripOf) (rays : List KeptSets) (lo hi : ℕ) (found : ℕ × AskedRay)
     : Type 0 where
   pub from : lo ≤ found.0
   pub below : found.0 < hi
-  pub nothing : HasNoneOnRays plan number strip t lo found.0
-  pub asked : IsAskedBy plan number strip found.0 (near_ray_at near found.0) t found.1
+  pub nothing : (move : JobMove) → HasNumber plan number move → AreRaysMarked plan move strip rays rays lo found.0 [] no_counts
+  pub asked : IsAskedRay plan number strip found.0 (near_ray_at near found.0) (sets_of rays found.0) found.1

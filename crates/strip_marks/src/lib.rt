@@ -8,10 +8,8 @@ mod marked;
 mod ray;
 mod shared;
 mod strip;
-mod wanted_words;
 mod word;
 
 pub use change::WordChange;
 pub use marked::Marked;
 pub use strip::mark_strip;
-pub use wanted_words::WantedWords;

@@ -4,7 +4,6 @@ ghost use Rattle.ray_grid.specs.Families.{second_axis};
 ghost use Rattle.ray_grid.specs.Lattice.{nodes_of};
 ghost use Rattle.near_points.specs.Rays.{near_ray_at};
 ghost use Rattle.wanted_marks.specs.Rays.{is_possible_at, is_sure_at};
-ghost use Rattle.strip_marks.specs.Wanted.{TellsOf};
 ghost use Rattle.strip_marks.specs.Words.{AreSetsOf};
 ghost use Rattle.strip_marks.specs.RayMarks.{Adds, AreWordsMarked, CanCount, HasSameSets};
 ghost use Rattle.strip_marks.specs.RayMarks.{HaveWordsBelow, IsAtKept, IsFirstAsked, IsNearOf, IsRayMarked, IsWindow};
@@ -12,7 +11,6 @@ ghost use Rattle.strip_marks.specs.RayMarks.{HaveWordsBelow, IsAtKept, IsFirstAs
 use crate::asked_word::AskedWord;
 use crate::change::WordChange;
 use crate::marked::Marked;
-use crate::wanted_words::WantedWords;
 use crate::word::{asked_in, mark_word};
 use near_points::NearStrip;
 use ray_words::WordRay;
@@ -23,7 +21,6 @@ use wanted_marks::RayMarker;
 fn mark_words(
     marker: &RayMarker<'_>,
     near: &NearStrip<'_>,
-    wanted: &WantedWords,
     ray: &WordRay,
     n: u32,
     first: AskedWord,
@@ -32,7 +29,6 @@ fn mark_words(
     marked: &mut Marked,
 ) -> Result<(), NoMemory>
     requires ray { AreSetsOf marker.now ray.now.sets }
-    requires told { TellsOf wanted.now n ray.now.sets }
     requires window { IsWindow marker.now window.0 window.1 }
     requires n { n < nodes_of near.now.grid (second_axis near.now.family) }
     requires near { IsNearOf (near_ray_at near.now n) marker.now }
@@ -46,7 +42,7 @@ fn mark_words(
     let end = u64::from(window.1);
     let mut word = first.word + 1;
     while 64 * u64::from(word) < end {
-        let points = asked_in(near, wanted, n, word, window);
+        let points = asked_in(near, ray, n, word, window);
         mark_word(marker, ray, n, AskedWord { word, points }, rapid, marked)?;
         word += 1;
     }
@@ -73,7 +69,6 @@ fn keep_changed(ray: &mut WordRay, changes: &[WordChange]) -> Result<(), NoMemor
 pub fn mark_ray(
     marker: &RayMarker<'_>,
     near: &NearStrip<'_>,
-    wanted: &WantedWords,
     ray: &mut WordRay,
     n: u32,
     first: AskedWord,
@@ -82,7 +77,6 @@ pub fn mark_ray(
     marked: &mut Marked,
 ) -> Result<(), NoMemory>
     requires ray { AreSetsOf marker.now ray.old.sets }
-    requires told { TellsOf wanted.now n ray.old.sets }
     requires window { IsWindow marker.now window.0 window.1 }
     requires n { n < nodes_of near.now.grid (second_axis near.now.family) }
     requires near { IsNearOf (near_ray_at near.now n) marker.now }
@@ -95,7 +89,7 @@ pub fn mark_ray(
     // The bound fits.
     let _bound = ray.bound();
     let start = marked.changes.len();
-    mark_words(marker, near, wanted, ray, n, first, window, rapid, marked)?;
+    mark_words(marker, near, ray, n, first, window, rapid, marked)?;
     keep_changed(ray, &marked.changes.as_slice()[start..])?;
     Ok(())
 }

@@ -1,23 +1,19 @@
 ghost use Rattle.std.specs.Prelude.{◌≡◌, [], ◌<◌, ◌≤◌, ◌^◌, IfOk, OnOk, length};
 ghost use Rattle.std.specs.Option.{IfNone, IfSome};
 ghost use Rattle.job_facts.specs.Counts.{no_counts};
-ghost use Rattle.ray_grid.specs.Lattice.{points_of};
 ghost use Rattle.ray_grid.specs.Strips.{strip_at, strips_of};
 ghost use Rattle.job_model.specs.Tasks.{IsPlan, JobMove};
 ghost use Rattle.near_points.specs.Rays.{near_ray_at};
 ghost use Rattle.strip_plan.specs.Plans.{HasNumber};
 ghost use Rattle.strip_marks.specs.Marks.{AreRays, HaveSameSets, IsMarkedStrip, possible_there, sure_there};
 ghost use Rattle.strip_marks.specs.RayMarks.{Adds, CanCount, HasSameSets, IsRayMarked};
-ghost use Rattle.strip_marks.specs.RowMarks.{AreRaysMarked, AreSetsAt, HasNoneOnRays, IsAskedBy, IsFirstRay};
-ghost use Rattle.strip_marks.specs.RowMarks.{IsMarkerOf, IsNearStripOf, IsShared};
-ghost use Rattle.strip_marks.specs.Wanted.{TellsOf, TellsOfAll};
+ghost use Rattle.strip_marks.specs.RowMarks.{AreRaysMarked, AreSetsAt, IsAskedRay, IsFirstRay, IsMarkerOf, IsNearStripOf, IsShared};
 
 use crate::asked::asked_at;
 use crate::asked_word::AskedRay;
 use crate::marked::Marked;
 use crate::ray::mark_ray;
 use crate::shared::{Shared, shared_by};
-use crate::wanted_words::WantedWords;
 use job_facts::Counts;
 use near_points::NearStrip;
 use ray_words::WordRay;
@@ -31,7 +27,6 @@ use wanted_marks::StripMarker;
 fn mark_at<'x>(
     marker: &'x StripMarker<'x>,
     near: &'x NearStrip<'x>,
-    wanted: &WantedWords,
     ray: &mut WordRay,
     plan: &Plan,
     number: u32,
@@ -49,22 +44,21 @@ fn mark_at<'x>(
     requires marker { IsMarkerOf plan.now number strip marker.now }
     requires near { IsNearStripOf plan.now number strip near.now }
     requires shared { IsShared plan.now number near.now.family shared }
-    requires few { points_of near.now.grid near.now.family < 2 ^ 32 }
-    requires told { TellsOf wanted.now n ray.old.sets }
-    requires known { IfSome known (IsAskedBy plan.now number strip n (near_ray_at near.now n) wanted.now) }
+    requires known { IfSome known (IsAskedRay plan.now number strip n (near_ray_at near.now n) ray.old.sets) }
     requires room { CanCount (2 ^ 33) marked.old.counts }
     ensures same { HasSameSets ray.old ray.new }
     ensures marked { OnOk result ((move : JobMove) → HasNumber plan.now number move → Adds marked.old marked.new (λ added found.
         IsRayMarked ray.new (sure_there plan.now move strip n) (possible_there plan.now move strip n) move.rapid n added found)) }
 {
-    match asked_at(known, near, wanted, plan, number, strip, n, shared) {
+    // The bound fits.
+    let _bound = ray.bound();
+    match asked_at(known, near, ray, plan, number, strip, n, shared) {
         None => Ok(()),
         Some(asked) => {
             let on_ray = marker.on_ray(n);
             mark_ray(
                 &on_ray,
                 near,
-                wanted,
                 ray,
                 n,
                 asked.first,
@@ -81,7 +75,7 @@ fn mark_at<'x>(
 /// about there: on the rays ahead of it the move changes and finds nothing. Where there is none, on all of them.
 fn first_ray<'x>(
     near: &'x NearStrip<'x>,
-    wanted: &WantedWords,
+    rays: &[WordRay],
     plan: &Plan,
     number: u32,
     strip: u32,
@@ -91,16 +85,20 @@ fn first_ray<'x>(
     requires plan { IsPlan plan.now }
     requires number { number < length plan.now.moves }
     requires strip { strip < length (strips_of plan.now.grid) }
+    requires rays { AreRays plan.now.grid strip rays.now }
     requires near { IsNearStripOf plan.now number strip near.now }
-    requires few { points_of near.now.grid near.now.family < 2 ^ 32 }
     requires shared { IsShared plan.now number near.now.family shared }
     requires order { window.0 ≤ window.1 }
-    requires within { window.1 ≤ length (strip_at plan.now.grid strip) }
-    ensures none { IfNone result (HasNoneOnRays plan.now number strip wanted.now window.0 window.1) }
-    ensures some { IfSome result (IsFirstRay plan.now number strip near.now wanted.now window.0 window.1) }
+    requires within { window.1 ≤ length rays.now }
+    ensures none { IfNone result ((move : JobMove) → HasNumber plan.now number move
+        → AreRaysMarked plan.now move strip rays.now rays.now window.0 window.1 [] no_counts) }
+    ensures some { IfSome result (IsFirstRay plan.now number strip near.now rays.now window.0 window.1) }
 {
     for n in window.0..window.1 {
-        if let Some(asked) = asked_at(None, near, wanted, plan, number, strip, n, shared) {
+        let ray = &rays[n as usize];
+        // The bound fits.
+        let _bound = ray.bound();
+        if let Some(asked) = asked_at(None, near, ray, plan, number, strip, n, shared) {
             return Some((n, asked));
         }
     }
@@ -113,7 +111,6 @@ fn first_ray<'x>(
 fn mark_rays(
     alloc: Global,
     rays: &mut [WordRay],
-    wanted: &WantedWords,
     plan: &Plan,
     number: u32,
     strip: u32,
@@ -125,7 +122,6 @@ fn mark_rays(
     requires rays { AreRays plan.now.grid strip rays.old }
     requires some { window.0 < window.1 }
     requires within { window.1 ≤ length rays.old }
-    requires told { TellsOfAll wanted.now rays.old }
     ensures same { HaveSameSets rays.old rays.new }
     ensures marked { IfOk result (λ m. (move : JobMove) → HasNumber plan.now number move
         → AreRaysMarked plan.now move strip rays.old rays.new window.0 window.1 m.changes.items m.counts) }
@@ -133,14 +129,12 @@ fn mark_rays(
     let grid = plan.grid();
     let first = grid.strip_ray(strip, 0);
     let shared = shared_by(plan, number, first.family);
-    // A ray has few points.
-    let _few = grid.points(first.family);
     let near = NearStrip::new(plan.cylinder(number), grid, first.family, first.i);
     let mut marked = Marked {
         changes: Vec::new(alloc),
         counts: Counts::none(),
     };
-    let (from, asked) = match first_ray(&near, wanted, plan, number, strip, shared, window) {
+    let (from, asked) = match first_ray(&near, rays, plan, number, strip, shared, window) {
         None => return Ok(marked),
         Some(found) => found,
     };
@@ -151,7 +145,6 @@ fn mark_rays(
         mark_at(
             &marker,
             &near,
-            wanted,
             &mut rays[n as usize],
             plan,
             number,
@@ -166,12 +159,11 @@ fn mark_rays(
     Ok(marked)
 }
 
-/// What a move of the plan changes on a strip, by the sets of the strip's rays and the table of their wanted words, and what it finds
-/// there. Only the points of the move's windows are looked at. The sets stay; the words where something changes are kept from then on.
+/// What a move of the plan changes on a strip, by the sets of the strip's rays, and what it finds there. Only the points of the
+/// move's windows are looked at. The sets stay; the words where something changes are kept from then on.
 pub fn mark_strip(
     alloc: Global,
     rays: &mut [WordRay],
-    wanted: &WantedWords,
     plan: &Plan,
     number: u32,
     strip: u32,
@@ -179,7 +171,6 @@ pub fn mark_strip(
     requires number { number < length plan.now.moves }
     requires strip { strip < length (strips_of plan.now.grid) }
     requires rays { AreRays plan.now.grid strip rays.old }
-    requires told { TellsOfAll wanted.now rays.old }
     ensures same { HaveSameSets rays.old rays.new }
     ensures marked { IfOk result (λ m. (move : JobMove) → HasNumber plan.now number move
         → IsMarkedStrip plan.now move strip rays.old rays.new m.changes.items m.counts) }
@@ -193,6 +184,6 @@ pub fn mark_strip(
             counts: Counts::none(),
         });
     }
-    let marked = mark_rays(alloc, rays, wanted, plan, number, strip, window)?;
+    let marked = mark_rays(alloc, rays, plan, number, strip, window)?;
     Ok(marked)
 }

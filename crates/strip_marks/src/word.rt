@@ -4,16 +4,14 @@ ghost use Rattle.vf_spans.specs.Words.{has_bit};
 ghost use Rattle.ray_grid.specs.Families.{second_axis};
 ghost use Rattle.ray_grid.specs.Lattice.{nodes_of, points_of};
 ghost use Rattle.near_points.specs.Rays.{near_ray_at};
-ghost use Rattle.dexel_rays.specs.Sets.{Sets};
+ghost use Rattle.ray_words.specs.Rays.{is_wanted_at};
 ghost use Rattle.wanted_marks.specs.Rays.{is_possible_at, is_sure_at};
 ghost use Rattle.strip_marks.specs.RayMarks.{Adds, AreAsked, AreAskedIn, AreWordsMarked, CanCount};
-ghost use Rattle.strip_marks.specs.Wanted.{TellsOf, wanted_word};
 ghost use Rattle.strip_marks.specs.Words.{AreMarksAdded, AreSetsOf, noted};
 
 use crate::asked_word::AskedWord;
 use crate::change::WordChange;
 use crate::marked::Marked;
-use crate::wanted_words::WantedWords;
 use dexel_rays::{WordDelta, WordSets};
 use near_points::NearStrip;
 use ray_words::WordRay;
@@ -21,37 +19,30 @@ use vf_io::NoMemory;
 use vf_spans::bits::bits_of_range;
 use wanted_marks::{RayMarker, WordMarks};
 
-/// The points of a word of ray n that lie in the window and that a move has to be asked about.
+/// The points of a word of a ray that lie in the window and that a move has to be asked about.
 #[inline]
-pub fn wanted_in(wanted: &WantedWords, n: u32, word: u32, window: (u32, u32)) -> u64
+pub fn wanted_in(ray: &WordRay, word: u32, window: (u32, u32)) -> u64
     requires from { window.0 / 64 ≤ word }
     requires to { 64 * word < window.1 }
-    ensures { (b : ℕ) → b < 64
-        → has_bit result b ≡ (has_bit (wanted_word wanted.now n word) b && in_range (64 * word + b) window) }
+    ensures { (b : ℕ) → b < 64 → has_bit result b ≡ (is_wanted_at ray.now.sets (64 * word + b) && in_range (64 * word + b) window) }
 {
-    let points = wanted.word(n, word);
-    if points == 0 {
+    let wanted = ray.wanted(word);
+    if wanted == 0 {
         return 0;
     }
-    points & bits_of_range(word, window.0, window.1)
+    wanted & bits_of_range(word, window.0, window.1)
 }
 
 /// The points of a word of ray n that a move is asked about: those wanted ones in its window that its cylinder holds.
 #[inline]
-pub fn asked_in(
-    near: &NearStrip<'_>,
-    wanted: &WantedWords,
-    n: u32,
-    word: u32,
-    window: (u32, u32),
-) -> u64
+pub fn asked_in(near: &NearStrip<'_>, ray: &WordRay, n: u32, word: u32, window: (u32, u32)) -> u64
     requires n { n < nodes_of near.now.grid (second_axis near.now.family) }
     requires from { window.0 / 64 ≤ word }
     requires to { 64 * word < window.1 }
     requires on { window.1 ≤ points_of near.now.grid near.now.family }
-    ensures { (d : Sets) → TellsOf wanted.now n d → AreAskedIn (near_ray_at near.now n) d window word result }
+    ensures { AreAskedIn (near_ray_at near.now n) ray.now.sets window word result }
 {
-    near.near(n, 64 * word, wanted_in(wanted, n, word, window))
+    near.near(n, 64 * word, wanted_in(ray, word, window))
 }
 
 /// Notes what changes at a word, if anything does.

@@ -22,20 +22,12 @@ asked_on-requires-clause-on c =
     let e = near_points_of a.plan.now a.number a.strip a.n a.near.now c.requires.near c.requires.n in
     subst (λ (k : ℕ). c.window_at-window.result.1 ≤ k) (sym e) c.window_at-window.ensures.within
 
-pub returns-in-Some-asked_on-clause-some : goal.returns-in-Some-asked_on-clause-some
-returns-in-Some-asked_on-clause-some c = λ d tells. record {
-  order = c.window_at-window.ensures.order;
-  within = c.window_at-window.ensures.within;
-  holds = c.window_at-window.ensures.holds;
-  start = c.in-Some-asked_on.ensures.some d tells;
-}
-
 pub returns-in-None-clause-none : goal.returns-in-None-clause-none
-returns-in-None-clause-none c = λ d sets tells move has.
+returns-in-None-clause-none c = λ move has.
     let a = c.args in
     let found = c.window_at-window in
     let e = found.ensures in
     let w = window_on a.plan.now a.number move a.strip a.n found.result.0 found.result.1 c.requires.plan has c.requires.strip c.requires.n
     e.order e.within (e.holds move has) in
-    idle_on a.plan.now a.number a.strip a.n found.result.0 found.result.1 move a.near.now d c.requires.near has c.requires.strip
-    c.requires.n sets w (c.in-None.ensures.none d tells)
+    idle_on a.plan.now a.number a.strip a.n found.result.0 found.result.1 move a.near.now a.ray.now c.requires.near has c.requires.strip c.requires.n
+    c.requires.ray w c.in-None.ensures.none

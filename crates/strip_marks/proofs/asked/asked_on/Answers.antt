@@ -7,23 +7,11 @@ use Rattle.strip_marks.proofs.asked.asked_on.Goals as goal
 pub loop-window-preserved : goal.loop-window-preserved
 loop-window-preserved c =
     let a = c.args in
-    record {
-      from = omega (arith, c.loop-window.invariant.from);
-      none = λ d tells.
-          none_asked_next (near_ray_at a.near.now a.n) d a.window c.loop-window.word c.asked_in-points.result
-          (c.loop-window.invariant.none d tells) (omega (arith, c.loop-window-test.true)) (c.asked_in-points.ensures d tells)
-          c.if-points-ne0.false;
-    }
-
-pub returns-then-points-ne0-clause-some : goal.returns-then-points-ne0-clause-some
-returns-then-points-ne0-clause-some c = λ d tells. record {
-  ahead = c.loop-window.invariant.none d tells;
-  inside = omega (arith, c.loop-window-test.true);
-  asked = c.asked_in-points.ensures d tells;
-}
+    none_asked_next (near_ray_at a.near.now a.n) a.ray.now.sets a.window c.loop-window.word c.asked_in-points.result c.loop-window.invariant
+    (omega (arith, c.loop-window-test.true)) c.asked_in-points.ensures c.if-points-ne0.false
 
 pub returns-clause-none : goal.returns-clause-none
-returns-clause-none c = λ d tells.
+returns-clause-none c =
     let a = c.args in
-    unasked_all (near_ray_at a.near.now a.n) d a.window c.loop-window.word (c.loop-window.invariant.none d tells)
+    unasked_all (near_ray_at a.near.now a.n) a.ray.now.sets a.window c.loop-window.word c.loop-window.invariant
     (omega (arith, c.loop-window-test.false))

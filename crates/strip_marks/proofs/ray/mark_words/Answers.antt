@@ -54,7 +54,7 @@ pub mark_word-requires-in-loop-window-clause-asked : goal.mark_word-requires-in-
 mark_word-requires-in-loop-window-clause-asked c =
     let a = c.args in
     asked_of (near_ray_at a.near.now a.n) a.marker.now a.ray.now.sets c.loop-window.word a.window.0 a.window.1 c.asked_in-points.result c.requires.ray c.requires.window
-    c.requires.near (c.asked_in-points.ensures a.ray.now.sets c.requires.told)
+    c.requires.near c.asked_in-points.ensures
 
 pub mark_word-requires-in-loop-window-clause-room : goal.mark_word-requires-in-loop-window-clause-room
 mark_word-requires-in-loop-window-clause-room c =

@@ -1,8 +1,8 @@
-use Rattle.std.proofs.Common.{sym, ◌∙◌, subst}
+use Rattle.std.proofs.Common.{arith, sym, ◌∙◌, subst}
 use Rattle.near_points.specs.Rays.{near_ray_at}
 use Rattle.wanted_marks.specs.Rays.{RayOf}
 use Rattle.strip_marks.specs.RayMarks.{IsNearOf, IsWindow}
-use Rattle.strip_marks.proofs.NearRays.{near_node, near_on, sets_few, untouched}
+use Rattle.strip_marks.proofs.NearRays.{near_node, near_on, untouched}
 use Rattle.strip_marks.proofs.OneRay.{marked_by, sets_for}
 use Rattle.strip_marks.proofs.OnStrips.{marker_is, node_within, some_move, window_on}
 use Rattle.strip_marks.proofs.strip.mark_at.Goals as goal
@@ -10,9 +10,7 @@ use Rattle.strip_marks.proofs.strip.mark_at.Goals as goal
 pub returns-in-None-clause-marked : goal.returns-in-None-clause-marked
 returns-in-None-clause-marked c = λ move has.
     let a = c.args in
-    untouched a.plan.now move a.strip a.n a.ray.now a.marked.now c.requires.ray
-    (c.in-None.ensures.none a.ray.now.sets c.requires.ray c.requires.told move has)
-    (sets_few a.plan.now a.number a.strip a.n a.near.now a.ray.now.sets c.requires.near c.requires.n c.requires.ray.bound c.requires.few)
+    untouched a.plan.now move a.strip a.n a.ray.now a.marked.now c.requires.ray (c.in-None.ensures.none move has) (omega (arith, c.bound-bound.ensures.points))
 
 pub on_ray-on_ray-requires : goal.on_ray-on_ray-requires
 on_ray-on_ray-requires c = node_within c.args.plan.now c.args.number c.args.strip c.args.n c.args.marker.now c.requires.marker c.requires.n
@@ -29,15 +27,12 @@ pub mark_ray-requires-clause-window : goal.mark_ray-requires-clause-window
 mark_ray-requires-clause-window c =
     let a = c.args in
     let asked = c.in-Some.asked in
-    let e = c.in-Some.ensures.some a.ray.now.sets c.requires.told in
+    let e = c.in-Some.ensures.some in
     let some = some_move a.plan.now a.number c.requires.number in
     subst (λ (r : RayOf). IsWindow r asked.window.0 asked.window.1)
     (sym (c.on_ray-on_ray.ensures ∙ marker_is a.plan.now a.number a.strip a.n some.0 a.marker.now c.requires.marker some.1 c.requires.n))
     (window_on a.plan.now a.number some.0 a.strip a.n asked.window.0 asked.window.1 c.requires.plan some.1 c.requires.strip c.requires.n
     e.order e.within (e.holds some.0 some.1))
-
-pub mark_ray-requires-clause-first : goal.mark_ray-requires-clause-first
-mark_ray-requires-clause-first c = (c.in-Some.ensures.some c.args.ray.now.sets c.requires.told).start
 
 pub mark_ray-requires-clause-n : goal.mark_ray-requires-clause-n
 mark_ray-requires-clause-n c = near_node c.args.plan.now c.args.number c.args.strip c.args.n c.args.near.now c.requires.near c.requires.n

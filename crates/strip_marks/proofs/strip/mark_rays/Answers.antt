@@ -1,22 +1,19 @@
-use Rattle.std.proofs.Common.{rules, ◌≡◌, ℕ, ◌+◌, ◌-◌, ◌*◌, ◌<◌, List, [], length, get_or, arith, sym, ap, subst}
+use Rattle.std.proofs.Common.{rules, IfSome, ◌≡◌, ℕ, ◌+◌, ◌-◌, ◌*◌, ◌<◌, List, [], length, get_or, arith, sym, subst}
 use Rattle.std.proofs.lemmas.List.{get_or_default}
 use Rattle.job_facts.specs.declared.counts.Counts.{Counts}
 use Rattle.job_facts.specs.Counts.{AreWithin, most_count, no_counts}
 use Rattle.job_model.specs.Tasks.{JobMove, PlanOf}
-use Rattle.near_points.specs.Rays.{NearStripOf}
-use Rattle.ray_grid.specs.Lattice.{points_of}
+use Rattle.near_points.specs.Rays.{near_ray_at}
 use Rattle.ray_words.specs.Rays.{KeptSets}
 use Rattle.strip_marks.specs.declared.change.WordChange.{WordChange}
 use Rattle.strip_marks.specs.Marks.{kept_of}
 use Rattle.strip_marks.specs.RayMarks.{HasSameSets}
-use Rattle.strip_marks.specs.RowMarks.{AreRaysMarked, AreSetsAt}
-use Rattle.strip_marks.specs.Wanted.{TellsOf}
+use Rattle.strip_marks.specs.RowMarks.{AreRaysMarked, AreSetsAt, IsAskedRay}
 use Rattle.strip_marks.proofs.Counting.{within_more}
 use Rattle.strip_marks.proofs.MoreRays.{no_sets, same_again, same_self, same_with, sets_at}
 use Rattle.strip_marks.proofs.NearRays.{near_of}
 use Rattle.strip_marks.proofs.OneRay.{rays_step, within_next}
 use Rattle.strip_marks.proofs.OnStrips.{marker_of, some_move}
-use Rattle.strip_marks.proofs.Wanted.{told_still}
 use Rattle.strip_marks.proofs.strip.mark_rays.Goals as goal
 
 -- a ray is the same as the one that stands at its number
@@ -110,7 +107,7 @@ pub returns-in-None-clause-marked : goal.returns-in-None-clause-marked
 returns-in-None-clause-marked c = λ move has.
     let a = c.args in
     nothing_yet a.plan.now move a.strip a.window.0 a.window.1 a.rays.now c.new.result.items c.none.result c.new.ensures.items c.none.ensures
-    (c.in-None.ensures.none a.rays.now c.requires.rays c.requires.told move has)
+    (c.in-None.ensures.none move has)
 
 pub loop-n-init : goal.loop-n-init
 loop-n-init c =
@@ -127,27 +124,15 @@ loop-n-init c =
           (subst (λ (n : Counts). AreWithin 0 n) (sym c.none.ensures) none_within);
       marked = λ move has.
           nothing_yet a.plan.now move a.strip a.window.0 from a.rays.now c.new.result.items c.none.result c.new.ensures.items c.none.ensures
-          (found.nothing a.rays.now c.requires.rays c.requires.told move has);
+          (found.nothing move has);
     }
 
-pub mark_at-requires-clause-told : goal.mark_at-requires-clause-told
-mark_at-requires-clause-told c =
+pub mark_at-requires-clause-known : goal.mark_at-requires-clause-known
+mark_at-requires-clause-known c =
     let a = c.args in
     let k = c.loop-n in
-    subst (λ (r : KeptSets). TellsOf a.wanted.now k.n r.sets)
-    (sym (get_or_default k.rays k.n c.index-rays-n.result no_sets (omega arith)))
-    (told_still a.wanted.now a.rays.now k.rays c.requires.told k.invariant.same k.n (omega (arith, k.invariant.same.many)))
-
-pub mark_at-requires-clause-few : goal.mark_at-requires-clause-few
-mark_at-requires-clause-few c =
-    let points = ap (λ (s : NearStripOf). points_of s.grid s.family) c.new-near.ensures in omega (arith, points, c.points-few.ensures)
-
-pub first_ray-requires-clause-few : goal.first_ray-requires-clause-few
-first_ray-requires-clause-few c =
-    let points = ap (λ (s : NearStripOf). points_of s.grid s.family) c.new-near.ensures in omega (arith, points, c.points-few.ensures)
-
-pub first_ray-requires-clause-within : goal.first_ray-requires-clause-within
-first_ray-requires-clause-within c = omega (arith, c.requires.within, c.requires.rays.many)
+    subst (λ (r : KeptSets). IfSome k.known (IsAskedRay a.plan.now a.number a.strip k.n (near_ray_at c.new-near.result k.n) r.sets))
+    (sym (get_or_default k.rays k.n c.index-rays-n.result no_sets (omega arith))) k.invariant.known
 
 pub mark_at-requires-clause-near : goal.mark_at-requires-clause-near
 mark_at-requires-clause-near c =
