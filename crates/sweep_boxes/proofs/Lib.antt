@@ -8,6 +8,7 @@ pub mod Kept
 pub mod Motions
 pub mod Holding
 pub mod AlongSide
+pub mod Leveled
 pub mod Lined
 pub mod Boxed
 pub mod Scales

@@ -4,6 +4,7 @@ pub mod Pieces
 pub mod Made
 pub mod Boxes
 pub mod Held
+pub mod Levels
 pub mod Lines
 pub mod Covers
 pub mod Cylinders

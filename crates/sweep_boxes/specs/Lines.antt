@@ -1,9 +1,11 @@
 -- The places of a line that are held.
-use Rattle.std.specs.Prelude.{List, ℕ, ◌*◌, ◌≤◌, ℤ, pos, ◌*ℤ◌, ◌-ℤ◌, ◌≤ℤ◌, unsigned_abs}
+use Rattle.std.specs.Prelude.{All, List, ℕ, ◌*◌, ◌≤◌, ℤ, pos, ◌*ℤ◌, ◌-ℤ◌, ◌≤ℤ◌, unsigned_abs}
 use Rattle.sweep_boxes.specs.declared.breadth.Breadth.{Breadth}
 use Rattle.sweep_boxes.specs.declared.held.Hold.{Hold}
+use Rattle.sweep_boxes.specs.declared.level.Level.{Level}
 use Rattle.sweep_boxes.specs.declared.line.Line.{Line}
 use Rattle.sweep_boxes.specs.declared.piece.Piece.{Piece}
+use Rattle.sweep_boxes.specs.Levels.{IsOnLevel}
 use Rattle.sweep_boxes.specs.Pieces.{IsBeside, IsHeldOn, offset_from}
 
 -- The place z is in the line's range, and at the height u, which is held: what of its offset isn't along the axis is at most the
@@ -23,3 +25,7 @@ IsHeldPlace hold piece p = IsHeldOn hold.least hold.most hold.moment (offset_fro
 -- and it is no further to either side
 abbrev pub IsBesidePlace : Breadth → Piece → List ℤ → Type 0
 IsBesidePlace breadth piece p = IsBeside breadth.side breadth.across (offset_from (pos piece.scale) piece.tip p) piece.axis
+
+-- and it is at each level
+abbrev pub AreLevelsOf : List Level → List ℤ → Piece → List ℤ → Type 0
+AreLevelsOf levels side piece p = All (λ (l : Level). IsOnLevel l side (offset_from (pos piece.scale) piece.tip p) piece.axis) levels

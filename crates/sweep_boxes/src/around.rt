@@ -7,15 +7,17 @@ ghost use Rattle.cutter_marks.specs.MarkBy.{is_possible_by};
 ghost use Rattle.sweep_boxes.specs.Boxes.{IsInBox};
 ghost use Rattle.sweep_boxes.specs.Cylinders.{IsInCylinder};
 ghost use Rattle.sweep_boxes.specs.Limits.{aim_limit, place_limit, side_limit};
-ghost use Rattle.sweep_boxes.specs.Lines.{IsBesidePlace, IsHeldPlace};
+ghost use Rattle.sweep_boxes.specs.Lines.{AreLevelsOf, IsBesidePlace, IsHeldPlace};
 ghost use Rattle.sweep_boxes.specs.Made.{IsPieceOf};
 ghost use Rattle.sweep_boxes.specs.Pieces.{AreAsLarge};
 
 use crate::breadth::Breadth;
 use crate::cut::piece_of;
-use crate::cylinder::BoundingCylinder;
+use crate::cylinder::{BoundingCylinder, LEVELS};
 use crate::held::Hold;
 use crate::hold::hold_of;
+use crate::level::Level;
+use crate::levels::levels_of;
 use crate::narrow::narrowed;
 use crate::near::near_part;
 use crate::offsets::offset_from;
@@ -28,7 +30,7 @@ use cutter_slabs::Stacks;
 
 /// A number in 64 bits.
 #[inline]
-fn short(z: i128) -> i64
+pub(crate) fn short(z: i128) -> i64
     requires { unsigned_abs z ≤ 4 * 10 ^ 18 }
     ensures { result ≡ z }
 {
@@ -73,9 +75,15 @@ fn breadth_in(piece: &Piece, size: &Size, region: &PointBox) -> Breadth
     breadth_of(piece, size.widest, &low, &high)
 }
 
-/// The cylinder that holds what is held on a piece, and no further to either side.
-fn cylinder_about(piece: &Piece, hold: &Hold, breadth: &Breadth) -> BoundingCylinder
-    ensures { (p : List ℤ) → IsHeldPlace hold.now piece.now p → IsBesidePlace breadth.now piece.now p → IsInCylinder result p }
+/// The cylinder that holds what is held on a piece, no further to either side, and at each level.
+fn cylinder_about(
+    piece: &Piece,
+    hold: &Hold,
+    breadth: &Breadth,
+    levels: [Level; LEVELS],
+) -> BoundingCylinder
+    ensures { (p : List ℤ) → IsHeldPlace hold.now piece.now p → IsBesidePlace breadth.now piece.now p
+        → AreLevelsOf levels breadth.now.side piece.now p → IsInCylinder result p }
 {
     BoundingCylinder {
         scale: piece.scale,
@@ -86,6 +94,7 @@ fn cylinder_about(piece: &Piece, hold: &Hold, breadth: &Breadth) -> BoundingCyli
         moment: short(hold.moment),
         side: narrow(&breadth.side),
         across: short(breadth.across),
+        levels,
     }
 }
 
@@ -102,5 +111,6 @@ pub fn cylinder_of(sweep: &Sweep, stacks: &Stacks, region: &PointBox) -> Boundin
     let piece = piece_of(sweep, 0, 0);
     let closer = narrowed(&piece, size.widest, size.highest, &near);
     let hold = hold_in(&piece, &size, &closer);
-    cylinder_about(&piece, &hold, &breadth_in(&piece, &size, &closer))
+    let breadth = breadth_in(&piece, &size, &closer);
+    cylinder_about(&piece, &hold, &breadth, levels_of(&hold))
 }

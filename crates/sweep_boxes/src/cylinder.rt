@@ -2,11 +2,16 @@ ghost use Rattle.std.specs.Prelude.{◌*◌, ◌≤◌, ◌^◌, ◌≤ℤ◌, p
 ghost use Rattle.space.specs.Ranges.{IsWithin};
 ghost use Rattle.sweep_boxes.specs.Limits.{aim_limit, place_limit, side_limit};
 
+use crate::level::Level;
+
+/// So many heights tell where the cylinder is narrower.
+pub const LEVELS: usize = 8;
+
 /// A cylinder about the tool axis in the middle of a move, wide and high enough that it holds every point of a region at which the move
 /// is possible. The tip and the axis are those in the middle, times `scale`. Of an offset from that tip, times `scale`, the scalar
 /// product with the axis is from `least` to `most`, the cross product is no longer than `moment`, and its product with `side` is no
 /// further from zero than `across`. The side is near to where the way goes across the axis, so the last is how far the offset is from
-/// the plane of the axis and the way.
+/// the plane of the axis and the way. Near the tip the cutter is narrower: that is what the `levels` say, from the lowest to the highest.
 #[derive(Drop)]
 pub struct BoundingCylinder {
     pub scale: u32,
@@ -17,6 +22,7 @@ pub struct BoundingCylinder {
     pub moment: i64,
     pub side: [i64; 3],
     pub across: i64,
+    pub levels: [Level; LEVELS],
     ghost scaled: { (1 ≤ scale) × (scale ≤ 128) },
     ghost tip_within: { IsWithin (128 * place_limit) tip },
     ghost axis_within: { IsWithin side_limit axis },

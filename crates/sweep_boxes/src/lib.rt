@@ -10,6 +10,8 @@ mod cut;
 mod cylinder;
 mod held;
 mod hold;
+mod level;
+mod levels;
 mod line;
 mod narrow;
 mod near;
@@ -23,5 +25,6 @@ mod vector;
 
 pub use around::cylinder_of;
 pub use boxes::push_boxes;
-pub use cylinder::BoundingCylinder;
+pub use cylinder::{BoundingCylinder, LEVELS};
+pub use level::Level;
 pub use point_box::PointBox;

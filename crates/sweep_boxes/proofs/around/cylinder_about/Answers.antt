@@ -1,6 +1,8 @@
-use Rattle.std.proofs.Common.{◌≡◌, ℤ, List, pos, FitsSigned, rules, subst, sym, ◌∙◌}
+use Rattle.std.proofs.Common.{◌≡◌, ℤ, List, All, pos, FitsSigned, rules, subst, sym, ◌∙◌}
 use Rattle.std.proofs.lemmas.Int.{to_z-of_z}
 use mir.Syntax.{w64, w128}
+use Rattle.sweep_boxes.specs.declared.level.Level.{Level}
+use Rattle.sweep_boxes.specs.Levels.{IsOnLevel}
 use Rattle.sweep_boxes.specs.Pieces.{IsBeside, IsHeldOn, offset_from}
 use Rattle.sweep_boxes.proofs.around.cylinder_about.Goals as goal
 
@@ -22,8 +24,15 @@ beside_same across far scale side d tip t axis a p ef ed et ea beside =
     (subst (λ (v : List ℤ). IsBeside side across (offset_from scale v p) a) (sym et)
     (subst (λ (v : List ℤ). IsBeside side across (offset_from scale tip p) v) (sym ea) beside)))
 
+levels_same : (levels : List Level) (scale : ℤ) (side d tip t axis a p : List ℤ) → d ≡ side → t ≡ tip → a ≡ axis
+    → All (λ (l : Level). IsOnLevel l side (offset_from scale tip p) axis) levels → All (λ (l : Level). IsOnLevel l d (offset_from scale t p) a) levels
+levels_same levels scale side d tip t axis a p ed et ea on =
+    subst (λ (v : List ℤ). All (λ (l : Level). IsOnLevel l v (offset_from scale t p) a) levels) (sym ed)
+    (subst (λ (v : List ℤ). All (λ (l : Level). IsOnLevel l side (offset_from scale v p) a) levels) (sym et)
+    (subst (λ (v : List ℤ). All (λ (l : Level). IsOnLevel l side (offset_from scale tip p) v) levels) (sym ea) on))
+
 pub returns : goal.returns
-returns c p held beside =
+returns c p held beside leveled =
     let hold = c.args.hold.now in let breadth = c.args.breadth.now in
     let a : FitsSigned w128 hold.least = search rules in
     let b : FitsSigned w128 hold.most = search rules in
@@ -41,4 +50,6 @@ returns c p held beside =
     c.args.piece.now.axis c.narrow-2.result p l m t c.narrow.ensures c.narrow-2.ensures held in
     let across = beside_same breadth.across c.short-4.result (pos c.args.piece.now.scale) breadth.side c.narrow-3.result c.args.piece.now.tip c.narrow.result
     c.args.piece.now.axis c.narrow-2.result p s c.narrow-3.ensures c.narrow.ensures c.narrow-2.ensures beside in
-    record { about = simp to_z-of_z about; across = simp to_z-of_z across }
+    let levels = levels_same c.args.levels (pos c.args.piece.now.scale) breadth.side c.narrow-3.result c.args.piece.now.tip c.narrow.result c.args.piece.now.axis c.narrow-2.result p
+    c.narrow-3.ensures c.narrow.ensures c.narrow-2.ensures leveled in
+    record { widest = record { about = simp to_z-of_z about; across = simp to_z-of_z across }; levels = levels }

@@ -33,4 +33,6 @@ returns c p depth inside possible =
     (subst (λ (q : Motion). is_in_reach (pos (reach_of cutter)) q.from q.to p ≡ true) (sym c.sweep.view_is) parts.0) in
     let near = c.near_part-near.ensures.value p inside (simp to_z-of_z reached) in
     let closer = c.narrowed-closer.ensures.kept m 0 (2 ^ 0) outer p c.piece_of-piece.ensures sizes near left in
-    c.cylinder_about.ensures p (c.hold_in-hold.ensures m 0 (2 ^ 0) outer p c.piece_of-piece.ensures large closer left) (c.breadth_in.ensures m 0 (2 ^ 0) outer p c.piece_of-piece.ensures large closer left)
+    let held = c.hold_in-hold.ensures m 0 (2 ^ 0) outer p c.piece_of-piece.ensures large closer left in
+    c.cylinder_about.ensures p held (c.breadth_in-breadth.ensures m 0 (2 ^ 0) outer p c.piece_of-piece.ensures large closer left)
+    (c.levels_of.ensures c.piece_of-piece.result c.breadth_in-breadth.result.side p held)

@@ -1,0 +1,11 @@
+-- The heights below which a cylinder is narrower.
+use Rattle.std.specs.Prelude.{List, ℤ, ◌*ℤ◌, ◌<ℤ◌, ◌≤ℤ◌}
+use Rattle.space.specs.Vectors.{dot}
+use Rattle.sweep_boxes.specs.declared.level.Level.{Level}
+use Rattle.sweep_boxes.specs.Pieces.{IsBeside}
+use Rattle.sweep_boxes.specs.Vectors.{cross}
+
+-- below the height of a level a place, by its offset v from the tip under the axis a, is within the narrower numbers
+pub record IsOnLevel (l : Level) (side v a : List ℤ) : Type 0 where
+  pub about : dot v a <ℤ l.height → dot (cross v a) (cross v a) ≤ℤ (l.moment *ℤ l.moment)
+  pub across : dot v a <ℤ l.height → IsBeside side l.across v a
