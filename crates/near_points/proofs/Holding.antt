@@ -1,15 +1,21 @@
 -- Which points of a ray a cylinder holds.
-use Rattle.std.proofs.Common.{◌≡◌, true, ℕ, ◌<◌, ℤ, pos, ◌-ℤ◌, ◌*ℤ◌, ◌≤ℤ◌, unsigned_abs, arith, sym, subst, ap, ◌∙◌}
+use Rattle.std.proofs.Common.{◌≡◌, true, ℕ, ◌<◌, ℤ, pos, ◌-ℤ◌, ◌*ℤ◌, ◌≤ℤ◌, ◌<ℤ◌, unsigned_abs, arith, refl, sym, subst, ap, ◌∙◌}
 use Rattle.std.proofs.lemmas.Int.{ints}
+use Rattle.std.proofs.lemmas.List.Elements.{All-contains}
 use borrow.Author.Differences.{abs_is}
-use Rattle.ray_grid.specs.Lattice.{points_of}
+use Rattle.space.specs.Vectors.{dot}
+use Rattle.sweep_boxes.specs.declared.level.Level.{Level}
+use Rattle.sweep_boxes.specs.Levels.{IsOnLevel}
+use Rattle.ray_grid.specs.Lattice.{point_of, points_of}
 use Rattle.near_points.specs.declared.hold.Hold.{Hold}
 use Rattle.near_points.specs.declared.stance.Stance.{Stance}
 use Rattle.near_points.specs.declared.step.Step.{Step}
 use Rattle.near_points.specs.Lines.{height_at, is_held_after, side_at, width_at}
-use Rattle.near_points.specs.Rays.{IsHeldAt, NearRayOf}
-use Rattle.near_points.specs.Ready.{IsReadyRay}
+use Rattle.near_points.specs.Trimmed.{IsLeftOut, is_within_after}
+use Rattle.near_points.specs.Rays.{IsHeldAt, IsKeptAt, NearRayOf}
+use Rattle.near_points.specs.Ready.{IsReadyRay, offset_of}
 use Rattle.near_points.proofs.Told.{held_by_parts, held_parts}
+use Rattle.near_points.proofs.Trimming.{within_by_parts}
 
 at_most_by : (a b x y : ℤ) → a ≤ℤ b → a ≡ x → b ≡ y → x ≤ℤ y
 at_most_by a b x y h e f = omega (arith, ints, h, e, f)
@@ -33,6 +39,18 @@ holds_point first step hold r l ready within told =
       };
       across = small_by (side_at first step (pos l)) hold.across _ _ amid.left amid.right ready.hold_is.across (ready.sides l within);
     }
+
+-- a point that the cylinder holds at each level is left out by none
+pub not_left_out : (first : Stance) (step : Step) (hold : Hold) (r : NearRayOf) (l : ℕ) → IsReadyRay first step hold r → l < points_of r.grid r.ray.family → IsKeptAt r l → IsLeftOut r.cylinder.levels first step (pos l) → ⊥
+not_left_out first step hold r l ready within kept out =
+    let v = offset_of r.cylinder (point_of r.grid r.ray l) in let a = r.cylinder.axis in let x = out.level in let side = side_at first step (pos l) in
+    let on : IsOnLevel x r.cylinder.side v a = All-contains (λ (y : Level). IsOnLevel y r.cylinder.side v a) r.cylinder.levels x kept.levels out.one in
+    let below : dot v a <ℤ x.height = subst (λ (z : ℤ). z <ℤ x.height) (ready.heights l within) out.below in
+    let about = at_most_by _ _ (width_at first step (pos l)) (x.moment *ℤ x.moment) (on.about below) (sym (ready.widths l within)) refl in
+    let left = least_by side x.across _ _ (on.across below) refl (ready.sides l within) in
+    let right = most_by side x.across _ _ (on.across below) refl (ready.sides l within) in
+    let yes : is_within_after x first step (pos l) ≡ true = within_by_parts x first step (pos l) about left right in
+    let no = out.beyond in cc
 
 pub point_holds : (first : Stance) (step : Step) (hold : Hold) (r : NearRayOf) (l : ℕ) → IsReadyRay first step hold r → l < points_of r.grid r.ray.family → IsHeldAt r l → is_held_after hold first step (pos l) ≡ true
 point_holds first step hold r l ready within held =

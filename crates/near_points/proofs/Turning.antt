@@ -345,3 +345,10 @@ ready_ray start across first step hold s j ready there moved =
 -- a step by the stance of its way
 pub step_by : (t : Step) (way : Stance) (v a d : List ℤ) → IsStepLike t way → IsStance way v a d → IsStep t v a d
 step_by t way v a d like is = record { second = like.second ∙ is.second; third = like.third ∙ is.third; side = like.side ∙ is.side; height = like.height ∙ is.height }
+
+-- the same of a strip by what its caller sees of it
+pub ready_on : (start across first : Stance) (step : Step) (hold : Hold) (s z : NearStripOf) (j : ℕ) → s ≡ z → IsReadyStrip start across step hold s → j < nodes_of z.grid (second_axis z.family)
+    → IsMoved first start across (pos j) → IsReadyRay first step hold (near_ray_at z j)
+ready_on start across first step hold s z j e ready node moved =
+    subst (λ (y : NearStripOf). IsReadyRay first step hold (near_ray_at y j)) e
+    (ready_ray start across first step hold s j ready (subst (λ (y : NearStripOf). j < nodes_of y.grid (second_axis y.family)) (sym e) node) moved)

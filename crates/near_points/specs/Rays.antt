@@ -5,7 +5,7 @@ use Rattle.ray_grid.specs.declared.ray.Family.{Family}
 use Rattle.ray_grid.specs.declared.ray.Ray.{Ray}
 use Rattle.ray_grid.specs.Lattice.{point_of, points_of}
 use Rattle.sweep_boxes.specs.declared.cylinder.BoundingCylinder.{BoundingCylinder}
-use Rattle.sweep_boxes.specs.Cylinders.{IsInCylinder}
+use Rattle.sweep_boxes.specs.Cylinders.{IsInCylinder, IsInWidest}
 use Rattle.vf_spans.specs.Words.{has_bit}
 
 -- a bounding cylinder and the rays of one strip of a grid, those of a family with the node i
@@ -25,14 +25,22 @@ pub record NearRayOf : Type 0 where
 abbrev pub near_ray_at : NearStripOf → ℕ → NearRayOf
 near_ray_at s j = record { cylinder = s.cylinder; grid = s.grid; ray = record { family = s.family; i = s.i; j = j } }
 
--- the cylinder holds the point at an index of the ray
+-- the cylinder where it is widest holds the point at an index of the ray
 abbrev pub IsHeldAt : NearRayOf → ℕ → Type 0
-IsHeldAt r l = IsInCylinder r.cylinder (point_of r.grid r.ray l)
+IsHeldAt r l = IsInWidest r.cylinder (point_of r.grid r.ray l)
+
+-- the cylinder holds it, at each level too
+abbrev pub IsKeptAt : NearRayOf → ℕ → Type 0
+IsKeptAt r l = IsInCylinder r.cylinder (point_of r.grid r.ray l)
 
 -- each bit of the word, the lowest of which is the index `first`, is a point of the ray
 abbrev pub AreOnRay : NearRayOf → ℕ → ℕ → Type 0
 AreOnRay r first wanted = (b : ℕ) → b < 64 → has_bit wanted b ≡ true → first + b < points_of r.grid r.ray.family
 
--- bit b of the word is set, and the cylinder holds its point
+-- bit b of the word is set, and the cylinder where it is widest holds its point
 abbrev pub IsHeldBit : NearRayOf → ℕ → ℕ → ℕ → Type 0
 IsHeldBit r first wanted b = (has_bit wanted b ≡ true) × IsHeldAt r (first + b)
+
+-- bit b of the word is set, and the cylinder holds its point at each level too
+abbrev pub IsKeptBit : NearRayOf → ℕ → ℕ → ℕ → Type 0
+IsKeptBit r first wanted b = (has_bit wanted b ≡ true) × IsKeptAt r (first + b)

@@ -7,5 +7,6 @@ mod scan;
 mod stance;
 mod step;
 mod strip;
+mod trim;
 
 pub use strip::NearStrip;

@@ -1,12 +1,11 @@
 ghost use Rattle.std.specs.Prelude.{◌≡◌, ℕ, ◌+◌, ◌^◌, ◌<◌, ◌≤◌, ◌<ℤ◌, ◌≤ℤ◌, ◌⊎◌, pos, true, false, IsTrue};
-ghost use Rattle.vf_spans.specs.Words.{has_bit};
+ghost use Rattle.vf_spans.specs.Members.{in_range};
 ghost use Rattle.near_points.specs.declared.stance.Stance.{Stance};
 ghost use Rattle.near_points.specs.Lines.{AreBeyond, FitsAfter, IsAfter, is_amid_after, is_held_after, is_narrow_after};
 
 use crate::hold::Hold;
 use crate::stance::{Stance, moved, tilted};
 use crate::step::Step;
-use vf_spans::bits::{bits_from, lowest_bits};
 
 /// Whether two numbers are both below the least one that is held, or both above the most.
 #[inline]
@@ -154,36 +153,37 @@ fn last_narrow(first: &Stance, step: &Step, hold: &Hold, l: u32, m: u32) -> u32
     at
 }
 
-/// The bits from `lo` to `hi` of the points that are held. Bit b is the point at the index `start + b`. They are those between the first
-/// one that is held and the last.
+/// The points from one to another that are held, as the first of them and the one behind the last. They are those between the first one
+/// that is held and the last.
 #[inline]
-pub fn held_between(first: &Stance, step: &Step, hold: &Hold, start: u32, lo: u32, hi: u32) -> u64
-    requires order { lo ≤ hi }
-    requires within { hi < 64 }
-    requires few { start + hi + 1 < 2 ^ 32 }
-    requires fits { (b : ℕ) → lo ≤ b → b ≤ hi → FitsAfter first.now step.now (pos (start + b)) }
-    ensures { (b : ℕ) → lo ≤ b → b ≤ hi → has_bit result b ≡ is_held_after hold.now first.now step.now (pos (start + b)) }
+pub fn held_between(first: &Stance, step: &Step, hold: &Hold, l: u32, m: u32) -> (u32, u32)
+    requires order { l ≤ m }
+    requires few { m + 1 < 2 ^ 32 }
+    requires fits { (x : ℕ) → l ≤ x → x ≤ m → FitsAfter first.now step.now (pos x) }
+    ensures from { l ≤ result.0 }
+    ensures order { result.0 ≤ result.1 }
+    ensures to { result.1 ≤ m + 1 }
+    ensures held { (x : ℕ) → l ≤ x → x ≤ m → in_range x result ≡ is_held_after hold.now first.now step.now (pos x) }
 {
-    let (l, m) = (start + lo, start + hi);
     let low = moved(first.height, l, step.height);
     let high = moved(first.height, m, step.height);
     if are_beyond(hold.least, hold.most, low, high) {
-        return 0;
+        return (l, l);
     }
     let left = tilted(first.side, l, step.side);
     let right = tilted(first.side, m, step.side);
     if are_beyond(-hold.across, hold.across, left, right) {
-        return 0;
+        return (l, l);
     }
     let bottom = first_amid(first, step, hold, l, m);
     if m < bottom {
-        return 0;
+        return (l, l);
     }
     let top = last_amid(first, step, hold, bottom, m);
     let from = first_narrow(first, step, hold, bottom, top);
     if top < from {
-        return 0;
+        return (l, l);
     }
     let to = last_narrow(first, step, hold, from, top);
-    bits_from(from - start) & lowest_bits(to - start + 1)
+    (from, to + 1)
 }

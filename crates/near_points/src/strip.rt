@@ -1,12 +1,31 @@
+ghost use Rattle.std.specs.Prelude.{◌≡◌, ℕ, ◌+◌, ◌<◌, ◌≤◌};
+ghost use Rattle.vf_spans.specs.Members.{in_range};
+ghost use Rattle.vf_spans.specs.Words.{has_bit};
+
 use crate::hold::Hold;
 use crate::offset::{offset_from, scaled, turned, way_across};
 use crate::scan::held_between;
 use crate::stance::Stance;
 use crate::step::Step;
+use crate::trim::trimmed;
 use ray_grid::{Family, Grid, Ray};
 use std::marker::Model;
 use sweep_boxes::BoundingCylinder;
-use vf_spans::bits::{highest_bit, lowest_bit};
+use vf_spans::bits::{bits_from, highest_bit, lowest_bit, lowest_bits};
+
+/// The bits of the points of a range of a ray, told by its first one and the one behind its last. Bit b is the point at the index
+/// `first + b`.
+#[inline]
+fn bits_between(first: u32, range: (u32, u32)) -> u64
+    requires from { first ≤ range.0 }
+    requires to { range.1 ≤ first + 64 }
+    ensures { (b : ℕ) → b < 64 → has_bit result b ≡ in_range (first + b) range }
+{
+    if range.1 <= range.0 {
+        return 0;
+    }
+    bits_from(range.0 - first) & lowest_bits(range.1 - first)
+}
 
 /// A bounding cylinder, ready for the points of the rays of one strip of a grid: those of a family with the node i.
 #[derive(Drop)]
@@ -34,11 +53,11 @@ impl<'a> Model for NearStrip<'a> {
 }
 
 impl<'a> NearStrip<'a> {
-    ghost use Rattle.std.specs.Prelude.{◌≡◌, ℕ, ◌<◌, ◌↔◌, true};
+    ghost use Rattle.std.specs.Prelude.{◌≡◌, ℕ, ◌<◌, true};
     ghost use Rattle.ray_grid.specs.Families.{first_axis, second_axis};
     ghost use Rattle.ray_grid.specs.Lattice.{nodes_of};
     ghost use Rattle.vf_spans.specs.Words.{has_bit};
-    ghost use Rattle.near_points.specs.Rays.{AreOnRay, IsHeldBit, near_ray_at};
+    ghost use Rattle.near_points.specs.Rays.{AreOnRay, IsHeldBit, IsKeptBit, near_ray_at};
 
     /// For the rays of a family with the node i.
     pub fn new(
@@ -70,13 +89,14 @@ impl<'a> NearStrip<'a> {
         }
     }
 
-    /// Those of the wanted points of a word of the ray with the node j that the cylinder holds: bit b is the point at the index
-    /// `first + b`. Each wanted bit is a point of the ray.
+    /// Of the wanted points of a word of the ray with the node j all that the cylinder holds at each level, and none that it doesn't hold
+    /// where it is widest: bit b is the point at the index `first + b`. Each wanted bit is a point of the ray.
     #[inline]
     pub fn near(&self, j: u32, first: u32, wanted: u64) -> u64
         requires node { j < nodes_of self.now.grid (second_axis self.now.family) }
         requires on_ray { AreOnRay (near_ray_at self.now j) first wanted }
-        ensures { (b : ℕ) → b < 64 → (has_bit result b ≡ true) ↔ IsHeldBit (near_ray_at self.now j) first wanted b }
+        ensures kept { (b : ℕ) → b < 64 → IsKeptBit (near_ray_at self.now j) first wanted b → has_bit result b ≡ true }
+        ensures held { (b : ℕ) → b < 64 → has_bit result b ≡ true → IsHeldBit (near_ray_at self.now j) first wanted b }
     {
         if wanted == 0 {
             return 0;
@@ -90,11 +110,14 @@ impl<'a> NearStrip<'a> {
         requires node { j < nodes_of self.now.grid (second_axis self.now.family) }
         requires some { 0 < wanted }
         requires on_ray { AreOnRay (near_ray_at self.now j) first wanted }
-        ensures { (b : ℕ) → b < 64 → (has_bit result b ≡ true) ↔ IsHeldBit (near_ray_at self.now j) first wanted b }
+        ensures kept { (b : ℕ) → b < 64 → IsKeptBit (near_ray_at self.now j) first wanted b → has_bit result b ≡ true }
+        ensures held { (b : ℕ) → b < 64 → has_bit result b ≡ true → IsHeldBit (near_ray_at self.now j) first wanted b }
     {
         let start = self.start.moved(&self.across, j);
-        let lo = lowest_bit(wanted);
-        let hi = highest_bit(wanted);
-        held_between(&start, &self.step, &self.hold, first, lo, hi) & wanted
+        let l = first + lowest_bit(wanted);
+        let m = first + highest_bit(wanted);
+        let held = held_between(&start, &self.step, &self.hold, l, m);
+        let kept = trimmed(&start, &self.step, &self.cylinder.levels, held);
+        bits_between(first, kept) & wanted
     }
 }

@@ -1,15 +1,18 @@
-use Rattle.std.proofs.Common.{◌≡◌, ◌+◌, ◌<◌, true, arith, subst, sym, ◌∙◌}
-use Rattle.std.proofs.lemmas.Bool.{and_parts}
+use Rattle.std.proofs.Common.{◌≡◌, ◌+◌, ◌<◌, true, false, pos, List, arith, subst, sym, ap, ◌∙◌, ⊎_elim}
+use Rattle.std.proofs.lemmas.Bool.{and_parts, cases_Bool}
 use Rattle.ray_grid.specs.Families.{second_axis}
 use Rattle.ray_grid.specs.Lattice.{nodes_of}
+use Rattle.sweep_boxes.specs.declared.level.Level.{Level}
+use Rattle.vf_spans.specs.Members.{in_range}
 use Rattle.vf_spans.specs.Words.{has_bit}
 use Rattle.vf_spans.proofs.WordBits.{has_bit-and}
 use Rattle.vf_spans.proofs.HighestBit.{at_least, at_most}
 use Rattle.near_points.specs.Rays.{NearStripOf, near_ray_at}
-use Rattle.near_points.specs.Ready.{IsReadyRay}
-use Rattle.near_points.proofs.Holding.{holds_point, point_holds}
+use Rattle.near_points.specs.Trimmed.{IsLeftOut}
+use Rattle.near_points.proofs.Holding.{holds_point, not_left_out, point_holds}
+use Rattle.near_points.proofs.Trimming.{in_wider}
 use Rattle.near_points.proofs.Told.{both_true}
-use Rattle.near_points.proofs.Turning.{first_fits, ready_ray}
+use Rattle.near_points.proofs.Turning.{first_fits, ready_on}
 use Rattle.near_points.proofs.strip.NearStrip.near_some.Goals as goal
 
 pub moved-start-requires : goal.moved-start-requires
@@ -18,40 +21,63 @@ moved-start-requires c =
     let there : c.args.j < nodes_of s.grid (second_axis s.family) = subst (λ (z : NearStripOf). c.args.j < nodes_of z.grid (second_axis z.family)) (sym c.self.view_is) c.requires.node in
     first_fits i.start i.across i.step i.hold s c.args.j c.self.invariant there
 
-pub held_between-requires-clause-few : goal.held_between-requires-clause-few
-held_between-requires-clause-few c =
-    let i = c.self.inside in let s : NearStripOf = record { cylinder = i.cylinder.now; grid = i.grid.now; family = i.family; i = i.i } in
-    let there : c.args.j < nodes_of s.grid (second_axis s.family) = subst (λ (z : NearStripOf). c.args.j < nodes_of z.grid (second_axis z.family)) (sym c.self.view_is) c.requires.node in
-    let ready = subst (λ (z : NearStripOf). IsReadyRay c.moved-start.result i.step i.hold (near_ray_at z c.args.j)) c.self.view_is
-    (ready_ray i.start i.across c.moved-start.result i.step i.hold s c.args.j c.self.invariant there c.moved-start.ensures) in
-    let hi = c.highest_bit-hi in
-    let within = c.requires.on_ray hi.result hi.ensures.within hi.ensures.set in
-    let few = ready.few in
+pub overflow_add-l : goal.overflow_add-l
+overflow_add-l c =
+    let i = c.self.inside in let lo = c.lowest_bit in
+    let few = (ready_on i.start i.across c.moved-start.result i.step i.hold _ c.args.self.now c.args.j c.self.view_is c.self.invariant c.requires.node c.moved-start.ensures).few in
+    let within = c.requires.on_ray lo.result lo.ensures.within lo.ensures.set in
     omega (arith, within, few)
 
-pub held_between-requires-clause-fits : goal.held_between-requires-clause-fits
-held_between-requires-clause-fits c = λ b from to.
-    let i = c.self.inside in let s : NearStripOf = record { cylinder = i.cylinder.now; grid = i.grid.now; family = i.family; i = i.i } in
-    let there : c.args.j < nodes_of s.grid (second_axis s.family) = subst (λ (z : NearStripOf). c.args.j < nodes_of z.grid (second_axis z.family)) (sym c.self.view_is) c.requires.node in
-    let ready = subst (λ (z : NearStripOf). IsReadyRay c.moved-start.result i.step i.hold (near_ray_at z c.args.j)) c.self.view_is
-    (ready_ray i.start i.across c.moved-start.result i.step i.hold s c.args.j c.self.invariant there c.moved-start.ensures) in
-    let hi = c.highest_bit-hi in
+pub overflow_add-m : goal.overflow_add-m
+overflow_add-m c =
+    let i = c.self.inside in let hi = c.highest_bit in
+    let few = (ready_on i.start i.across c.moved-start.result i.step i.hold _ c.args.self.now c.args.j c.self.view_is c.self.invariant c.requires.node c.moved-start.ensures).few in
     let within = c.requires.on_ray hi.result hi.ensures.within hi.ensures.set in
-    ready.fits (c.args.first + b) (omega (arith, within, to))
+    omega (arith, within, few)
 
-pub returns : goal.returns
-returns c = λ b below.
-    let i = c.self.inside in let w = c.args.wanted in let s : NearStripOf = record { cylinder = i.cylinder.now; grid = i.grid.now; family = i.family; i = i.i } in
-    let there : c.args.j < nodes_of s.grid (second_axis s.family) = subst (λ (z : NearStripOf). c.args.j < nodes_of z.grid (second_axis z.family)) (sym c.self.view_is) c.requires.node in
-    let r = near_ray_at c.args.self.now c.args.j in let first = c.moved-start.result in
-    let ready = subst (λ (z : NearStripOf). IsReadyRay first i.step i.hold (near_ray_at z c.args.j)) c.self.view_is
-    (ready_ray i.start i.across first i.step i.hold s c.args.j c.self.invariant there c.moved-start.ensures) in
-    let here = λ (set : has_bit w b ≡ true).
-    c.held_between.ensures b (at_least w c.lowest_bit-lo.result b c.lowest_bit-lo.ensures.lowest set) (at_most w c.highest_bit-hi.result b c.highest_bit-hi.ensures.highest set) in (
-      λ set.
-          let both = and_parts (has_bit c.held_between.result b) (has_bit w b) (sym (has_bit-and c.held_between.result w b) ∙ set) in
-          (both.1, holds_point first i.step i.hold r (c.args.first + b) ready (c.requires.on_ray b below both.1) (sym (here both.1) ∙ both.0)),
-      λ held.
-          has_bit-and c.held_between.result w b
-          ∙ both_true (has_bit c.held_between.result b) (has_bit w b) (here held.0 ∙ point_holds first i.step i.hold r (c.args.first + b) ready (c.requires.on_ray b below held.0) held.1) held.0,
-    )
+pub held_between-held-requires-clause-few : goal.held_between-held-requires-clause-few
+held_between-held-requires-clause-few c =
+    let i = c.self.inside in let hi = c.highest_bit in
+    let few = (ready_on i.start i.across c.moved-start.result i.step i.hold _ c.args.self.now c.args.j c.self.view_is c.self.invariant c.requires.node c.moved-start.ensures).few in
+    let within = c.requires.on_ray hi.result hi.ensures.within hi.ensures.set in
+    omega (arith, within, few)
+
+pub held_between-held-requires-clause-fits : goal.held_between-held-requires-clause-fits
+held_between-held-requires-clause-fits c = λ x from to.
+    let i = c.self.inside in let hi = c.highest_bit in
+    let ready = ready_on i.start i.across c.moved-start.result i.step i.hold _ c.args.self.now c.args.j c.self.view_is c.self.invariant c.requires.node c.moved-start.ensures in
+    let within = c.requires.on_ray hi.result hi.ensures.within hi.ensures.set in
+    ready.fits x (omega (arith, within, to))
+
+pub trimmed-kept-requires-clause-fits : goal.trimmed-kept-requires-clause-fits
+trimmed-kept-requires-clause-fits c = λ x from to.
+    let i = c.self.inside in let hi = c.highest_bit in
+    let ready = ready_on i.start i.across c.moved-start.result i.step i.hold _ c.args.self.now c.args.j c.self.view_is c.self.invariant c.requires.node c.moved-start.ensures in
+    let within = c.requires.on_ray hi.result hi.ensures.within hi.ensures.set in
+    ready.fits x (omega (arith, within, to, c.held_between-held.ensures.to))
+
+pub returns-clause-kept : goal.returns-clause-kept
+returns-clause-kept c = λ b below kept.
+    let i = c.self.inside in let w = c.args.wanted in let r = near_ray_at c.args.self.now c.args.j in let first = c.moved-start.result in let x = c.args.first + b in
+    let ready = ready_on i.start i.across first i.step i.hold _ c.args.self.now c.args.j c.self.view_is c.self.invariant c.requires.node c.moved-start.ensures in
+    let held = c.held_between-held in let range = c.trimmed-kept in let on = c.requires.on_ray b below kept.0 in
+    let low = at_least w c.lowest_bit.result b c.lowest_bit.ensures.lowest kept.0 in let high = at_most w c.highest_bit.result b c.highest_bit.ensures.highest kept.0 in
+    let inside : in_range x held.result ≡ true = held.ensures.held x (omega (arith, low)) (omega (arith, high)) ∙ point_holds first i.step i.hold r x ready on kept.1.widest in
+    let levels : i.cylinder.now.levels ≡ r.cylinder.levels = ap (λ (z : NearStripOf). z.cylinder.levels) c.self.view_is in
+    let stays : in_range x range.result ≡ true =
+    ⊎_elim (λ (yes : in_range x range.result ≡ true). yes)
+    (λ (no : in_range x range.result ≡ false).
+    absurd (not_left_out first i.step i.hold r x ready on kept.1 (subst (λ (z : List Level). IsLeftOut z first i.step (pos x)) levels (range.ensures.out x inside no))))
+    (cases_Bool (in_range x range.result)) in
+    has_bit-and c.bits_between.result w b ∙ both_true (has_bit c.bits_between.result b) (has_bit w b) (c.bits_between.ensures b below ∙ stays) kept.0
+
+pub returns-clause-held : goal.returns-clause-held
+returns-clause-held c = λ b below set.
+    let i = c.self.inside in let w = c.args.wanted in let r = near_ray_at c.args.self.now c.args.j in let first = c.moved-start.result in let x = c.args.first + b in
+    let ready = ready_on i.start i.across first i.step i.hold _ c.args.self.now c.args.j c.self.view_is c.self.invariant c.requires.node c.moved-start.ensures in
+    let held = c.held_between-held in let range = c.trimmed-kept in
+    let both = and_parts (has_bit c.bits_between.result b) (has_bit w b) (sym (has_bit-and c.bits_between.result w b) ∙ set) in
+    let low = at_least w c.lowest_bit.result b c.lowest_bit.ensures.lowest both.1 in let high = at_most w c.highest_bit.result b c.highest_bit.ensures.highest both.1 in
+    let inside : in_range x held.result ≡ true =
+    in_wider x range.result.0 range.result.1 held.result.0 held.result.1 range.ensures.from range.ensures.to (sym (c.bits_between.ensures b below) ∙ both.0) in
+    (both.1, holds_point first i.step i.hold r x ready (c.requires.on_ray b below both.1) (sym (held.ensures.held x (omega (arith, low)) (omega (arith, high))) ∙ inside))
