@@ -1,10 +1,11 @@
--- Of the wanted points of a word of a ray, those that the move's cylinder holds are those that the move is asked about.
-use Rattle.std.proofs.Common.{◌≡◌, ℕ, ◌+◌, ◌*◌, ◌<◌, ◌≤◌, true, ◌&&◌, ◌↔◌, arith, sym, ap₂, ◌∙◌, ⊎_elim}
+-- Of the wanted points of a word of a ray, the move is asked about all that its cylinder holds, and about none that it doesn't hold where
+-- it is widest.
+use Rattle.std.proofs.Common.{◌≡◌, ℕ, ◌+◌, ◌*◌, ◌<◌, ◌≤◌, true, ◌&&◌, arith, sym, ap₂, ◌∙◌, ⊎_elim}
 use Rattle.std.proofs.lemmas.Bool.{and_parts, cases_lt}
 use Rattle.vf_spans.specs.Members.{in_range}
 use Rattle.vf_spans.specs.Words.{has_bit}
 use Rattle.ray_grid.specs.Lattice.{points_of}
-use Rattle.near_points.specs.Rays.{AreOnRay, IsHeldBit, NearRayOf}
+use Rattle.near_points.specs.Rays.{AreOnRay, IsHeldBit, IsKeptBit, NearRayOf}
 use Rattle.dexel_rays.specs.Sets.{Sets}
 use Rattle.ray_words.specs.Rays.{is_wanted_at}
 use Rattle.strip_marks.specs.RayMarks.{AreAskedIn, HasNoneAsked}
@@ -19,15 +20,16 @@ wanted_on_ray near d window n wanted on is b lt t =
     omega (arith, below, on)
 
 pub held_asked : (near : NearRayOf) (d : Sets) (window : ℕ × ℕ) (n wanted held : ℕ) → AreWantedIn d n window.0 window.1 wanted
-    → ((b : ℕ) → b < 64 → (has_bit held b ≡ true) ↔ IsHeldBit near (64 * n) wanted b) → AreAskedIn near d window n held
-held_asked near d window n wanted held is near_is b lt =
-    let l = 64 * n + b in (
-      λ t.
-          let at = (near_is b lt).0 t in
-          let both = and_parts (is_wanted_at d l) (in_range l window) (sym (is b lt) ∙ at.0) in
-          record { wanted = both.0; in_window = both.1; held = at.1 },
-      λ at. (near_is b lt).1 (is b lt ∙ ap₂ (λ x y. x && y) at.wanted at.in_window, at.held),
-    )
+    → ((b : ℕ) → b < 64 → IsKeptBit near (64 * n) wanted b → has_bit held b ≡ true)
+    → ((b : ℕ) → b < 64 → has_bit held b ≡ true → IsHeldBit near (64 * n) wanted b) → AreAskedIn near d window n held
+held_asked near d window n wanted held is all only = record {
+  all = λ b lt at. all b lt (is b lt ∙ ap₂ (λ x y. x && y) at.wanted at.in_window, at.kept);
+  only = λ b lt t.
+      let at = only b lt t in
+      let l = 64 * n + b in
+      let both = and_parts (is_wanted_at d l) (in_range l window) (sym (is b lt) ∙ at.0) in
+      record { wanted = both.0; in_window = both.1; held = at.1 };
+}
 
 -- ahead of the word behind one that has no such point there is none, where ahead of that one there is none
 pub none_asked_next : (near : NearRayOf) (d : Sets) (window : ℕ × ℕ) (n asked : ℕ) → HasNoneAsked near d window n → 64 * n < window.1

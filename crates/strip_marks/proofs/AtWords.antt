@@ -81,7 +81,7 @@ pub none_asked : (near : NearRayOf) (d : Sets) (window : ℕ × ℕ) (n asked : 
 none_asked near d window n asked is zero l ge lt at =
     let e : l ≡ 64 * n + (l - 64 * n) = omega arith in
     let here = subst (IsAskedAt near d window) e at in
-    let yes = (is (l - 64 * n) (omega arith)).1 here in
+    let yes = is.all (l - 64 * n) (omega arith) here in
     let no = unmarked_bit asked (l - 64 * n) zero in cc
 
 -- an index of the ray that the move isn't asked about, by its cylinder
@@ -95,7 +95,7 @@ idle_unasked near r d lo hi l h w of lt none =
     (λ ge less.
     let clear : is_possible_at r l ≡ false =
     false_from_ne_true (is_possible_at r l)
-    (λ t. none (record { wanted = yes; in_window = inside lo hi l ge less; held = of.holds l point t })) in
+    (λ t. none (record { wanted = yes; in_window = inside lo hi l ge less; kept = of.holds l point t })) in
     inr (false_from_ne_true (is_sure_at r l) (λ t. let both = w.both l t in cc), clear))
     (λ out. inr (not_sure_beside r lo hi l w point out, not_possible_beside r lo hi l w point out)))
     (λ (no : is_wanted_at d l ≡ false). inl no)
@@ -105,9 +105,9 @@ idle_unasked near r d lo hi l h w of lt none =
 pub asked_of : (near : NearRayOf) (r : RayOf) (d : Sets) (n lo hi asked : ℕ) → AreSetsOf r d → IsWindow r lo hi → IsNearOf near r
     → AreAskedIn near d (lo, hi) n asked → AreAsked r d n asked
 asked_of near r d n lo hi asked h w of is = record {
-  on_ray = λ b lt t. let at = (is b lt).0 t in omega (arith, in_range_below lo hi (64 * n + b) at.in_window, w.within);
-  wanted = λ b lt t. ((is b lt).0 t).wanted;
-  others = λ b lt below no. idle_unasked near r d lo hi (64 * n + b) h w of below (λ at. let yes = (is b lt).1 at in cc);
+  on_ray = λ b lt t. let at = is.only b lt t in omega (arith, in_range_below lo hi (64 * n + b) at.in_window, w.within);
+  wanted = λ b lt t. (is.only b lt t).wanted;
+  others = λ b lt below no. idle_unasked near r d lo hi (64 * n + b) h w of below (λ at. let yes = is.all b lt at in cc);
 }
 
 -- where no bit is set every point of the word is idle

@@ -1,9 +1,9 @@
 -- What a move changes on a ray, and what it finds there.
-use Rattle.std.specs.Prelude.{◌≡◌, ℕ, ◌+◌, ◌-◌, ◌*◌, ◌/◌, ◌<◌, ◌≤◌, ◌^◌, ◌⊎◌, ◌↔◌, true, false, Bool, not, ◌&&◌, List, ◌++◌, length, slice_index_or, All}
+use Rattle.std.specs.Prelude.{◌≡◌, ℕ, ◌+◌, ◌-◌, ◌*◌, ◌/◌, ◌<◌, ◌≤◌, ◌^◌, ◌⊎◌, true, false, Bool, not, ◌&&◌, List, ◌++◌, length, slice_index_or, All}
 use Rattle.std.specs.List.{range_with_len}
 use Rattle.vf_spans.specs.Members.{has, in_range}
 use Rattle.vf_spans.specs.Words.{has_bit, words_below}
-use Rattle.near_points.specs.Rays.{IsHeldAt, NearRayOf}
+use Rattle.near_points.specs.Rays.{IsHeldAt, IsKeptAt, NearRayOf}
 use Rattle.ray_grid.specs.Lattice.{points_of}
 use Rattle.job_facts.specs.declared.counts.Counts.{Counts}
 use Rattle.job_facts.specs.Counts.{AreWithin, most_count, plus}
@@ -29,27 +29,34 @@ pub record Adds (before after : Marked) (fact : List WordChange → Counts → T
 abbrev pub CanCount : ℕ → Counts → Type 0
 CanCount points counts = AreWithin (most_count - points) counts
 
--- an index that a move is asked about: it is wanted, it lies in the move's window, and the move's cylinder holds its point
+-- an index that a move has to be asked about: it is wanted, it lies in the move's window, and the move's cylinder holds its point
 pub record IsAskedAt (near : NearRayOf) (d : Sets) (window : ℕ × ℕ) (l : ℕ) : Type 0 where
+  pub wanted : is_wanted_at d l ≡ true
+  pub in_window : in_range l window ≡ true
+  pub kept : IsKeptAt near l
+
+-- one that it may be asked about: the move's cylinder where it is widest holds its point
+pub record MayBeAskedAt (near : NearRayOf) (d : Sets) (window : ℕ × ℕ) (l : ℕ) : Type 0 where
   pub wanted : is_wanted_at d l ≡ true
   pub in_window : in_range l window ≡ true
   pub held : IsHeldAt near l
 
--- there is no such index
+-- there is no index that it has to be asked about
 abbrev pub IsUnasked : NearRayOf → Sets → ℕ × ℕ → Type 0
 IsUnasked near d window = (l : ℕ) → IsAskedAt near d window l → ⊥
 
--- bit b of a word is set where the move is asked about the index 64 n + b
-abbrev pub AreAskedIn : NearRayOf → Sets → ℕ × ℕ → ℕ → ℕ → Type 0
-AreAskedIn near d window n asked = (b : ℕ) → b < 64 → (has_bit asked b ≡ true) ↔ IsAskedAt near d window (64 * n + b)
+-- bit b of a word is set where the move has to be asked about the index 64 n + b, and only where it may be
+pub record AreAskedIn (near : NearRayOf) (d : Sets) (window : ℕ × ℕ) (n asked : ℕ) : Type 0 where
+  pub all : (b : ℕ) → b < 64 → IsAskedAt near d window (64 * n + b) → has_bit asked b ≡ true
+  pub only : (b : ℕ) → b < 64 → has_bit asked b ≡ true → MayBeAskedAt near d window (64 * n + b)
 
--- ahead of a word of the window there is no such index
+-- ahead of a word of the window there is no index that the move has to be asked about
 pub record HasNoneAsked (near : NearRayOf) (d : Sets) (window : ℕ × ℕ) (word : ℕ) : Type 0 where
   pub from : window.0 / 64 ≤ word
   pub to : word ≤ words_below window.1
   pub none : (l : ℕ) → l < 64 * word → IsAskedAt near d window l → ⊥
 
--- the first word with such an index, and its bits
+-- a word ahead of which there is no such index, and its bits
 pub record IsFirstAsked (near : NearRayOf) (d : Sets) (window : ℕ × ℕ) (first : AskedWord) : Type 0 where
   pub ahead : HasNoneAsked near d window first.word
   pub inside : 64 * first.word < window.1
@@ -59,7 +66,7 @@ pub record IsFirstAsked (near : NearRayOf) (d : Sets) (window : ℕ × ℕ) (fir
 pub record IsNearOf (near : NearRayOf) (r : RayOf) : Type 0 where
   pub grid : near.grid ≡ r.grid
   pub ray : near.ray ≡ r.ray
-  pub holds : (l : ℕ) → l < points_of r.grid r.ray.family → is_possible_at r l ≡ true → IsHeldAt near l
+  pub holds : (l : ℕ) → l < points_of r.grid r.ray.family → is_possible_at r l ≡ true → IsKeptAt near l
 
 -- the index isn't wanted, or the move is neither sure nor possible there
 abbrev pub IsIdle : Sets → (ℕ → Bool) → (ℕ → Bool) → ℕ → Type 0

@@ -33,7 +33,8 @@ pub fn wanted_in(ray: &WordRay, word: u32, window: (u32, u32)) -> u64
     wanted & bits_of_range(word, window.0, window.1)
 }
 
-/// The points of a word of ray n that a move is asked about: those wanted ones in its window that its cylinder holds.
+/// The points of a word of ray n that a move is asked about: of the wanted ones in its window all that its cylinder holds, and none that
+/// it doesn't hold where it is widest.
 #[inline]
 pub fn asked_in(near: &NearStrip<'_>, ray: &WordRay, n: u32, word: u32, window: (u32, u32)) -> u64
     requires n { n < nodes_of near.now.grid (second_axis near.now.family) }
