@@ -4,7 +4,7 @@ ghost use Rattle.sweep_boxes.specs.Limits.{side_limit};
 
 use near_points::NearStrip;
 use ray_grid::{Family, Grid, Ray};
-use sweep_boxes::BoundingCylinder;
+use sweep_boxes::{BoundingCylinder, LEVELS, Level};
 use vf_spans::bits::lowest_bits;
 
 /// A lattice of 8 mm by 8 mm by 2 mm with nodes at each millimetre and points at each half of one.
@@ -14,6 +14,20 @@ const GRID: Grid = Grid {
     step: 500,
     counts: [8, 8, 2],
 };
+
+/// Levels that no point is below, where none has less height.
+fn unused(least: i64) -> [Level; LEVELS] {
+    [
+        Level::unused(least),
+        Level::unused(least),
+        Level::unused(least),
+        Level::unused(least),
+        Level::unused(least),
+        Level::unused(least),
+        Level::unused(least),
+        Level::unused(least),
+    ]
+}
 
 /// A cylinder about an axis through the point (2 mm, 1 mm, 0), at the scale 2.
 fn cylinder(axis: [i64; 3], least: i64, most: i64, moment: i64) -> BoundingCylinder
@@ -30,6 +44,7 @@ fn cylinder(axis: [i64; 3], least: i64, most: i64, moment: i64) -> BoundingCylin
         moment,
         side: [0, 0, 0],
         across: 0,
+        levels: unused(least),
     }
 }
 
@@ -46,11 +61,12 @@ fn flat_cylinder(across: i64) -> BoundingCylinder
         moment: 4_000,
         side: [0, 1, 0],
         across,
+        levels: unused(0),
     }
 }
 
 /// The points of a ray that are held, where the lattice has the ray and its points are one word.
-fn held(cylinder: &BoundingCylinder, family: Family, i: u32, j: u32) -> Option<u64> {
+pub fn held(cylinder: &BoundingCylinder, family: Family, i: u32, j: u32) -> Option<u64> {
     let grid = GRID;
     let points = grid.points(family);
     if points > 64 || !grid.has_point(&Ray { family, i, j }, 0) {

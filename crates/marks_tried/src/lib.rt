@@ -2,6 +2,7 @@
 #![tactic(auto)]
 
 mod cylinders;
+mod levels;
 mod plans;
 mod runs;
 mod words;
