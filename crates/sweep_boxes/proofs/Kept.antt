@@ -41,11 +41,11 @@ pub record Limits (p q a c : List ℤ) (S : ℕ) (s : SlabSize) (r h m n v b : �
   pub slope : unsigned_abs (height_change (sum p q) (sum a c) (difference q p) (difference c a)) ≤ v
   pub bow : unsigned_abs (dot (difference q p) (difference c a)) ≤ b
 
-over_or : (z : ℤ) (n : ℕ) → (z ≤ℤ pos n) ⊎ (pos n <ℤ z)
+pub over_or : (z : ℤ) (n : ℕ) → (z ≤ℤ pos n) ⊎ (pos n <ℤ z)
 over_or (pos k) n = ⊎_elim (λ less. inr (omega (arith, ints))) (λ most. inl (omega (arith, ints))) (cases_lt n k)
 over_or (negsuc k) n = inl (omega (arith, ints))
 
-under_or : (z : ℤ) (n : ℕ) → ((pos 0 -ℤ pos n) ≤ℤ z) ⊎ ((z +ℤ pos n) <ℤ pos 0)
+pub under_or : (z : ℤ) (n : ℕ) → ((pos 0 -ℤ pos n) ≤ℤ z) ⊎ ((z +ℤ pos n) <ℤ pos 0)
 under_or (pos k) n = inl (omega (arith, ints))
 under_or (negsuc k) n = ⊎_elim (λ less. inl (omega (arith, ints))) (λ most. inr (omega (arith, ints))) (cases_lt k n)
 
