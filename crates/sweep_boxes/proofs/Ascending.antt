@@ -1,5 +1,5 @@
 -- The slabs of a stack in front of a place are no wider than the last of them, and the others begin no lower than the first.
-use Rattle.std.proofs.Common.{◌≡◌, ℕ, zero, suc, ◌-◌, ◌≤◌, ◌<◌, List, [], ◌∷◌, length, get_or, ℤ, pos, ◌≤ℤ◌, inl, inr, ⊎_elim, arith, sym, subst}
+use Rattle.std.proofs.Common.{◌≡◌, ℕ, zero, suc, ◌-◌, ◌≤◌, ◌<◌, List, [], ◌∷◌, length, get_or, pos, ◌≤ℤ◌, inl, inr, ⊎_elim, arith, sym, subst}
 use Rattle.std.proofs.lemmas.Int.{ints}
 use Rattle.std.proofs.lemmas.Bool.{cases_lt}
 use Rattle.bern_form.specs.Slab.{SlabSize}

@@ -1,21 +1,19 @@
 -- Where a point isn't as high as a slab begins throughout a part of a move, it is no place of that slab.
-use Rattle.std.proofs.Common.{◌≡◌, ℕ, zero, suc, ◌+◌, ◌*◌, ◌≤◌, ◌<◌, List, [], ◌∷◌, ℤ, pos, negsuc, ◌+ℤ◌, ◌*ℤ◌, ◌-ℤ◌, ◌≤ℤ◌, ◌<ℤ◌, ◌⊎◌, inl, inr, ⊎_elim, unsigned_abs, arith, refl, sym, subst}
+use Rattle.std.proofs.Common.{◌≡◌, ℕ, zero, suc, ◌+◌, ◌*◌, ◌≤◌, ◌<◌, List, ℤ, pos, ◌+ℤ◌, ◌*ℤ◌, ◌-ℤ◌, ◌≤ℤ◌, ◌<ℤ◌, inl, inr, ⊎_elim, unsigned_abs, arith, refl}
 use Rattle.std.proofs.lemmas.Int.{ints}
-use Rattle.std.proofs.Math.Nat.{mul-le-mul}
 use borrow.Author.Differences.{abs_is}
 use Rattle.space.specs.Vectors.{at, dot}
-use Rattle.space.proofs.Naturals.{abs_mul, square_not_negative}
-use Rattle.space.proofs.Solver.{Term, var, num, add, mul, ring}
-use Rattle.space.proofs.Terms.{dots, from, sub}
+use Rattle.space.proofs.Naturals.{abs_mul}
+use Rattle.space.proofs.Solver.{Term, num, add, mul, ring}
+use Rattle.space.proofs.Terms.{dots, from}
 use Rattle.bern_form.specs.Cells.{dot_on_cell, scaled_square}
 use Rattle.bern_form.specs.Slab.{SlabSize}
 use Rattle.bern_form.proofs.Finer.{ExcludedWith}
 use Rattle.bern_form.proofs.HalfSigns.{all_five}
 use Rattle.bern_form.proofs.Relations.{AllNegative}
-use Rattle.sweep_boxes.specs.Vectors.{difference, sum}
 use Rattle.sweep_boxes.proofs.Kept.{under_or}
 use Rattle.sweep_boxes.proofs.Numbers.{most_or_more}
-use Rattle.sweep_boxes.proofs.Pieces.{IsBehind, behind_tip, height, height0, height1, height2, height3, height4, height_bend, height_change, height_first, height_last, height_middle, lift_height, lift_of, lift6, six, z6}
+use Rattle.sweep_boxes.proofs.Pieces.{behind_tip, height, height0, height1, height2, height3, height4, height_bend, height_change, height_first, height_last, height_middle, lift_height, lift_of, lift6, six, z6}
 
 -- z n is at least (r / 4)^2 at both ends, and z times the product of the axes there, so each coefficient of degree 4 is at least as
 -- many times that

@@ -1,4 +1,4 @@
-ghost use Rattle.std.specs.Prelude.{◌≡◌, ◌+◌, ◌*◌, ◌<◌, ◌≤◌, ◌^◌, ◌*ℤ◌, ◌≤ℤ◌, List, ℕ, ℤ, pos, true, unsigned_abs};
+ghost use Rattle.std.specs.Prelude.{◌≡◌, ◌+◌, ◌*◌, ◌<◌, ◌≤◌, ◌^◌, ◌*ℤ◌, ◌≤ℤ◌, List, ℕ, ℤ, length, pos, true, unsigned_abs};
 ghost use Rattle.space.specs.Motion.{Motion};
 ghost use Rattle.space.specs.Ranges.{IsWithin};
 ghost use Rattle.space.specs.Vectors.{dot};
@@ -94,19 +94,17 @@ fn level_at(piece: &Piece, ladder: &Ladder, step: &Step, least: i64) -> Level
 /// One of the levels: they are at places of the stack that are as many slabs apart.
 fn level_of(piece: &Piece, ladder: &Ladder, slabs: &[Slab], least: i64, number: usize) -> Level
     requires rising { IsRising slabs.now }
+    requires several { 2 ≤ length slabs.now }
     requires number { number < 8 }
     ensures { (m : Motion) (k S : ℕ) (side far p : List ℤ) → IsPieceOf piece.now m k S → IsLadderOf ladder.now piece.now side far
         → IsNearer (middle_offset m p k S) far → is_left_between slabs.now m p k (k + 1) S ≡ true
         → least ≤ℤ dot (offset_from (pos piece.now.scale) piece.now.tip p) piece.now.axis → IsLevelOf result side piece.now p }
 {
-    if slabs.len() < 2 {
-        return Level::unused(least);
-    }
     let place = 1 + number * (slabs.len() - 1) / LEVELS;
     level_at(piece, ladder, &step_at(slabs, place), least)
 }
 
-/// What is known of the places below some heights.
+/// What is known of the places below some heights, which is nothing if there is but one slab.
 pub fn levels_of(
     piece: &Piece,
     slabs: &[Slab],
@@ -121,6 +119,9 @@ pub fn levels_of(
         → is_left_between slabs.now m p k (k + 1) S ≡ true → IsHeldPlace hold.now piece.now p → AreLevelsOf result side.now piece.now p }
 {
     let least = short(hold.least);
+    if slabs.len() < 2 {
+        return no_levels(least);
+    }
     match ladder_of(piece, side, far) {
         None => no_levels(least),
         Some(ladder) => [

@@ -1,4 +1,4 @@
-use Rattle.std.proofs.Common.{◌≡◌, List, ℤ, pos, ◌≤ℤ◌, to_z, of_z, FitsSigned, rules, subst, sym, ◌∙◌}
+use Rattle.std.proofs.Common.{◌≡◌, ℤ, pos, ◌≤ℤ◌, to_z, of_z, FitsSigned, rules, subst, sym, ◌∙◌}
 use Rattle.std.specs.Option.{IfSome}
 use Rattle.std.proofs.lemmas.Int.{to_z-of_z}
 use mir.Syntax.{w64, w128}
@@ -10,6 +10,15 @@ use Rattle.sweep_boxes.specs.Pieces.{offset_from}
 use Rattle.sweep_boxes.proofs.Leveled.{all_eight}
 use Rattle.sweep_boxes.proofs.levels.levels_of.Goals as goal
 
+pub returns-then-slabs-lt2 : goal.returns-then-slabs-lt2
+returns-then-slabs-lt2 c m k S p of near left held =
+    let piece = c.args.piece.now in
+    let f : FitsSigned w128 c.args.hold.now.least = search rules in
+    let g : FitsSigned w64 c.short-least.result = search rules in
+    let same : to_z w64 (of_z w64 c.short-least.result) ≡ c.args.hold.now.least =
+    to_z-of_z w64 c.short-least.result g ∙ c.short-least.ensures ∙ to_z-of_z w128 c.args.hold.now.least f in
+    c.no_levels.ensures piece c.args.side.now p (subst (λ (z : ℤ). z ≤ℤ dot (offset_from (pos piece.scale) piece.tip p) piece.axis) (sym same) held.above)
+
 pub returns-in-None : goal.returns-in-None
 returns-in-None c m k S p of near left held =
     let piece = c.args.piece.now in
@@ -17,7 +26,7 @@ returns-in-None c m k S p of near left held =
     let g : FitsSigned w64 c.short-least.result = search rules in
     let same : to_z w64 (of_z w64 c.short-least.result) ≡ c.args.hold.now.least =
     to_z-of_z w64 c.short-least.result g ∙ c.short-least.ensures ∙ to_z-of_z w128 c.args.hold.now.least f in
-    c.no_levels.ensures piece c.args.side.now p (subst (λ (z : ℤ). z ≤ℤ dot (offset_from (pos piece.scale) piece.tip p) piece.axis) (sym same) held.above)
+    c.no_levels-in-None.ensures piece c.args.side.now p (subst (λ (z : ℤ). z ≤ℤ dot (offset_from (pos piece.scale) piece.tip p) piece.axis) (sym same) held.above)
 
 pub returns-in-Some : goal.returns-in-Some
 returns-in-Some c m k S p of near left held =

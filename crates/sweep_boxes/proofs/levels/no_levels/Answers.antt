@@ -1,7 +1,6 @@
 use Rattle.std.proofs.Common.{◌≡◌, List, ℤ, pos, to_z, of_z, ◌∙◌}
 use Rattle.std.proofs.lemmas.Int.{to_z-of_z}
 use mir.Syntax.{w64}
-use Rattle.space.specs.Vectors.{dot}
 use Rattle.sweep_boxes.specs.declared.level.Level.{Level}
 use Rattle.sweep_boxes.specs.Levels.{IsOnLevel}
 use Rattle.sweep_boxes.specs.Pieces.{offset_from}

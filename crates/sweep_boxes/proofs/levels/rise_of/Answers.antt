@@ -1,7 +1,6 @@
-use Rattle.std.proofs.Common.{◌≡◌, ◌≤◌, ◌≤ℤ◌, ◌+ℤ◌, ◌*ℤ◌, ◌*◌, ◌^◌, ℕ, List, ℤ, pos, negsuc, unsigned_abs, FitsSigned, arith, rules, refl, subst, ap, ◌∙◌}
-use Rattle.std.proofs.lemmas.Int.{ints, to_z-of_z}
+use Rattle.std.proofs.Common.{◌≡◌, ◌≤◌, ◌*ℤ◌, ◌*◌, ◌^◌, pos, unsigned_abs, FitsSigned, arith, rules, ap}
+use Rattle.std.proofs.lemmas.Int.{to_z-of_z}
 use mir.Syntax.{w32, w128}
-use borrow.Author.Differences.{abs_is}
 use Rattle.space.proofs.Naturals.{abs_mul}
 use Rattle.sweep_boxes.specs.Limits.{place_limit}
 use Rattle.sweep_boxes.proofs.Numbers.{product_fits}

@@ -1,9 +1,8 @@
-use Rattle.std.proofs.Common.{◌≡◌, ◌≤◌, ◌≤ℤ◌, ◌+ℤ◌, ◌*ℤ◌, ◌*◌, ◌^◌, List, ℤ, pos, unsigned_abs, FitsSigned, arith, rules, subst, ap, ◌∙◌}
+use Rattle.std.proofs.Common.{◌≡◌, ◌≤ℤ◌, ◌+ℤ◌, ◌*ℤ◌, List, ℤ, pos, FitsSigned, arith, rules, subst, ap, ◌∙◌}
 use Rattle.std.proofs.lemmas.Int.{ints, to_z-of_z}
 use mir.Syntax.{w128}
 use borrow.Author.Differences.{abs_is}
 use Rattle.space.specs.Vectors.{dot}
-use Rattle.sweep_boxes.specs.Pieces.{IsNearer, moment_change}
 use Rattle.sweep_boxes.specs.Vectors.{cross, sum}
 use Rattle.sweep_boxes.proofs.Stepped.{ladder_as}
 use Rattle.sweep_boxes.proofs.shared.ladder_of.Goals as goal

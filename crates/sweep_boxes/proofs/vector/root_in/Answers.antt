@@ -1,4 +1,4 @@
-use Rattle.std.proofs.Common.{◌≤ℤ◌, ◌*ℤ◌, ◌*◌, ◌+◌, ◌/◌, ◌%◌, ◌≤◌, ◌<◌, ℕ, zero, suc, ℤ, pos, negsuc, FitsSigned, to_z, ◌^◌, ◌≡◌, unsigned_abs, arith, rules}
+use Rattle.std.proofs.Common.{◌≤ℤ◌, ◌*ℤ◌, ◌*◌, ◌+◌, ◌/◌, ◌%◌, ◌≤◌, ◌<◌, ℕ, ℤ, pos, negsuc, FitsSigned, to_z, ◌^◌, ◌≡◌, unsigned_abs, arith, rules}
 use Rattle.std.proofs.lemmas.Int.{ints, to_z-of_z, to_z_pos}
 use Rattle.std.proofs.Math.Nat.{div-add-mod, mod-lt, mul-le-mul}
 use mir.Syntax.{w128}
