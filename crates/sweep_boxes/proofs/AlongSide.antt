@@ -14,6 +14,7 @@ use Rattle.bern_form.specs.Slab.{SlabSize}
 use Rattle.bern_form.proofs.Finer.{ExcludedWith}
 use Rattle.sweep_boxes.specs.declared.piece.Piece.{Piece}
 use Rattle.sweep_boxes.specs.Held.{IsSpread}
+use Rattle.sweep_boxes.specs.Ladders.{IsStray}
 use Rattle.sweep_boxes.specs.Made.{IsPieceOf}
 use Rattle.sweep_boxes.specs.Pieces.{AreAsLarge, IsBeside, IsNearer, middle_axis, middle_offset, moment_change}
 use Rattle.sweep_boxes.specs.Vectors.{cross, difference, sum}
@@ -51,7 +52,7 @@ along_by p q a c side S slab r y m n t w s under left z =
     })))))))
     (λ near. near) (cases_lt (t + (w + s)) (unsigned_abs (dot side (cross P A))))
 
-along_with : (p q a c v x d e side : List ℤ) (S : ℕ) (slab : SlabSize) (r y m n t w s : ℕ) → sum p q ≡ v → sum a c ≡ x → difference q p ≡ d → difference c a ≡ e
+pub along_with : (p q a c v x d e side : List ℤ) (S : ℕ) (slab : SlabSize) (r y m n t w s : ℕ) → sum p q ≡ v → sum a c ≡ x → difference q p ≡ d → difference c a ≡ e
     → IsUnder (scaled_square S slab.dia) a c r → ¬ ExcludedWith slab S (dot_on_cell p q a c) (dot_on_cell a c a c) (dot_on_cell p q p q)
     → AlongSide v x d e side r y m n t w s → unsigned_abs (dot side (cross v x)) ≤ t + (w + s)
 along_with p q a c v x d e side S slab r y m n t w s ev ex ed ee under left =
@@ -111,7 +112,7 @@ total_of : (across reach share far bow : ℤ) (x y : ℤ) → across ≡ reach +
     → across ≡ pos (unsigned_abs reach + (unsigned_abs (share +ℤ far) + unsigned_abs y))
 total_of across reach share far bow x y is some e more f = omega (arith, ints, is, some, e, more, f, abs_is reach, abs_is (share +ℤ far))
 
-spare_of : (spare change bent third : ℤ) → spare ≡ change +ℤ (bent +ℤ bent) → pos 0 ≤ℤ change → pos 0 ≤ℤ bent → pos 0 ≤ℤ third → (spare *ℤ spare) ≤ℤ (pos 3 *ℤ third)
+pub spare_of : (spare change bent third : ℤ) → spare ≡ change +ℤ (bent +ℤ bent) → pos 0 ≤ℤ change → pos 0 ≤ℤ bent → pos 0 ≤ℤ third → (spare *ℤ spare) ≤ℤ (pos 3 *ℤ third)
     → (unsigned_abs change + 2 * unsigned_abs bent) * (unsigned_abs change + 2 * unsigned_abs bent) ≤ 3 * unsigned_abs third
 spare_of spare change bent third is c b t h =
     let e : spare ≡ pos (unsigned_abs change + 2 * unsigned_abs bent) = omega (arith, ints, is, c, b, abs_is change, abs_is bent) in
@@ -119,7 +120,7 @@ spare_of spare change bent third is c b t h =
       natural_of : (k : ℕ) (third : ℤ) → pos 0 ≤ℤ third → (pos k *ℤ pos k) ≤ℤ (pos 3 *ℤ third) → k * k ≤ 3 * unsigned_abs third
       natural_of k third t h = omega (arith, ints, t, h, abs_is third)
 
-root_by : (square half third reach : ℤ) → pos 0 ≤ℤ third → (square *ℤ (half *ℤ half +ℤ third)) ≤ℤ (reach *ℤ reach)
+pub root_by : (square half third reach : ℤ) → pos 0 ≤ℤ third → (square *ℤ (half *ℤ half +ℤ third)) ≤ℤ (reach *ℤ reach)
     → (square *ℤ pos (unsigned_abs half * unsigned_abs half + unsigned_abs third)) ≤ℤ pos (unsigned_abs reach * unsigned_abs reach)
 root_by square half third reach t h =
     let e : half *ℤ half +ℤ third ≡ pos (unsigned_abs half * unsigned_abs half + unsigned_abs third) = omega (arith, ints, t, square_of_abs half, abs_is third) in
@@ -172,6 +173,23 @@ spread_by across half change bent spare third reach share reached bow piece wide
       (subst (λ (w : List ℤ). pos (unsigned_abs (dot v w)) ≤ℤ reached) h.around_is (h.reaches v nearer)));
   bow = subst (λ (d : List ℤ). unsigned_abs (dot side d) ≤ unsigned_abs (dot side bend)) h.bend_is (omega arith);
 }
+
+-- what a moment changes by along the side in all, from what its reckoning gives
+pub stray_by : (stray share reached bow : ℤ) (piece : Piece) (side far drift bend around : List ℤ) → stray ≡ (share +ℤ reached) +ℤ bow
+    → drift ≡ cross piece.shift piece.axis → bend ≡ cross piece.shift piece.turn → around ≡ cross piece.turn side → share ≡ pos (unsigned_abs (dot side drift)) → pos 0 ≤ℤ reached
+    → ((p : List ℤ) → IsNearer p far → pos (unsigned_abs (dot p around)) ≤ℤ reached) → bow ≡ pos (unsigned_abs (dot side bend)) → IsStray stray side piece far
+stray_by stray share reached bow piece side far drift bend around is drift_is bend_is around_is share_is some reaches bow_is = record {
+  q = unsigned_abs (share +ℤ reached);
+  s = unsigned_abs (dot side bend);
+  total_is = all_of stray share reached bow (dot side drift) (dot side bend) is share_is some bow_is;
+  swing = λ v nearer.
+      subst (λ (d : List ℤ). unsigned_abs (dot side (sum d (cross v piece.turn))) ≤ unsigned_abs (share +ℤ reached)) drift_is
+      (swing_below (dot side (sum drift (cross v piece.turn))) (dot side drift) (dot v (cross piece.turn side)) share reached (swing_is side drift v piece.turn) share_is
+      (subst (λ (w : List ℤ). pos (unsigned_abs (dot v w)) ≤ℤ reached) around_is (reaches v nearer)));
+  bow = subst (λ (d : List ℤ). unsigned_abs (dot side d) ≤ unsigned_abs (dot side bend)) bend_is (omega arith);
+} where
+  all_of : (stray share reached bow x y : ℤ) → stray ≡ (share +ℤ reached) +ℤ bow → share ≡ pos (unsigned_abs x) → pos 0 ≤ℤ reached → bow ≡ pos (unsigned_abs y) → stray ≡ pos (unsigned_abs (share +ℤ reached) + unsigned_abs y)
+  all_of stray share reached bow x y is e some f = omega (arith, ints, is, e, some, f, abs_is (share +ℤ reached))
 
 -- along no side there is nothing
 pub along_none : (v a : List ℤ) → IsBeside (pos 0 ∷ pos 0 ∷ pos 0 ∷ []) (pos 0) v a

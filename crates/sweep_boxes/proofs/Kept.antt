@@ -1,24 +1,21 @@
 -- What is left of a slab on a part of a move is near the middle: neither behind the tip, nor above the slab, nor beside it, each by
 -- what may change on the part.
-use Rattle.std.proofs.Common.{◌≡◌, true, false, not, ℕ, zero, suc, ◌+◌, ◌*◌, ◌≤◌, ◌<◌, [], ◌∷◌, List, ℤ, pos, negsuc, ◌+ℤ◌, ◌*ℤ◌, ◌-ℤ◌, ◌≤ℤ◌, ◌<ℤ◌, ◌⊎◌, inl, inr, unsigned_abs, arith, refl, sym, subst, ap, ◌∙◌, ⊎_elim}
+use Rattle.std.proofs.Common.{◌≡◌, true, not, ℕ, ◌+◌, ◌*◌, ◌≤◌, List, ℤ, pos, negsuc, ◌+ℤ◌, ◌*ℤ◌, ◌-ℤ◌, ◌≤ℤ◌, ◌<ℤ◌, ◌⊎◌, inl, inr, unsigned_abs, arith, sym, subst, ⊎_elim}
 use Rattle.std.specs.List.{Contains}
 use Rattle.std.proofs.lemmas.Int.{ints}
 use Rattle.std.proofs.lemmas.Bool.{cases_lt}
-use Rattle.std.proofs.lemmas.Bool.Decides.{Decides-not, not_from_Decides}
+use Rattle.std.proofs.lemmas.Bool.Decides.{Decides-not}
 use Rattle.std.proofs.Math.Nat.{mul-le-mul}
-use borrow.Author.Differences.{abs_is}
-use Rattle.space.specs.Motion.{Motion, axis_at, between, offset, offset_at}
-use Rattle.space.specs.Vectors.{at, dot}
-use Rattle.space.proofs.Naturals.{dot_natural}
-use Rattle.space.proofs.Solver.{var, num, add, mul, neg, ring}
+use Rattle.space.specs.Motion.{Motion, axis_at, offset_at}
+use Rattle.space.specs.Vectors.{dot}
 use Rattle.bern_form.specs.Between.{is_excluded_between, is_left_between}
 use Rattle.bern_form.specs.Cells.{dot_on_cell, scaled_square}
 use Rattle.bern_form.specs.Slab.{SlabSize}
 use Rattle.bern_form.proofs.Decided.{decides_among}
 use Rattle.bern_form.proofs.Finer.{ExcludedBetween, ExcludedWith, decides_with}
-use Rattle.sweep_boxes.specs.Pieces.{AreAsLarge, IsAsLarge, IsHeldOn, height_change, middle_axis, middle_offset, moment_change, shift_of, turn_of}
+use Rattle.sweep_boxes.specs.Pieces.{height_change, moment_change}
 use Rattle.sweep_boxes.specs.Vectors.{cross, difference, sum}
-use Rattle.sweep_boxes.proofs.Pieces.{IsBehind, IsOver, IsUnder, above_slab, behind_tip, beside}
+use Rattle.sweep_boxes.proofs.Pieces.{IsUnder, above_slab, behind_tip, beside}
 
 -- one of the slabs that isn't excluded
 pub record SomeLeft (slabs : List SlabSize) (m : Motion) (p : List ℤ) (j k S : ℕ) : Type 0 where
@@ -41,11 +38,11 @@ pub record Limits (p q a c : List ℤ) (S : ℕ) (s : SlabSize) (r h m n v b : �
   pub slope : unsigned_abs (height_change (sum p q) (sum a c) (difference q p) (difference c a)) ≤ v
   pub bow : unsigned_abs (dot (difference q p) (difference c a)) ≤ b
 
-over_or : (z : ℤ) (n : ℕ) → (z ≤ℤ pos n) ⊎ (pos n <ℤ z)
+pub over_or : (z : ℤ) (n : ℕ) → (z ≤ℤ pos n) ⊎ (pos n <ℤ z)
 over_or (pos k) n = ⊎_elim (λ less. inr (omega (arith, ints))) (λ most. inl (omega (arith, ints))) (cases_lt n k)
 over_or (negsuc k) n = inl (omega (arith, ints))
 
-under_or : (z : ℤ) (n : ℕ) → ((pos 0 -ℤ pos n) ≤ℤ z) ⊎ ((z +ℤ pos n) <ℤ pos 0)
+pub under_or : (z : ℤ) (n : ℕ) → ((pos 0 -ℤ pos n) ≤ℤ z) ⊎ ((z +ℤ pos n) <ℤ pos 0)
 under_or (pos k) n = inl (omega (arith, ints))
 under_or (negsuc k) n = ⊎_elim (λ less. inl (omega (arith, ints))) (λ most. inr (omega (arith, ints))) (cases_lt k n)
 

@@ -8,9 +8,13 @@ pub mod Kept
 pub mod Motions
 pub mod Holding
 pub mod AlongSide
+pub mod Rising
+pub mod Shortest
+pub mod Ascending
 pub mod Leveled
 pub mod Lined
 pub mod Boxed
+pub mod Stepped
 pub mod Scales
 pub mod Largest
 pub mod Coarse

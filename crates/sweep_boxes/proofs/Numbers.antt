@@ -105,7 +105,7 @@ lifted total drift swing bend da ft dt piece far turn is e f g da_is ft_is dt_is
   bend = subst (λ (z : ℤ). unsigned_abs (dot piece.shift piece.turn) ≤ unsigned_abs z) (sym dt_is) (omega arith);
 }
 
-sizes_of : (a b c t : ℤ) → t ≡ a +ℤ (b +ℤ c) → pos 0 ≤ℤ a → pos 0 ≤ℤ b → pos 0 ≤ℤ c → t ≡ pos (unsigned_abs a + (unsigned_abs b + unsigned_abs c))
+pub sizes_of : (a b c t : ℤ) → t ≡ a +ℤ (b +ℤ c) → pos 0 ≤ℤ a → pos 0 ≤ℤ b → pos 0 ≤ℤ c → t ≡ pos (unsigned_abs a + (unsigned_abs b + unsigned_abs c))
 sizes_of a b c t e x y z = omega (arith, ints, e, x, y, z, abs_is a, abs_is b, abs_is c)
 
 pub grown_by : (total r m n : ℤ) (piece : Piece) (widest : ℤ) (far turn drift bend : List ℤ) → total ≡ r +ℤ (m +ℤ n) → pos 0 ≤ℤ r → pos 0 ≤ℤ m → pos 0 ≤ℤ n

@@ -138,7 +138,7 @@ moment_last p q a c = last_of (moment p q a c) (moment_change p q a c) (moment_b
 abbrev width_of : List ℤ → List ℤ → List ℤ → List ℤ → ℤ → List ℤ
 width_of p q a c z = width_less z (dot_on_cell p q a c) (dot_on_cell a c a c) (dot_on_cell p q p q)
 
-abbrev lift_of : List ℤ → List ℤ → List ℤ
+abbrev pub lift_of : List ℤ → List ℤ → List ℤ
 lift_of a c = lifted (dot_on_cell a c a c)
 
 width0 : (p q a c : List ℤ) (z : ℤ) → pos 4 *ℤ at (width_of p q a c z) 0 ≡ dot (moment_first p q a c) (moment_first p q a c) -ℤ pos 4 *ℤ (z *ℤ at (lift_of a c) 0)
@@ -166,13 +166,13 @@ pub record IsUnder (z : ℤ) (a c : List ℤ) (r : ℕ) : Type 0 where
   pub first : (pos 4 *ℤ (z *ℤ dot a a)) ≤ℤ pos (r * r)
   pub last : (pos 4 *ℤ (z *ℤ dot c c)) ≤ℤ pos (r * r)
 
-abbrev six : List ℤ → List ℤ → ℤ → List ℤ
+abbrev pub six : List ℤ → List ℤ → ℤ → List ℤ
 six a c z = at a 0 ∷ at a 1 ∷ at a 2 ∷ at c 0 ∷ at c 1 ∷ at c 2 ∷ z ∷ []
 
-abbrev lift6 : ℕ → Term
+abbrev pub lift6 : ℕ → Term
 lift6 = conv (on_cell (from 0) (from 3) (from 0) (from 3)) ones
 
-abbrev z6 : Term
+abbrev pub z6 : Term
 z6 = var 6
 
 abbrev aa : Term
@@ -248,7 +248,7 @@ height_middle p q a c = height p q a c -ℤ height_bend p q a c
 abbrev pub height_last : List ℤ → List ℤ → List ℤ → List ℤ → ℤ
 height_last p q a c = (height p q a c +ℤ height_change p q a c) +ℤ height_bend p q a c
 
-abbrev lift_height : List ℤ → List ℤ → List ℤ → List ℤ → ℤ → List ℤ
+abbrev pub lift_height : List ℤ → List ℤ → List ℤ → List ℤ → ℤ → List ℤ
 lift_height p q a c z = height_less z (dot_on_cell p q a c) (dot_on_cell a c a c)
 
 abbrev E : Term
@@ -272,29 +272,29 @@ z1 = add (add E V) B
 abbrev T : ℕ → Term
 T k = sub (conv U U k) (conv (λ i. mul f (N i)) ones k)
 
-abbrev sixteen : Term → Term
+abbrev pub sixteen : Term → Term
 sixteen t = mul (num (pos 16)) t
 
 abbrev taken : ℕ → Term
 taken k = four (mul (four f) (lift k))
 
-height0 : (p q a c : List ℤ) (z : ℤ) → pos 16 *ℤ at (lift_height p q a c z) 0 ≡ height_first p q a c *ℤ height_first p q a c -ℤ pos 4 *ℤ ((pos 4 *ℤ z) *ℤ at (lift_of a c) 0)
+pub height0 : (p q a c : List ℤ) (z : ℤ) → pos 16 *ℤ at (lift_height p q a c z) 0 ≡ height_first p q a c *ℤ height_first p q a c -ℤ pos 4 *ℤ ((pos 4 *ℤ z) *ℤ at (lift_of a c) 0)
 height0 p q a c z = ring (twelve p q a c z) (sixteen (T 0)) (sub (mul x1 x1) (taken 0)) refl
 
-height1 : (p q a c : List ℤ) (z : ℤ)
+pub height1 : (p q a c : List ℤ) (z : ℤ)
     → pos 16 *ℤ at (lift_height p q a c z) 1 ≡ pos 4 *ℤ (height_first p q a c *ℤ height_middle p q a c) -ℤ pos 4 *ℤ ((pos 4 *ℤ z) *ℤ at (lift_of a c) 1)
 height1 p q a c z = ring (twelve p q a c z) (sixteen (T 1)) (sub (four (mul x1 y1)) (taken 1)) refl
 
-height2 : (p q a c : List ℤ) (z : ℤ)
+pub height2 : (p q a c : List ℤ) (z : ℤ)
     → pos 16 *ℤ at (lift_height p q a c z) 2
     ≡ (pos 4 *ℤ (height_middle p q a c *ℤ height_middle p q a c) +ℤ pos 2 *ℤ (height_first p q a c *ℤ height_last p q a c)) -ℤ pos 4 *ℤ ((pos 4 *ℤ z) *ℤ at (lift_of a c) 2)
 height2 p q a c z = ring (twelve p q a c z) (sixteen (T 2)) (sub (add (four (mul y1 y1)) (mul (num (pos 2)) (mul x1 z1))) (taken 2)) refl
 
-height3 : (p q a c : List ℤ) (z : ℤ)
+pub height3 : (p q a c : List ℤ) (z : ℤ)
     → pos 16 *ℤ at (lift_height p q a c z) 3 ≡ pos 4 *ℤ (height_middle p q a c *ℤ height_last p q a c) -ℤ pos 4 *ℤ ((pos 4 *ℤ z) *ℤ at (lift_of a c) 3)
 height3 p q a c z = ring (twelve p q a c z) (sixteen (T 3)) (sub (four (mul y1 z1)) (taken 3)) refl
 
-height4 : (p q a c : List ℤ) (z : ℤ) → pos 16 *ℤ at (lift_height p q a c z) 4 ≡ height_last p q a c *ℤ height_last p q a c -ℤ pos 4 *ℤ ((pos 4 *ℤ z) *ℤ at (lift_of a c) 4)
+pub height4 : (p q a c : List ℤ) (z : ℤ) → pos 16 *ℤ at (lift_height p q a c z) 4 ≡ height_last p q a c *ℤ height_last p q a c -ℤ pos 4 *ℤ ((pos 4 *ℤ z) *ℤ at (lift_of a c) 4)
 height4 p q a c z = ring (twelve p q a c z) (sixteen (T 4)) (sub (mul z1 z1) (taken 4)) refl
 
 -- numbers above r have a product above r^2

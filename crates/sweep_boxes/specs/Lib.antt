@@ -6,5 +6,6 @@ pub mod Boxes
 pub mod Held
 pub mod Levels
 pub mod Lines
+pub mod Ladders
 pub mod Covers
 pub mod Cylinders

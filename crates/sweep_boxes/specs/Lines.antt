@@ -26,6 +26,10 @@ IsHeldPlace hold piece p = IsHeldOn hold.least hold.most hold.moment (offset_fro
 abbrev pub IsBesidePlace : Breadth → Piece → List ℤ → Type 0
 IsBesidePlace breadth piece p = IsBeside breadth.side breadth.across (offset_from (pos piece.scale) piece.tip p) piece.axis
 
+-- and it is at a level
+abbrev pub IsLevelOf : Level → List ℤ → Piece → List ℤ → Type 0
+IsLevelOf l side piece p = IsOnLevel l side (offset_from (pos piece.scale) piece.tip p) piece.axis
+
 -- and it is at each level
 abbrev pub AreLevelsOf : List Level → List ℤ → Piece → List ℤ → Type 0
 AreLevelsOf levels side piece p = All (λ (l : Level). IsOnLevel l side (offset_from (pos piece.scale) piece.tip p) piece.axis) levels

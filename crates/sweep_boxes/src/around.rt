@@ -3,6 +3,7 @@ ghost use Rattle.space.specs.Motion.{Motion};
 ghost use Rattle.space.specs.Ranges.{IsWithin};
 ghost use Rattle.bern_form.specs.Between.{is_left_between};
 ghost use Rattle.bern_form.specs.Slab.{SlabSize};
+ghost use Rattle.cutter_slabs.specs.Rising.{IsRising};
 ghost use Rattle.cutter_marks.specs.MarkBy.{is_possible_by};
 ghost use Rattle.sweep_boxes.specs.Boxes.{IsInBox};
 ghost use Rattle.sweep_boxes.specs.Cylinders.{IsInCylinder};
@@ -20,12 +21,13 @@ use crate::level::Level;
 use crate::levels::levels_of;
 use crate::narrow::narrowed;
 use crate::near::near_part;
-use crate::offsets::offset_from;
+use crate::offsets::{farthest, offset_from};
 use crate::piece::Piece;
 use crate::point_box::PointBox;
 use crate::size::{Size, size_of};
 use crate::spread::breadth_of;
 use axis_cells::Sweep;
+use bern_form::Slab;
 use cutter_slabs::Stacks;
 
 /// A number in 64 bits.
@@ -75,6 +77,26 @@ fn breadth_in(piece: &Piece, size: &Size, region: &PointBox) -> Breadth
     breadth_of(piece, size.widest, &low, &high)
 }
 
+/// What is known of those places below some heights.
+fn levels_in(
+    piece: &Piece,
+    slabs: &[Slab],
+    hold: &Hold,
+    breadth: &Breadth,
+    region: &PointBox,
+) -> [Level; LEVELS]
+    requires rising { IsRising slabs.now }
+    requires low { IsWithin place_limit region.now.low }
+    requires high { IsWithin place_limit region.now.high }
+    ensures { (m : Motion) (k S : ℕ) (p : List ℤ) → IsPieceOf piece.now m k S → IsInBox region.now p
+        → is_left_between slabs.now m p k (k + 1) S ≡ true → IsHeldPlace hold.now piece.now p
+        → AreLevelsOf result breadth.now.side piece.now p }
+{
+    let low = offset_from(piece.scale, &piece.tip, &region.low);
+    let high = offset_from(piece.scale, &piece.tip, &region.high);
+    levels_of(piece, slabs, hold, &breadth.side, &farthest(&low, &high))
+}
+
 /// The cylinder that holds what is held on a piece, no further to either side, and at each level.
 fn cylinder_about(
     piece: &Piece,
@@ -112,5 +134,6 @@ pub fn cylinder_of(sweep: &Sweep, stacks: &Stacks, region: &PointBox) -> Boundin
     let closer = narrowed(&piece, size.widest, size.highest, &near);
     let hold = hold_in(&piece, &size, &closer);
     let breadth = breadth_in(&piece, &size, &closer);
-    cylinder_about(&piece, &hold, &breadth, levels_of(&hold))
+    let levels = levels_in(&piece, stacks.outer(), &hold, &breadth, &closer);
+    cylinder_about(&piece, &hold, &breadth, levels)
 }

@@ -51,7 +51,7 @@ fn total(a: i128, b: i128, c: i128) -> i128
 }
 
 /// What the height of an offset that is no further than `far` changes by on a piece.
-fn lift_of(piece: &Piece, far: &[i128; 3]) -> i128
+pub fn lift_of(piece: &Piece, far: &[i128; 3]) -> i128
     requires far { IsWithin side_limit far.now }
     ensures value { IsLift result piece.now far.now }
     ensures small { unsigned_abs result ≤ 3 * 10 ^ 18 }

@@ -31,7 +31,7 @@ fn share(side: &[i128; 3], v: &[i128; 3], i: usize) -> i128
 }
 
 /// The scalar product of a short vector and another.
-fn tilt(side: &[i128; 3], v: &[i128; 3]) -> i128
+pub fn tilt(side: &[i128; 3], v: &[i128; 3]) -> i128
     requires side { IsWithin aim_limit side.now }
     requires v { IsWithin (2 * (side_limit * side_limit)) v.now }
     ensures value { result ≡ dot side.now v.now }
@@ -53,7 +53,7 @@ fn reach_along(far: &[i128; 3], v: &[i128; 3], i: usize) -> i128
 }
 
 /// At least how far from zero the scalar product of a vector and one that is no further than `far` is.
-fn reach_of(far: &[i128; 3], v: &[i128; 3]) -> i128
+pub fn reach_of(far: &[i128; 3], v: &[i128; 3]) -> i128
     requires far { IsWithin side_limit far.now }
     requires v { IsWithin (2 * (side_limit * side_limit)) v.now }
     ensures value { (p : List ℤ) → IsNearer p far.now → pos (unsigned_abs (dot p v.now)) ≤ℤ result }
@@ -65,7 +65,7 @@ fn reach_of(far: &[i128; 3], v: &[i128; 3]) -> i128
 
 /// The square of a length.
 #[inline]
-fn length_square(length: i128) -> i128
+pub fn length_square(length: i128) -> i128
     requires { unsigned_abs length ≤ 5 * 10 ^ 16 }
     ensures value { result ≡ length *ℤ length }
     ensures some { pos 0 ≤ℤ result }
@@ -75,7 +75,7 @@ fn length_square(length: i128) -> i128
 }
 
 /// A third of the square of a length, rounded up.
-fn third_of_square(length: i128) -> i128
+pub fn third_of_square(length: i128) -> i128
     requires { unsigned_abs length ≤ 5 * 10 ^ 16 }
     ensures value { (length *ℤ length) ≤ℤ (pos 3 *ℤ result) }
     ensures some { pos 0 ≤ℤ result }
@@ -97,7 +97,7 @@ fn part_square(side: &[i128; 3], i: usize) -> i128
 }
 
 /// The square of a short vector.
-fn short_square(side: &[i128; 3]) -> i128
+pub fn short_square(side: &[i128; 3]) -> i128
     requires { IsWithin aim_limit side.now }
     ensures value { result ≡ dot side.now side.now }
     ensures some { pos 0 ≤ℤ result }
@@ -107,7 +107,7 @@ fn short_square(side: &[i128; 3]) -> i128
 }
 
 /// The root of a product, rounded up.
-fn root_of_product(square: i128, wide: i128) -> i128
+pub fn root_of_product(square: i128, wide: i128) -> i128
     requires square_some { pos 0 ≤ℤ square }
     requires square { unsigned_abs square ≤ 192 }
     requires wide_some { pos 0 ≤ℤ wide }
@@ -121,7 +121,7 @@ fn root_of_product(square: i128, wide: i128) -> i128
 
 /// The sum of two numbers.
 #[inline]
-fn sum(a: i128, b: i128) -> i128
+pub fn sum(a: i128, b: i128) -> i128
     requires a { unsigned_abs a ≤ 10 ^ 37 }
     requires b { unsigned_abs b ≤ 10 ^ 37 }
     ensures value { result ≡ a +ℤ b }

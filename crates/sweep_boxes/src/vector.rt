@@ -4,8 +4,6 @@ ghost use Rattle.space.specs.Vectors.{at, dot};
 ghost use Rattle.sweep_boxes.specs.Limits.{place_limit, side_limit};
 ghost use Rattle.sweep_boxes.specs.Vectors.{cross, difference};
 
-use bern_form::isqrt_ceil;
-
 /// A place with a weight.
 #[inline]
 pub fn weighted(weight: u32, place: i32) -> i128
@@ -127,7 +125,38 @@ fn short_root_up(n: u64) -> i128
     }
 }
 
-/// The square root, rounded up.
+/// No root here is greater.
+const MOST_ROOT: i128 = 1_000_000_000_000_000_000;
+
+/// The lesser of a root and the most that there is.
+#[inline]
+fn limited(root: i128) -> i128
+    requires { pos 0 ≤ℤ root }
+    ensures value { (n : ℤ) → n ≤ℤ (root *ℤ root) → n ≤ℤ pos (10 ^ 36) → n ≤ℤ (result *ℤ result) }
+    ensures some { pos 0 ≤ℤ result }
+    ensures small { unsigned_abs result ≤ 10 ^ 18 }
+{
+    if root < MOST_ROOT { root } else { MOST_ROOT }
+}
+
+/// At least the square root of a number of more than 64 bits: as many units as the root of how often their square goes into it, with one
+/// for the rest.
+#[inline]
+fn root_in(n: u128, unit: u128) -> i128
+    requires small { n ≤ 10 ^ 36 }
+    requires some { 1 ≤ unit }
+    requires few { unit ≤ 2 ^ 29 }
+    requires enough { n < 2 ^ 63 * (unit * unit) }
+    ensures value { pos n ≤ℤ (result *ℤ result) }
+    ensures some { pos 0 ≤ℤ result }
+    ensures small { unsigned_abs result ≤ 10 ^ 18 }
+{
+    let part = (n / (unit * unit)) as u64 + 1;
+    limited(short_root_up(part) * unit as i128)
+}
+
+/// The square root, rounded up. That of a number of more than 64 bits is found from its first bits, which is much quicker: it is greater
+/// by less than one part in ten million.
 pub fn root_up(n: i128) -> i128
     requires some { pos 0 ≤ℤ n }
     requires small { unsigned_abs n ≤ 10 ^ 36 }
@@ -138,5 +167,25 @@ pub fn root_up(n: i128) -> i128
     if n <= SHORT {
         return short_root_up(n as u64);
     }
-    isqrt_ceil(n as u128) as i128
+    let whole = n as u128;
+    if whole < 1 << 79 {
+        root_in(whole, 1 << 8)
+    } else if whole < 1 << 95 {
+        root_in(whole, 1 << 16)
+    } else if whole < 1 << 111 {
+        root_in(whole, 1 << 24)
+    } else {
+        root_in(whole, 1 << 29)
+    }
+}
+
+/// The square root, rounded down.
+pub fn root_down(n: i128) -> i128
+    requires some { pos 0 ≤ℤ n }
+    requires small { n ≤ℤ pos (10 ^ 18) }
+    ensures value { (result *ℤ result) ≤ℤ n }
+    ensures some { pos 0 ≤ℤ result }
+    ensures small { unsigned_abs result ≤ 10 ^ 9 }
+{
+    i128::from((n as u64).isqrt())
 }

@@ -35,4 +35,4 @@ returns c p depth inside possible =
     let closer = c.narrowed-closer.ensures.kept m 0 (2 ^ 0) outer p c.piece_of-piece.ensures sizes near left in
     let held = c.hold_in-hold.ensures m 0 (2 ^ 0) outer p c.piece_of-piece.ensures large closer left in
     c.cylinder_about.ensures p held (c.breadth_in-breadth.ensures m 0 (2 ^ 0) outer p c.piece_of-piece.ensures large closer left)
-    (c.levels_of.ensures c.piece_of-piece.result c.breadth_in-breadth.result.side p held)
+    (c.levels_in-levels.ensures m 0 (2 ^ 0) p c.piece_of-piece.ensures closer (subst (λ (slabs : List SlabSize). is_left_between slabs m p 0 (0 + 1) (2 ^ 0) ≡ true) (sym c.outer-2.ensures.stack) left) held)

@@ -1,0 +1,44 @@
+use Rattle.std.proofs.Common.{◌≡◌, ◌≤◌, ◌<ℤ◌, ◌-ℤ◌, ◌*ℤ◌, ◌*◌, ◌^◌, ℤ, pos, unsigned_abs, FitsSigned, arith, rules, ◌∙◌}
+use Rattle.std.proofs.lemmas.Int.{ints, to_z-of_z}
+use mir.Syntax.{w64, w128}
+use borrow.Author.Differences.{abs_is}
+use Rattle.sweep_boxes.proofs.Stepped.{on_level}
+use Rattle.sweep_boxes.proofs.levels.level_at.Goals as goal
+
+twice_fits : (lift : ℤ) → unsigned_abs lift ≤ 3 * 10 ^ 18 → FitsSigned w128 (pos 2 *ℤ lift)
+twice_fits lift h = omega (arith, ints, h, abs_is lift)
+
+less_fits : (rise lift : ℤ) → unsigned_abs rise ≤ 10 ^ 18 → unsigned_abs lift ≤ 3 * 10 ^ 18 → FitsSigned w128 (rise -ℤ lift)
+less_fits rise lift h k = omega (arith, ints, h, k, abs_is rise, abs_is lift)
+
+pub overflow_mul-ladder : goal.overflow_mul-ladder
+overflow_mul-ladder c =
+    let l : FitsSigned w128 c.args.ladder.now.lift = search rules in
+    let fits = twice_fits c.args.ladder.now.lift c.args.ladder.now.lift_small in
+    simp to_z-of_z fits
+
+pub returns : goal.returns
+returns c m k S slabs side far p of ladder step near left above =
+    let piece = c.args.piece.now in let begin = c.args.step.now.begin in let widest = c.args.step.now.widest in let lift = c.args.ladder.now.lift in
+    let rise = c.rise_of-rise.result in let half = c.half_of-half.result in let moment = c.moment_at.result in let across = c.across_at-across.result in
+    let f0 : FitsSigned w128 lift = search rules in
+    let f1 : FitsSigned w128 rise = search rules in
+    let f2 : FitsSigned w128 half = search rules in
+    let f3 : FitsSigned w128 moment = search rules in
+    let f4 : FitsSigned w128 across = search rules in
+    let x : FitsSigned w64 c.short.result = search rules in
+    let y : FitsSigned w64 c.short-2.result = search rules in
+    let z : FitsSigned w64 c.short-3.result = search rules in
+    let t = twice_fits lift c.args.ladder.now.lift_small in
+    let d = less_fits rise lift c.rise_of-rise.ensures.small c.args.ladder.now.lift_small in
+    let higher = simp to_z-of_z at c.if-rise-ladder.false in
+    let room : (pos 2 *ℤ lift) <ℤ rise = omega (arith, ints, higher) in
+    let height : c.short.result ≡ rise -ℤ lift = simp to_z-of_z at c.short.ensures in
+    let wide = c.half_of-half.ensures.value side far ladder in
+    let grown = (simp to_z-of_z at c.moment_at.ensures.value) piece widest side far ladder wide in
+    let spread = (simp to_z-of_z at c.across_at-across.ensures.value) piece widest side far ladder wide in
+    on_level piece m k S slabs p _ begin widest lift c.args.ladder.now.shortest rise moment across side far of step left near ladder.lift grown spread ladder.shortest
+    c.args.step.now.begin_some c.rise_of-rise.ensures.value room
+    (to_z-of_z w64 c.short.result x ∙ height)
+    (to_z-of_z w64 c.short-2.result y ∙ c.short-2.ensures ∙ to_z-of_z w128 moment f3)
+    (to_z-of_z w64 c.short-3.result z ∙ c.short-3.ensures ∙ to_z-of_z w128 across f4)

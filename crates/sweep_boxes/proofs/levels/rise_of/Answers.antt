@@ -1,0 +1,29 @@
+use Rattle.std.proofs.Common.{◌≡◌, ◌≤◌, ◌*ℤ◌, ◌*◌, ◌^◌, pos, unsigned_abs, FitsSigned, arith, rules, ap}
+use Rattle.std.proofs.lemmas.Int.{to_z-of_z}
+use mir.Syntax.{w32, w128}
+use Rattle.space.proofs.Naturals.{abs_mul}
+use Rattle.sweep_boxes.specs.Limits.{place_limit}
+use Rattle.sweep_boxes.proofs.Numbers.{product_fits}
+use Rattle.sweep_boxes.proofs.Stepped.{scaled_small}
+use Rattle.sweep_boxes.proofs.levels.rise_of.Goals as goal
+
+pub returns-clause-value : goal.returns-clause-value
+returns-clause-value c =
+    let w : FitsSigned w128 c.weighted.result = search rules in
+    let l : FitsSigned w128 c.args.ladder.now.shortest = search rules in
+    let s : FitsSigned w32 c.args.step.now.begin = search rules in
+    let small = scaled_small c.args.piece.now.scale c.weighted.result c.args.piece.now.scaled.1 c.weighted.ensures.small in
+    let fits = product_fits c.weighted.result c.args.ladder.now.shortest (128 * place_limit) (10 ^ 9) small c.args.ladder.now.shortest_small.1 (omega arith) in
+    let is : c.weighted.result ≡ pos c.args.piece.now.scale *ℤ c.args.step.now.begin = simp to_z-of_z at c.weighted.ensures.value in
+    let rise : c.weighted.result *ℤ c.args.ladder.now.shortest ≡ (pos c.args.piece.now.scale *ℤ c.args.step.now.begin) *ℤ c.args.ladder.now.shortest = ap (λ z. z *ℤ c.args.ladder.now.shortest) is in
+    simp to_z-of_z rise
+
+pub returns-clause-small : goal.returns-clause-small
+returns-clause-small c =
+    let w : FitsSigned w128 c.weighted.result = search rules in
+    let l : FitsSigned w128 c.args.ladder.now.shortest = search rules in
+    let small = scaled_small c.args.piece.now.scale c.weighted.result c.args.piece.now.scaled.1 c.weighted.ensures.small in
+    let fits = product_fits c.weighted.result c.args.ladder.now.shortest (128 * place_limit) (10 ^ 9) small c.args.ladder.now.shortest_small.1 (omega arith) in
+    let most = abs_mul c.weighted.result c.args.ladder.now.shortest (128 * place_limit) (10 ^ 9) small c.args.ladder.now.shortest_small.1 in
+    let whole : unsigned_abs (c.weighted.result *ℤ c.args.ladder.now.shortest) ≤ 10 ^ 18 = omega (arith, most) in
+    simp to_z-of_z whole

@@ -1,0 +1,87 @@
+use Rattle.std.proofs.Common.{◌≡◌, ◌≤◌, ◌*◌, ◌^◌, ◌≤ℤ◌, ◌+ℤ◌, ◌-ℤ◌, ◌*ℤ◌, ℕ, ℤ, pos, unsigned_abs, FitsSigned, arith, rules}
+use Rattle.std.proofs.lemmas.Int.{ints, to_z-of_z}
+use mir.Syntax.{w128}
+use borrow.Author.Differences.{abs_is}
+use Rattle.space.specs.Vectors.{dot}
+use Rattle.sweep_boxes.specs.Vectors.{difference, sum}
+use Rattle.sweep_boxes.proofs.Shortest.{difference_square, sum_square}
+use Rattle.sweep_boxes.proofs.shared.least_square.Goals as goal
+
+-- the numbers are small
+whole_fits : (x y s : ℤ) (d : ℕ) → unsigned_abs x ≤ 27 * 10 ^ 16 → unsigned_abs y ≤ 27 * 10 ^ 16 → s ≡ pos d → d ≤ 27 * 10 ^ 16
+    → FitsSigned w128 (x +ℤ y) × FitsSigned w128 (s +ℤ s) × FitsSigned w128 (x -ℤ y) × FitsSigned w128 ((x +ℤ y) -ℤ (s +ℤ s)) × (unsigned_abs (x -ℤ y) ≤ 10 ^ 18)
+whole_fits x y s d h k e l = (
+  omega (arith, ints, h, k, abs_is x, abs_is y),
+  omega (arith, ints, e, l),
+  omega (arith, ints, h, k, abs_is x, abs_is y),
+  omega (arith, ints, h, k, e, l, abs_is x, abs_is y),
+  omega (arith, ints, h, k, abs_is x, abs_is y, abs_is (x -ℤ y)),
+)
+
+pub overflow_sub-along-2 : goal.overflow_sub-along-2
+overflow_sub-along-2 c =
+    let a : FitsSigned w128 c.dot-along.result = search rules in let b : FitsSigned w128 c.dot-turned.result = search rules in
+    let d : FitsSigned w128 c.dot.result = search rules in let s : FitsSigned w128 c.distance-swing.result = search rules in
+    let swing : c.distance-swing.result ≡ pos (unsigned_abs c.dot.result) = simp to_z-of_z at c.distance-swing.ensures in
+    let f = whole_fits c.dot-along.result c.dot-turned.result c.distance-swing.result (unsigned_abs c.dot.result) c.dot-along.ensures.small c.dot-turned.ensures.small swing c.dot.ensures.small in
+    let f0 = f.0 in let f1 = f.1 in let f3 = f.3 in
+    simp to_z-of_z f3
+
+pub lesser-requires : goal.lesser-requires
+lesser-requires c =
+    let a : FitsSigned w128 c.dot-along.result = search rules in let b : FitsSigned w128 c.dot-turned.result = search rules in
+    let d : FitsSigned w128 c.dot.result = search rules in let s : FitsSigned w128 c.distance-swing.result = search rules in
+    let swing : c.distance-swing.result ≡ pos (unsigned_abs c.dot.result) = simp to_z-of_z at c.distance-swing.ensures in
+    let f = whole_fits c.dot-along.result c.dot-turned.result c.distance-swing.result (unsigned_abs c.dot.result) c.dot-along.ensures.small c.dot-turned.ensures.small swing c.dot.ensures.small in
+    let f2 = f.2 in let f4 = f.4 in
+    simp to_z-of_z f4
+
+less_first : (r a b s d x y z t : ℤ) → a ≡ x → b ≡ y → d ≡ z → s ≡ pos (unsigned_abs d) → t ≡ (x +ℤ y) -ℤ pos 2 *ℤ z → r ≤ℤ ((a +ℤ b) -ℤ (s +ℤ s)) → r ≤ℤ t
+less_first r a b s d x y z t ea eb ed e f h = omega (arith, ints, ea, eb, ed, e, f, h, abs_is d)
+
+less_last : (r a b s d x y z t : ℤ) → a ≡ x → b ≡ y → d ≡ z → s ≡ pos (unsigned_abs d) → t ≡ (x +ℤ y) +ℤ pos 2 *ℤ z → r ≤ℤ ((a +ℤ b) -ℤ (s +ℤ s)) → r ≤ℤ t
+less_last r a b s d x y z t ea eb ed e f h = omega (arith, ints, ea, eb, ed, e, f, h, abs_is d)
+
+less_middle : (r a b x y : ℤ) → a ≡ x → b ≡ y → r ≤ℤ (a -ℤ b) → r ≤ℤ (x -ℤ y)
+less_middle r a b x y ea eb h = omega (arith, ints, ea, eb, h)
+
+pub returns-clause-first : goal.returns-clause-first
+returns-clause-first c =
+    let a : FitsSigned w128 c.dot-along.result = search rules in let b : FitsSigned w128 c.dot-turned.result = search rules in
+    let d : FitsSigned w128 c.dot.result = search rules in let s : FitsSigned w128 c.distance-swing.result = search rules in
+    let r : FitsSigned w128 c.lesser.result = search rules in
+    let swing : c.distance-swing.result ≡ pos (unsigned_abs c.dot.result) = simp to_z-of_z at c.distance-swing.ensures in
+    let f = whole_fits c.dot-along.result c.dot-turned.result c.distance-swing.result (unsigned_abs c.dot.result) c.dot-along.ensures.small c.dot-turned.ensures.small swing c.dot.ensures.small in
+    let f0 = f.0 in let f1 = f.1 in let f3 = f.3 in
+    let x = c.args.piece.now.axis in let e = c.args.piece.now.turn in
+    let low : c.lesser.result ≤ℤ ((c.dot-along.result +ℤ c.dot-turned.result) -ℤ (c.distance-swing.result +ℤ c.distance-swing.result)) = simp to_z-of_z at c.lesser.ensures.second in
+    let less = less_first c.lesser.result c.dot-along.result c.dot-turned.result c.distance-swing.result c.dot.result (dot x x) (dot e e) (dot x e) (dot (difference x e) (difference x e))
+    c.dot-along.ensures.value c.dot-turned.ensures.value c.dot.ensures.value swing (difference_square x e) low in
+    simp to_z-of_z less
+
+pub returns-clause-last : goal.returns-clause-last
+returns-clause-last c =
+    let a : FitsSigned w128 c.dot-along.result = search rules in let b : FitsSigned w128 c.dot-turned.result = search rules in
+    let d : FitsSigned w128 c.dot.result = search rules in let s : FitsSigned w128 c.distance-swing.result = search rules in
+    let r : FitsSigned w128 c.lesser.result = search rules in
+    let swing : c.distance-swing.result ≡ pos (unsigned_abs c.dot.result) = simp to_z-of_z at c.distance-swing.ensures in
+    let f = whole_fits c.dot-along.result c.dot-turned.result c.distance-swing.result (unsigned_abs c.dot.result) c.dot-along.ensures.small c.dot-turned.ensures.small swing c.dot.ensures.small in
+    let f0 = f.0 in let f1 = f.1 in let f3 = f.3 in
+    let x = c.args.piece.now.axis in let e = c.args.piece.now.turn in
+    let low : c.lesser.result ≤ℤ ((c.dot-along.result +ℤ c.dot-turned.result) -ℤ (c.distance-swing.result +ℤ c.distance-swing.result)) = simp to_z-of_z at c.lesser.ensures.second in
+    let less = less_last c.lesser.result c.dot-along.result c.dot-turned.result c.distance-swing.result c.dot.result (dot x x) (dot e e) (dot x e) (dot (sum x e) (sum x e))
+    c.dot-along.ensures.value c.dot-turned.ensures.value c.dot.ensures.value swing (sum_square x e) low in
+    simp to_z-of_z less
+
+pub returns-clause-middle : goal.returns-clause-middle
+returns-clause-middle c =
+    let a : FitsSigned w128 c.dot-along.result = search rules in let b : FitsSigned w128 c.dot-turned.result = search rules in
+    let d : FitsSigned w128 c.dot.result = search rules in let s : FitsSigned w128 c.distance-swing.result = search rules in
+    let r : FitsSigned w128 c.lesser.result = search rules in
+    let swing : c.distance-swing.result ≡ pos (unsigned_abs c.dot.result) = simp to_z-of_z at c.distance-swing.ensures in
+    let f = whole_fits c.dot-along.result c.dot-turned.result c.distance-swing.result (unsigned_abs c.dot.result) c.dot-along.ensures.small c.dot-turned.ensures.small swing c.dot.ensures.small in
+    let f2 = f.2 in
+    let x = c.args.piece.now.axis in let e = c.args.piece.now.turn in
+    let low : c.lesser.result ≤ℤ (c.dot-along.result -ℤ c.dot-turned.result) = simp to_z-of_z at c.lesser.ensures.first in
+    let less = less_middle c.lesser.result c.dot-along.result c.dot-turned.result (dot x x) (dot e e) c.dot-along.ensures.value c.dot-turned.ensures.value low in
+    simp to_z-of_z less

@@ -1,0 +1,71 @@
+use Rattle.std.proofs.Common.{◌≡◌, ◌≤◌, ◌≤ℤ◌, ◌+ℤ◌, ◌*◌, ◌^◌, ℕ, ℤ, pos, unsigned_abs, FitsSigned, arith, rules, ap, ◌∙◌}
+use Rattle.std.proofs.lemmas.Int.{ints, to_z-of_z}
+use mir.Syntax.{w128}
+use borrow.Author.Differences.{abs_is}
+use Rattle.sweep_boxes.specs.Ladders.{IsStray}
+use Rattle.sweep_boxes.specs.Limits.{side_limit}
+use Rattle.sweep_boxes.proofs.AlongSide.{stray_by}
+use Rattle.sweep_boxes.proofs.shared.stray_of.Goals as goal
+
+-- the numbers are not below zero, and not too great
+whole_small : (stray share reached bow : ℤ) (d b : ℕ) → stray ≡ (share +ℤ reached) +ℤ bow → share ≡ pos d → d ≤ 48 * (side_limit * side_limit) → bow ≡ pos b → b ≤ 48 * (side_limit * side_limit)
+    → pos 0 ≤ℤ reached → unsigned_abs reached ≤ 3 * (side_limit * (2 * (side_limit * side_limit))) → (pos 0 ≤ℤ stray) × (unsigned_abs stray ≤ 10 ^ 36)
+whole_small stray share reached bow d b is e h f k some l = (omega (arith, ints, is, e, f, some), omega (arith, ints, is, e, h, f, k, some, l, abs_is stray, abs_is reached))
+
+pub returns-clause-value : goal.returns-clause-value
+returns-clause-value c =
+    let drifted = c.tilt in let share = c.distance in let reached = c.reach_of in let swing = c.sum-swing in let bowed = c.tilt-2 in let bow = c.distance-2 in let whole = c.sum in
+    let f0 : FitsSigned w128 drifted.result = search rules in
+    let f1 : FitsSigned w128 share.result = search rules in
+    let f2 : FitsSigned w128 reached.result = search rules in
+    let f3 : FitsSigned w128 swing.result = search rules in
+    let f4 : FitsSigned w128 bowed.result = search rules in
+    let f5 : FitsSigned w128 bow.result = search rules in
+    let f6 : FitsSigned w128 whole.result = search rules in
+    let share_by : share.result ≡ pos (unsigned_abs drifted.result) = simp to_z-of_z at share.ensures in
+    let bow_by : bow.result ≡ pos (unsigned_abs bowed.result) = simp to_z-of_z at bow.ensures in
+    let swing_is : swing.result ≡ share.result +ℤ reached.result = simp to_z-of_z at swing.ensures.value in
+    let whole_is : whole.result ≡ swing.result +ℤ bow.result = simp to_z-of_z at whole.ensures.value in
+    let stray : IsStray whole.result c.args.side.now c.args.piece.now c.args.far.now =
+    stray_by whole.result share.result reached.result bow.result c.args.piece.now c.args.side.now c.args.far.now c.cross-drift.result c.cross-bend.result c.cross.result
+    (whole_is ∙ ap (λ z. z +ℤ bow.result) swing_is) c.cross-drift.ensures.value c.cross-bend.ensures.value c.cross.ensures.value (share_by ∙ ap (λ z. pos (unsigned_abs z)) drifted.ensures.value)
+    reached.ensures.some reached.ensures.value (bow_by ∙ ap (λ z. pos (unsigned_abs z)) bowed.ensures.value) in
+    simp to_z-of_z stray
+
+pub returns-clause-some : goal.returns-clause-some
+returns-clause-some c =
+    let drifted = c.tilt in let share = c.distance in let reached = c.reach_of in let swing = c.sum-swing in let bowed = c.tilt-2 in let bow = c.distance-2 in let whole = c.sum in
+    let f0 : FitsSigned w128 drifted.result = search rules in
+    let f1 : FitsSigned w128 share.result = search rules in
+    let f2 : FitsSigned w128 reached.result = search rules in
+    let f3 : FitsSigned w128 swing.result = search rules in
+    let f4 : FitsSigned w128 bowed.result = search rules in
+    let f5 : FitsSigned w128 bow.result = search rules in
+    let f6 : FitsSigned w128 whole.result = search rules in
+    let share_by : share.result ≡ pos (unsigned_abs drifted.result) = simp to_z-of_z at share.ensures in
+    let bow_by : bow.result ≡ pos (unsigned_abs bowed.result) = simp to_z-of_z at bow.ensures in
+    let swing_is : swing.result ≡ share.result +ℤ reached.result = simp to_z-of_z at swing.ensures.value in
+    let whole_is : whole.result ≡ swing.result +ℤ bow.result = simp to_z-of_z at whole.ensures.value in
+    let both = whole_small whole.result share.result reached.result bow.result (unsigned_abs drifted.result) (unsigned_abs bowed.result) (whole_is ∙ ap (λ z. z +ℤ bow.result) swing_is)
+    share_by drifted.ensures.small bow_by bowed.ensures.small reached.ensures.some reached.ensures.small in
+    let some = both.0 in
+    simp to_z-of_z some
+
+pub returns-clause-small : goal.returns-clause-small
+returns-clause-small c =
+    let drifted = c.tilt in let share = c.distance in let reached = c.reach_of in let swing = c.sum-swing in let bowed = c.tilt-2 in let bow = c.distance-2 in let whole = c.sum in
+    let f0 : FitsSigned w128 drifted.result = search rules in
+    let f1 : FitsSigned w128 share.result = search rules in
+    let f2 : FitsSigned w128 reached.result = search rules in
+    let f3 : FitsSigned w128 swing.result = search rules in
+    let f4 : FitsSigned w128 bowed.result = search rules in
+    let f5 : FitsSigned w128 bow.result = search rules in
+    let f6 : FitsSigned w128 whole.result = search rules in
+    let share_by : share.result ≡ pos (unsigned_abs drifted.result) = simp to_z-of_z at share.ensures in
+    let bow_by : bow.result ≡ pos (unsigned_abs bowed.result) = simp to_z-of_z at bow.ensures in
+    let swing_is : swing.result ≡ share.result +ℤ reached.result = simp to_z-of_z at swing.ensures.value in
+    let whole_is : whole.result ≡ swing.result +ℤ bow.result = simp to_z-of_z at whole.ensures.value in
+    let both = whole_small whole.result share.result reached.result bow.result (unsigned_abs drifted.result) (unsigned_abs bowed.result) (whole_is ∙ ap (λ z. z +ℤ bow.result) swing_is)
+    share_by drifted.ensures.small bow_by bowed.ensures.small reached.ensures.some reached.ensures.small in
+    let small = both.1 in
+    simp to_z-of_z small
