@@ -10,6 +10,3 @@ pub use input::read_moves;
 pub use ready::{ReadyTask, make_ready};
 pub use stopped::Stopped;
 pub use task::{TaskInputs, made_inputs, read_task};
-
-#[cfg(test)]
-mod tests;

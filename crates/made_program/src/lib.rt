@@ -4,7 +4,5 @@
 mod draw;
 mod place;
 mod program;
-#[cfg(test)]
-mod tests;
 
 pub use program::{MADE_MOVES, made_program};

@@ -17,8 +17,3 @@ pub use listing::list_text;
 pub use marking::point_text;
 pub use report::report_text;
 pub use selftest::selftest_text;
-
-#[cfg(test)]
-mod report_tests;
-#[cfg(test)]
-mod tests;

@@ -4,8 +4,6 @@
 mod call;
 mod command;
 mod count;
-#[cfg(test)]
-mod tests;
 
 pub use call::{VerifyWords, verify_words};
 pub use count::read_within;

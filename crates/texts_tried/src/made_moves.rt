@@ -1,5 +1,5 @@
-use crate::made_program;
 use cl_moves::Move;
+use made_program::made_program;
 use std::test::Fail;
 
 /// A number, and where its first move and its last one end: the tip, and the axis along x and along y. The rows were reckoned

@@ -1,5 +1,5 @@
-use crate::{VerifyWords, verify_words};
 use std::test::Fail;
+use verify_words::verify_words;
 
 /// Words, parted by `|`, and the four values that they say, parted by blanks: file, setup, script and workers.
 const ROWS: [(&str, &str); 44] = [
@@ -73,9 +73,9 @@ fn told(rt: &HostRuntime, line: &str) -> Result<String, Fail> {
 
 #[test]
 fn words_of_verify(rt: HostRuntime) -> Result<(), Fail> {
-    for (line, due) in ROWS {
+    for (line, due) in &ROWS {
         let said = told(&rt, line)?;
-        assert_eq!(rt; said.as_str(), due, "the words {line:?}");
+        assert_eq!(rt; said.as_str(), *due, "the words {line:?}");
     }
     Ok(())
 }

@@ -1,4 +1,4 @@
-use crate::{ReadyTask, Stopped, made_inputs, make_ready, read_moves, read_task};
+use job_inputs::{ReadyTask, Stopped, made_inputs, make_ready, read_moves, read_task};
 use report_text::refusal_text;
 use std::alloc::Global;
 use std::test::Fail;
