@@ -13,6 +13,3 @@ pub use grid::{Grid21, Grid42};
 pub use product::{lift24, minus4, plus2, scale2, scale4, times11, times22};
 pub use root::{isqrt_ceil, isqrt_floor};
 pub use slab::Slab;
-
-#[cfg(test)]
-mod tests;

@@ -11,6 +11,3 @@ mod stacks;
 pub use cutter::Cutter;
 pub use laws::cutter_laws;
 pub use stacks::Stacks;
-
-#[cfg(test)]
-mod tests;

@@ -4,8 +4,6 @@
 mod delta;
 mod dexel;
 mod ones;
-#[cfg(test)]
-mod tests;
 mod word_sets;
 
 pub use delta::Delta;

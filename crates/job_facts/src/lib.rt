@@ -8,6 +8,3 @@ mod totals;
 pub use counts::Counts;
 pub use facts::{Facts, Found};
 pub use totals::{Answer, PointState, Totals};
-
-#[cfg(test)]
-mod tests;

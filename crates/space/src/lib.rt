@@ -6,6 +6,3 @@ mod reach;
 
 pub use flank::{Flank, is_flank, least_widening, most_widening, top_diameter};
 pub use reach::{is_in_reach, is_near};
-
-#[cfg(test)]
-mod cases;

@@ -1,10 +1,12 @@
-//! Tries of texts: the words of `verify`, listings, refusals and reports, a made program, and tasks as they are read.
+//! Tries of texts: pieces of lines, the words of `verify`, listings, refusals and reports, a made program, and tasks as they are read.
 #![tactic(auto)]
 
 #[cfg(test)]
 mod listings;
 #[cfg(test)]
 mod made_moves;
+#[cfg(test)]
+mod pieces;
 #[cfg(test)]
 mod refusals;
 #[cfg(test)]

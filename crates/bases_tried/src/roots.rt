@@ -1,4 +1,4 @@
-use crate::{Form1, Form2, Form4, isqrt_ceil, isqrt_floor};
+use bern_form::{Form1, Form2, Form4, isqrt_ceil, isqrt_floor};
 
 /// Numbers, with their roots rounded down and up.
 const ROOTS: [(u128, u128, u128); 6] = [

@@ -1,6 +1,6 @@
-use super::*;
 use std::process::Abort;
 use std::test::*;
+use vf_text::{Page, has_only_blanks, read_count, skip_blanks, trim_end, trim_line_end};
 
 /// Texts, the most digits, and the number that is due.
 const COUNTS: [(&str, usize, Option<u32>); 12] = [

@@ -1,4 +1,4 @@
-use crate::{is_flank, is_in_reach, is_near, least_widening, most_widening, top_diameter};
+use space::{is_flank, is_in_reach, is_near, least_widening, most_widening, top_diameter};
 
 /// Tangents by hand: 0.017455065, 0.087488664, 0.176326981, 0.267949192, 0.577350269 and 1.
 #[test]

@@ -1,5 +1,5 @@
-use super::*;
 use edit_plan::Ask;
+use job_facts::{Answer, Counts, PointState, Totals};
 use ray_grid::{Family, Ray};
 use std::test::*;
 

@@ -1,7 +1,8 @@
 ghost use Rattle.std.specs.Prelude.{◌≡◌, length, IfOk};
 ghost use Rattle.dexel_rays.specs.Sets.{HaveBound};
 
-use crate::{Counts, Delta, Dexel};
+use dexel_rays::{Delta, Dexel};
+use job_facts::Counts;
 use std::alloc::Global;
 use std::test::Fail;
 use vf_io::NoMemory;

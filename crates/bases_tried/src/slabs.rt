@@ -1,5 +1,5 @@
-use crate::{Cutter, Stacks};
 use bern_form::Slab;
+use cutter_slabs::{Cutter, Stacks};
 use std::process::Abort;
 use std::test::Fail;
 
