@@ -1,5 +1,5 @@
 -- How far to either side of a piece's way each place is that some slab is left of.
-use Rattle.std.proofs.Common.{◌≡◌, true, ℕ, zero, suc, ◌+◌, ◌*◌, ◌≤◌, ◌<◌, List, [], ◌∷◌, ℤ, pos, ◌+ℤ◌, ◌*ℤ◌, ◌≤ℤ◌, unsigned_abs, inr, ⊎_elim, arith, refl, sym, subst, ◌∙◌}
+use Rattle.std.proofs.Common.{◌≡◌, true, ℕ, zero, suc, ◌+◌, ◌*◌, ◌≤◌, ◌<◌, List, [], ◌∷◌, ℤ, pos, negsuc, ◌+ℤ◌, ◌*ℤ◌, ◌≤ℤ◌, unsigned_abs, inr, ⊎_elim, arith, refl, sym, subst, ◌∙◌}
 use Rattle.std.proofs.lemmas.Int.{ints}
 use Rattle.std.proofs.lemmas.Bool.{cases_lt}
 use borrow.Author.Differences.{abs_is}
@@ -14,7 +14,7 @@ use Rattle.bern_form.specs.Slab.{SlabSize}
 use Rattle.bern_form.proofs.Finer.{ExcludedWith}
 use Rattle.sweep_boxes.specs.declared.piece.Piece.{Piece}
 use Rattle.sweep_boxes.specs.Held.{IsSpread}
-use Rattle.sweep_boxes.specs.Ladders.{IsStray}
+use Rattle.sweep_boxes.specs.Ladders.{IsHalfWidth, IsNoLonger, IsStray, IsThirdOfSquare}
 use Rattle.sweep_boxes.specs.Made.{IsPieceOf}
 use Rattle.sweep_boxes.specs.Pieces.{AreAsLarge, IsBeside, IsNearer, middle_axis, middle_offset, moment_change}
 use Rattle.sweep_boxes.specs.Vectors.{cross, difference, sum}
@@ -108,11 +108,7 @@ swing_is side d v e =
 swing_below : (w x y s t : ℤ) → w ≡ x +ℤ y → s ≡ pos (unsigned_abs x) → pos (unsigned_abs y) ≤ℤ t → unsigned_abs w ≤ unsigned_abs (s +ℤ t)
 swing_below w x y s t is e h = omega (arith, ints, is, e, h, abs_is w, abs_is x, abs_is y, abs_is (s +ℤ t))
 
-total_of : (across reach share far bow : ℤ) (x y : ℤ) → across ≡ reach +ℤ ((share +ℤ far) +ℤ bow) → pos 0 ≤ℤ reach → share ≡ pos (unsigned_abs x) → pos 0 ≤ℤ far → bow ≡ pos (unsigned_abs y)
-    → across ≡ pos (unsigned_abs reach + (unsigned_abs (share +ℤ far) + unsigned_abs y))
-total_of across reach share far bow x y is some e more f = omega (arith, ints, is, some, e, more, f, abs_is reach, abs_is (share +ℤ far))
-
-pub spare_of : (spare change bent third : ℤ) → spare ≡ change +ℤ (bent +ℤ bent) → pos 0 ≤ℤ change → pos 0 ≤ℤ bent → pos 0 ≤ℤ third → (spare *ℤ spare) ≤ℤ (pos 3 *ℤ third)
+spare_of : (spare change bent third : ℤ) → spare ≡ change +ℤ (bent +ℤ bent) → pos 0 ≤ℤ change → pos 0 ≤ℤ bent → pos 0 ≤ℤ third → (spare *ℤ spare) ≤ℤ (pos 3 *ℤ third)
     → (unsigned_abs change + 2 * unsigned_abs bent) * (unsigned_abs change + 2 * unsigned_abs bent) ≤ 3 * unsigned_abs third
 spare_of spare change bent third is c b t h =
     let e : spare ≡ pos (unsigned_abs change + 2 * unsigned_abs bent) = omega (arith, ints, is, c, b, abs_is change, abs_is bent) in
@@ -120,59 +116,11 @@ spare_of spare change bent third is c b t h =
       natural_of : (k : ℕ) (third : ℤ) → pos 0 ≤ℤ third → (pos k *ℤ pos k) ≤ℤ (pos 3 *ℤ third) → k * k ≤ 3 * unsigned_abs third
       natural_of k third t h = omega (arith, ints, t, h, abs_is third)
 
-pub root_by : (square half third reach : ℤ) → pos 0 ≤ℤ third → (square *ℤ (half *ℤ half +ℤ third)) ≤ℤ (reach *ℤ reach)
+root_by : (square half third reach : ℤ) → pos 0 ≤ℤ third → (square *ℤ (half *ℤ half +ℤ third)) ≤ℤ (reach *ℤ reach)
     → (square *ℤ pos (unsigned_abs half * unsigned_abs half + unsigned_abs third)) ≤ℤ pos (unsigned_abs reach * unsigned_abs reach)
 root_by square half third reach t h =
     let e : half *ℤ half +ℤ third ≡ pos (unsigned_abs half * unsigned_abs half + unsigned_abs third) = omega (arith, ints, t, square_of_abs half, abs_is third) in
     subst (λ (z : ℤ). (square *ℤ z) ≤ℤ pos (unsigned_abs reach * unsigned_abs reach)) e (subst (λ (z : ℤ). (square *ℤ (half *ℤ half +ℤ third)) ≤ℤ z) (sym (square_of_abs reach)) h)
-
--- the numbers of a piece, from what their reckoning gives
-pub record Reckoned (across half change bent spare third reach share reached bow : ℤ) (piece : Piece) (widest : ℤ) (side far turn drift bend around : List ℤ) : Type 0 where
-  pub across_is : across ≡ reach +ℤ ((share +ℤ reached) +ℤ bow)
-  pub change_some : pos 0 ≤ℤ change
-  pub bent_some : pos 0 ≤ℤ bent
-  pub third_some : pos 0 ≤ℤ third
-  pub reach_some : pos 0 ≤ℤ reach
-  pub reached_some : pos 0 ≤ℤ reached
-  pub drift_is : drift ≡ cross piece.shift piece.axis
-  pub bend_is : bend ≡ cross piece.shift piece.turn
-  pub around_is : around ≡ cross piece.turn side
-  pub near : IsNearer piece.turn turn
-  pub wide : (((pos piece.scale *ℤ widest) *ℤ (pos piece.scale *ℤ widest)) *ℤ piece.longest) ≤ℤ (half *ℤ half)
-  pub changes : (v e : List ℤ) → IsNearer v far → IsNearer e turn → dot (sum drift (cross v e)) (sum drift (cross v e)) ≤ℤ (change *ℤ change)
-  pub bends : dot bend bend ≤ℤ (bent *ℤ bent)
-  pub spare_is : spare ≡ change +ℤ (bent +ℤ bent)
-  pub thirds : (spare *ℤ spare) ≤ℤ (pos 3 *ℤ third)
-  pub root : (dot side side *ℤ (half *ℤ half +ℤ third)) ≤ℤ (reach *ℤ reach)
-  pub share_is : share ≡ pos (unsigned_abs (dot side drift))
-  pub reaches : (p : List ℤ) → IsNearer p far → pos (unsigned_abs (dot p around)) ≤ℤ reached
-  pub bow_is : bow ≡ pos (unsigned_abs (dot side bend))
-
-pub spread_by : (across half change bent spare third reach share reached bow : ℤ) (piece : Piece) (widest : ℤ) (side far turn drift bend around : List ℤ)
-    → Reckoned across half change bent spare third reach share reached bow piece widest side far turn drift bend around → IsSpread across side piece widest far
-spread_by across half change bent spare third reach share reached bow piece widest side far turn drift bend around h = record {
-  r = unsigned_abs half;
-  m = unsigned_abs change;
-  n = unsigned_abs bent;
-  e = unsigned_abs third;
-  t = unsigned_abs reach;
-  q = unsigned_abs (share +ℤ reached);
-  s = unsigned_abs (dot side bend);
-  across_is = total_of across reach share reached bow (dot side drift) (dot side bend) h.across_is h.reach_some h.share_is h.reached_some h.bow_is;
-  wide = subst (λ (z : ℤ). (((pos piece.scale *ℤ widest) *ℤ (pos piece.scale *ℤ widest)) *ℤ piece.longest) ≤ℤ z) (sym (square_of_abs half)) h.wide;
-  change = λ v nearer.
-      subst (λ (z : ℤ). dot (moment_change v piece.axis piece.shift piece.turn) (moment_change v piece.axis piece.shift piece.turn) ≤ℤ z) (sym (square_of_abs change))
-      (subst (λ (d : List ℤ). dot (sum d (cross v piece.turn)) (sum d (cross v piece.turn)) ≤ℤ (change *ℤ change)) h.drift_is (h.changes v piece.turn nearer h.near));
-  bend = subst (λ (z : ℤ). dot (cross piece.shift piece.turn) (cross piece.shift piece.turn) ≤ℤ z) (sym (square_of_abs bent))
-      (subst (λ (d : List ℤ). dot d d ≤ℤ (bent *ℤ bent)) h.bend_is h.bends);
-  spare = spare_of spare change bent third h.spare_is h.change_some h.bent_some h.third_some h.thirds;
-  root = root_by (dot side side) half third reach h.third_some h.root;
-  swing = λ v nearer.
-      subst (λ (d : List ℤ). unsigned_abs (dot side (sum d (cross v piece.turn))) ≤ unsigned_abs (share +ℤ reached)) h.drift_is
-      (swing_below (dot side (sum drift (cross v piece.turn))) (dot side drift) (dot v (cross piece.turn side)) share reached (swing_is side drift v piece.turn) h.share_is
-      (subst (λ (w : List ℤ). pos (unsigned_abs (dot v w)) ≤ℤ reached) h.around_is (h.reaches v nearer)));
-  bow = subst (λ (d : List ℤ). unsigned_abs (dot side d) ≤ unsigned_abs (dot side bend)) h.bend_is (omega arith);
-}
 
 -- what a moment changes by along the side in all, from what its reckoning gives
 pub stray_by : (stray share reached bow : ℤ) (piece : Piece) (side far drift bend around : List ℤ) → stray ≡ (share +ℤ reached) +ℤ bow
@@ -190,6 +138,44 @@ stray_by stray share reached bow piece side far drift bend around is drift_is be
 } where
   all_of : (stray share reached bow x y : ℤ) → stray ≡ (share +ℤ reached) +ℤ bow → share ≡ pos (unsigned_abs x) → pos 0 ≤ℤ reached → bow ≡ pos (unsigned_abs y) → stray ≡ pos (unsigned_abs (share +ℤ reached) + unsigned_abs y)
   all_of stray share reached bow x y is e some f = omega (arith, ints, is, e, some, f, abs_is (share +ℤ reached))
+
+-- the numbers that a breadth is made of, for slabs of a half width
+pub record Spreading (across half change bent third reach stray : ℤ) (piece : Piece) (widest : ℤ) (side far : List ℤ) : Type 0 where
+  pub across_is : across ≡ reach +ℤ stray
+  pub change_some : pos 0 ≤ℤ change
+  pub bent_some : pos 0 ≤ℤ bent
+  pub third_some : pos 0 ≤ℤ third
+  pub reach_some : pos 0 ≤ℤ reach
+  pub wide : IsHalfWidth half widest piece
+  pub changes : (v : List ℤ) → IsNearer v far → IsNoLonger (moment_change v piece.axis piece.shift piece.turn) change
+  pub bends : IsNoLonger (cross piece.shift piece.turn) bent
+  pub thirds : IsThirdOfSquare third (change +ℤ (bent +ℤ bent))
+  pub root : (dot side side *ℤ (half *ℤ half +ℤ third)) ≤ℤ (reach *ℤ reach)
+  pub strays : IsStray stray side piece far
+
+pub spread_by : (across half change bent third reach stray : ℤ) (piece : Piece) (widest : ℤ) (side far : List ℤ)
+    → Spreading across half change bent third reach stray piece widest side far → IsSpread across side piece widest far
+spread_by across half change bent third reach stray piece widest side far h = record {
+  r = unsigned_abs half;
+  m = unsigned_abs change;
+  n = unsigned_abs bent;
+  e = unsigned_abs third;
+  t = unsigned_abs reach;
+  q = h.strays.q;
+  s = h.strays.s;
+  across_is = across_of across reach stray (h.strays.q + h.strays.s) h.across_is h.reach_some h.strays.total_is;
+  wide = subst (λ (z : ℤ). (((pos piece.scale *ℤ widest) *ℤ (pos piece.scale *ℤ widest)) *ℤ piece.longest) ≤ℤ z) (sym (square_of_abs half)) h.wide;
+  change = λ v nearer.
+      subst (λ (z : ℤ). dot (moment_change v piece.axis piece.shift piece.turn) (moment_change v piece.axis piece.shift piece.turn) ≤ℤ z) (sym (square_of_abs change)) (h.changes v nearer);
+  bend = subst (λ (z : ℤ). dot (cross piece.shift piece.turn) (cross piece.shift piece.turn) ≤ℤ z) (sym (square_of_abs bent)) h.bends;
+  spare = spare_of (change +ℤ (bent +ℤ bent)) change bent third refl h.change_some h.bent_some h.third_some h.thirds;
+  root = root_by (dot side side) half third reach h.third_some h.root;
+  swing = h.strays.swing;
+  bow = h.strays.bow;
+} where
+  across_of : (across reach stray : ℤ) (n : ℕ) → across ≡ reach +ℤ stray → pos 0 ≤ℤ reach → stray ≡ pos n → across ≡ pos (unsigned_abs reach + n)
+  across_of across (pos t) stray n is some e = omega (arith, ints, is, e)
+  across_of across (negsuc t) stray n is some e = absurd (omega (arith, ints, some))
 
 -- along no side there is nothing
 pub along_none : (v a : List ℤ) → IsBeside (pos 0 ∷ pos 0 ∷ pos 0 ∷ []) (pos 0) v a

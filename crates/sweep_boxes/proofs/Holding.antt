@@ -1,11 +1,10 @@
 -- What the numbers of a piece say of each place that some slab is left of.
-use Rattle.std.proofs.Common.{◌≡◌, true, ℕ, ◌+◌, ◌*◌, ◌≤◌, List, [], ◌∷◌, ℤ, pos, ◌+ℤ◌, ◌*ℤ◌, ◌-ℤ◌, ◌≤ℤ◌, unsigned_abs, arith, refl, sym, subst, ap, ◌∙◌}
+use Rattle.std.proofs.Common.{◌≡◌, true, ℕ, ◌+◌, ◌*◌, ◌≤◌, List, [], ◌∷◌, ℤ, pos, ◌*ℤ◌, ◌≤ℤ◌, unsigned_abs, arith, refl, sym, subst, ap, ◌∙◌}
 use Rattle.std.proofs.lemmas.Int.{ints}
-use borrow.Author.Differences.{abs_is}
 use Rattle.space.specs.Motion.{Motion, axis_at, offset_at}
 use Rattle.space.specs.Vectors.{dot}
 use Rattle.space.proofs.Naturals.{dot_natural, square_not_negative}
-use Rattle.space.proofs.Solver.{var, num, add, mul, neg, ring}
+use Rattle.space.proofs.Solver.{var, num, mul, ring}
 use Rattle.bern_form.specs.Between.{is_left_between}
 use Rattle.bern_form.specs.Cells.{scaled_square}
 use Rattle.bern_form.specs.Slab.{SlabSize}
@@ -14,9 +13,8 @@ use Rattle.sweep_boxes.specs.Held.{IsGrown, IsLift}
 use Rattle.sweep_boxes.specs.Made.{IsPieceOf}
 use Rattle.sweep_boxes.specs.Pieces.{AreAsLarge, IsNearer, middle_axis, middle_offset, moment_change, height_change, shift_of, turn_of}
 use Rattle.sweep_boxes.specs.Vectors.{cross}
-use Rattle.sweep_boxes.proofs.Kept.{IsNear, LimitsOf, held_with, some_left, under_of}
+use Rattle.sweep_boxes.proofs.Kept.{IsNear, held_with, some_left, under_of}
 use Rattle.sweep_boxes.proofs.Motions.{axes_step, axes_sum, offsets_step, offsets_sum}
-use Rattle.sweep_boxes.proofs.Pieces.{IsUnder}
 use Rattle.sweep_boxes.proofs.Triangle.{square_of_abs}
 
 doubled_square : (S : ℕ) (z : ℤ) → scaled_square (2 * S) z ≡ pos 4 *ℤ scaled_square S z

@@ -1,5 +1,5 @@
 -- Slabs that are at most so wide and so high, one more at a time.
-use Rattle.std.proofs.Common.{◌≡◌, ℕ, ◌+◌, ◌≤◌, ◌<◌, List, [], ◌∷◌, ◌++◌, take, ◌∙◌, ℤ, pos, ◌≤ℤ◌, ◌⊎◌, ⊎_elim, get_or, length, arith, subst, sym}
+use Rattle.std.proofs.Common.{◌≡◌, ℕ, ◌+◌, ◌<◌, List, [], ◌∷◌, ◌++◌, take, ◌∙◌, ℤ, ◌≤ℤ◌, ⊎_elim, get_or, length, arith, subst, sym}
 use Rattle.std.proofs.lemmas.Int.{ints}
 use Rattle.std.proofs.lemmas.Bool.{cases_lt}
 use Rattle.bern_form.specs.Slab.{SlabSize}

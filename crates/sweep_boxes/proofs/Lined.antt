@@ -1,8 +1,8 @@
 -- Places along a line, from bounds of their offsets times a square.
-use Rattle.std.proofs.Common.{◌≡◌, ℕ, ◌+◌, ◌*◌, ◌≤◌, [], ◌∷◌, ℤ, pos, negsuc, neg_ℤ, ◌+ℤ◌, ◌*ℤ◌, ◌-ℤ◌, ◌≤ℤ◌, unsigned_abs, arith, refl, sym, subst}
+use Rattle.std.proofs.Common.{◌≡◌, ℕ, ◌*◌, ◌≤◌, [], ◌∷◌, ℤ, pos, negsuc, neg_ℤ, ◌+ℤ◌, ◌*ℤ◌, ◌-ℤ◌, ◌≤ℤ◌, unsigned_abs, arith, refl, sym, subst}
 use Rattle.std.proofs.lemmas.Int.{ints}
 use borrow.Author.Differences.{abs_is}
-use Rattle.space.proofs.Solver.{var, num, add, mul, neg, ring}
+use Rattle.space.proofs.Solver.{var, mul, ring}
 use Rattle.space.proofs.Terms.{sub}
 use Rattle.sweep_boxes.specs.Limits.{place_limit}
 

@@ -4,7 +4,7 @@ use Rattle.std.proofs.lemmas.Int.{ints}
 use Rattle.space.specs.Motion.{Motion, axis_at, between, offset, offset_at}
 use Rattle.space.specs.Vectors.{at}
 use Rattle.space.proofs.Ring.{mul_assoc_ℤ}
-use Rattle.space.proofs.Solver.{var, num, add, mul, neg, ring}
+use Rattle.space.proofs.Solver.{var, num, add, mul, ring}
 use Rattle.space.proofs.Terms.{sub}
 use Rattle.sweep_boxes.specs.Pieces.{middle_axis, middle_offset, shift_of, turn_of}
 use Rattle.sweep_boxes.specs.Vectors.{difference, sum}

@@ -1,17 +1,17 @@
 -- The cell rule says the same at any scale: samples that are counted t times as finely, with lengths taken t times as long.
-use Rattle.std.proofs.Common.{◌≡◌, ℕ, zero, suc, ◌+◌, ◌*◌, ◌≤◌, ◌<◌, [], ◌∷◌, List, length, ℤ, pos, negsuc, ◌+ℤ◌, ◌*ℤ◌, ◌-ℤ◌, ◌<ℤ◌, ◌⊎◌, inl, inr, ⊎_elim, arith, ap, refl, sym, subst, ◌∙◌}
+use Rattle.std.proofs.Common.{◌≡◌, ℕ, zero, suc, ◌+◌, ◌*◌, ◌≤◌, ◌<◌, [], ◌∷◌, List, length, ℤ, pos, negsuc, ◌*ℤ◌, ◌-ℤ◌, ◌<ℤ◌, inl, inr, ⊎_elim, arith, ap, refl, sym, subst, ◌∙◌}
 use Rattle.std.proofs.lemmas.Int.{ints}
 use Rattle.std.proofs.Math.Nat.{mul-le-mul}
 use Rattle.std.specs.List.{All}
 use Rattle.space.specs.Motion.{Motion, axis_at, between, offset, offset_at}
 use Rattle.space.specs.Vectors.{at}
-use Rattle.space.proofs.Solver.{Term, var, num, add, mul, neg, ring}
+use Rattle.space.proofs.Solver.{Term, var, num, add, mul, ring}
 use Rattle.space.proofs.Terms.{from, sub}
 use Rattle.bern_form.specs.Between.{d_between, height_less, n_between, u_between, width_less}
 use Rattle.bern_form.specs.Cells.{dot_on_cell, scaled_square}
-use Rattle.bern_form.specs.Forms.{lifted, product22, scaled2, scaled4}
+use Rattle.bern_form.specs.Forms.{scaled2, scaled4}
 use Rattle.bern_form.specs.Slab.{SlabSize}
-use Rattle.bern_form.proofs.Finer.{AllOut, ExcludedBetween, ExcludedWith}
+use Rattle.bern_form.proofs.Finer.{AllOut, ExcludedWith}
 use Rattle.bern_form.proofs.HalfSigns.{all_five}
 use Rattle.bern_form.proofs.Relations.{AllNegative, AllPositive}
 

@@ -19,7 +19,7 @@ use Rattle.sweep_boxes.specs.Limits.{place_limit}
 use Rattle.sweep_boxes.specs.Made.{IsPieceOf}
 use Rattle.sweep_boxes.specs.Pieces.{IsNearer, height_change, middle_offset, moment_change, offset_from}
 use Rattle.sweep_boxes.specs.Vectors.{cross, difference, sum}
-use Rattle.sweep_boxes.proofs.AlongSide.{along_with, root_by, spare_of}
+use Rattle.sweep_boxes.proofs.AlongSide.{along_with, spread_by}
 use Rattle.sweep_boxes.proofs.Boxed.{offset_is}
 use Rattle.sweep_boxes.proofs.Kept.{over_or, some_left, under_of}
 use Rattle.sweep_boxes.proofs.Motions.{axes_step, axes_sum, offsets_step, offsets_sum}
@@ -165,27 +165,19 @@ pub record IsRooted (reach half : ℤ) (ladder : Ladder) : Type 0 where
 pub spread_at : (ladder : Ladder) (piece : Piece) (widest half reach across : ℤ) (side far : List ℤ) → IsLadderOf ladder piece side far → IsHalfWidth half widest piece
     → across ≡ reach +ℤ ladder.stray → IsRooted reach half ladder → pos 0 ≤ℤ ladder.change → pos 0 ≤ℤ ladder.bent → pos 0 ≤ℤ ladder.third → IsSpread across side piece widest far
 spread_at ladder piece widest half reach across side far of wide is rooted some_change some_bent some_third =
-    let stray = of.stray in record {
-      r = unsigned_abs half;
-      m = unsigned_abs ladder.change;
-      n = unsigned_abs ladder.bent;
-      e = unsigned_abs ladder.third;
-      t = unsigned_abs reach;
-      q = stray.q;
-      s = stray.s;
-      across_is = across_of across reach ladder.stray (stray.q + stray.s) is rooted.some stray.total_is;
-      wide = subst (λ (z : ℤ). (((pos piece.scale *ℤ widest) *ℤ (pos piece.scale *ℤ widest)) *ℤ piece.longest) ≤ℤ z) (sym (square_of_abs half)) wide;
-      change = λ v nearer.
-          subst (λ (z : ℤ). dot (moment_change v piece.axis piece.shift piece.turn) (moment_change v piece.axis piece.shift piece.turn) ≤ℤ z) (sym (square_of_abs ladder.change)) (of.change v nearer);
-      bend = subst (λ (z : ℤ). dot (cross piece.shift piece.turn) (cross piece.shift piece.turn) ≤ℤ z) (sym (square_of_abs ladder.bent)) of.bend;
-      spare = spare_of (ladder.change +ℤ (ladder.bent +ℤ ladder.bent)) ladder.change ladder.bent ladder.third refl some_change some_bent some_third of.third;
-      root = root_by (dot side side) half ladder.third reach some_third (subst (λ (z : ℤ). (z *ℤ (half *ℤ half +ℤ ladder.third)) ≤ℤ (reach *ℤ reach)) of.square_is rooted.root);
-      swing = stray.swing;
-      bow = stray.bow;
-    } where
-      across_of : (across reach stray : ℤ) (n : ℕ) → across ≡ reach +ℤ stray → pos 0 ≤ℤ reach → stray ≡ pos n → across ≡ pos (unsigned_abs reach + n)
-      across_of across (pos t) stray n is some e = omega (arith, ints, is, e)
-      across_of across (negsuc t) stray n is some e = absurd (omega (arith, ints, some))
+    spread_by across half ladder.change ladder.bent ladder.third reach ladder.stray piece widest side far record {
+      across_is = is;
+      change_some = some_change;
+      bent_some = some_bent;
+      third_some = some_third;
+      reach_some = rooted.some;
+      wide = wide;
+      changes = of.change;
+      bends = of.bend;
+      thirds = of.third;
+      root = subst (λ (z : ℤ). (z *ℤ (half *ℤ half +ℤ ladder.third)) ≤ℤ (reach *ℤ reach)) of.square_is rooted.root;
+      strays = of.stray;
+    }
 
 -- the same numbers are of the same ladder
 pub record IsMadeOf (ladder : Ladder) (lift shortest longest change bent square third stray : ℤ) : Type 0 where

@@ -1,12 +1,12 @@
 -- Lengths of vectors, by numbers whose squares bound theirs: no root is taken.
-use Rattle.std.proofs.Common.{◌≡◌, ℕ, ◌+◌, ◌*◌, ◌≤◌, ◌<◌, [], ◌∷◌, List, ℤ, pos, negsuc, ◌+ℤ◌, ◌*ℤ◌, ◌-ℤ◌, ◌≤ℤ◌, ◌<ℤ◌, ◌⊎◌, inl, inr, unsigned_abs, arith, refl, sym, subst, ⊎_elim}
-use Rattle.std.proofs.lemmas.Int.{ints, unsigned_abs-mul}
+use Rattle.std.proofs.Common.{◌≡◌, ℕ, ◌+◌, ◌*◌, ◌≤◌, ◌<◌, [], ◌∷◌, List, ℤ, pos, negsuc, ◌+ℤ◌, ◌*ℤ◌, ◌-ℤ◌, ◌≤ℤ◌, ◌<ℤ◌, ◌⊎◌, inl, inr, unsigned_abs, arith, refl, subst, ⊎_elim}
+use Rattle.std.proofs.lemmas.Int.{ints}
 use Rattle.std.proofs.lemmas.Bool.{cases_lt}
 use Rattle.std.proofs.Math.Nat.{mul-le-mul}
 use borrow.Author.Differences.{abs_is}
-use Rattle.space.specs.Vectors.{at, dot, spread}
-use Rattle.space.proofs.Naturals.{dot_natural, natural, spread_natural, square_not_negative}
-use Rattle.space.proofs.Solver.{Term, var, num, add, mul, neg, ring}
+use Rattle.space.specs.Vectors.{at, dot}
+use Rattle.space.proofs.Naturals.{dot_natural, natural, spread_natural}
+use Rattle.space.proofs.Solver.{num, add, mul, ring}
 use Rattle.space.proofs.Terms.{dots, from, sub}
 use Rattle.sweep_boxes.specs.Vectors.{difference, sum}
 

@@ -1,5 +1,5 @@
 -- Boxes that cover what a move may meet.
-use Rattle.std.specs.Prelude.{◌≡◌, true, ℕ, ◌+◌, ◌^◌, ◌≤◌, ◌<◌, List, length, slice_index_or, ℤ}
+use Rattle.std.specs.Prelude.{◌≡◌, true, ℕ, ◌+◌, ◌≤◌, ◌<◌, List, length, slice_index_or, ℤ}
 use Rattle.space.specs.Motion.{Motion}
 use Rattle.bern_form.specs.Between.{is_left_between}
 use Rattle.bern_form.specs.Slab.{SlabSize}

@@ -20,7 +20,7 @@ use crate::ladder::Ladder;
 use crate::level::Level;
 use crate::piece::Piece;
 use crate::shared::ladder_of;
-use crate::spread::{length_square, root_of_product, sum};
+use crate::spread::{reach_across, sum};
 use crate::step::{Step, step_at};
 use crate::vector::weighted;
 use bern_form::Slab;
@@ -64,8 +64,10 @@ fn across_at(ladder: &Ladder, half: i128) -> i128
         → IsSpread result side piece widest far }
     ensures some { pos 0 ≤ℤ result }
 {
-    let wide = sum(length_square(half), ladder.third);
-    sum(root_of_product(ladder.square, wide), ladder.stray)
+    sum(
+        reach_across(ladder.square, half, ladder.third),
+        ladder.stray,
+    )
 }
 
 /// The level below which only the slabs in front of a step are met. Where nothing is known of it, it is one that isn't used.

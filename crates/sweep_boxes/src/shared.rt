@@ -39,7 +39,7 @@ fn least_square(piece: &Piece) -> i128
 }
 
 /// What the moment of a place changes by and is bent by along a side, on a piece.
-fn stray_of(piece: &Piece, side: &[i128; 3], far: &[i128; 3]) -> i128
+pub fn stray_of(piece: &Piece, side: &[i128; 3], far: &[i128; 3]) -> i128
     requires side { IsWithin aim_limit side.now }
     requires far { IsWithin side_limit far.now }
     ensures value { IsStray result side.now piece.now far.now }

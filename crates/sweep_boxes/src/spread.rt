@@ -12,9 +12,10 @@ ghost use Rattle.sweep_boxes.specs.Pieces.{AreAsLarge, IsAmong, IsBeside, IsNear
 use crate::aim::aim_of;
 use crate::breadth::Breadth;
 use crate::change::{change_limit, length_along, length_limit};
-use crate::hold::{distance, radius};
+use crate::hold::radius;
 use crate::offsets::{farthest, sizes};
 use crate::piece::Piece;
+use crate::shared::stray_of;
 use crate::side::quotient;
 use crate::vector::{cross, root_up};
 
@@ -133,6 +134,20 @@ pub fn sum(a: i128, b: i128) -> i128
 /// More than any breadth.
 const TOO_WIDE: i128 = 10_000_000_000_000_000_000;
 
+/// How far along a side with this square slabs of a half width reach, with a third of the square of what the moment is off by.
+pub fn reach_across(square: i128, half: i128, third: i128) -> i128
+    requires square_some { pos 0 ≤ℤ square }
+    requires square { unsigned_abs square ≤ 192 }
+    requires half { unsigned_abs half ≤ 5 * 10 ^ 16 }
+    requires third_some { pos 0 ≤ℤ third }
+    requires third { unsigned_abs third ≤ 10 ^ 33 }
+    ensures value { (square *ℤ (half *ℤ half +ℤ third)) ≤ℤ (result *ℤ result) }
+    ensures some { pos 0 ≤ℤ result }
+    ensures small { unsigned_abs result ≤ 10 ^ 18 }
+{
+    root_of_product(square, sum(length_square(half), third))
+}
+
 /// How far along a side the moment of a place is outside of slabs that are at most so wide. Lengths that are too great for the root
 /// give a number above all that a breadth can have.
 fn spread_of(piece: &Piece, side: &[i128; 3], widest: i32, far: &[i128; 3]) -> i128
@@ -143,22 +158,15 @@ fn spread_of(piece: &Piece, side: &[i128; 3], widest: i32, far: &[i128; 3]) -> i
     ensures some { pos 0 ≤ℤ result }
 {
     let turn = sizes(&piece.turn);
-    let drift = cross(&piece.shift, &piece.axis);
-    let bend = cross(&piece.shift, &piece.turn);
+    let change = change_limit(&cross(&piece.shift, &piece.axis), far, &turn);
+    let bent = length_limit(&cross(&piece.shift, &piece.turn));
     let half = radius(piece.scale, widest, piece.longest);
-    let change = change_limit(&drift, far, &turn);
-    let bent = length_limit(&bend);
     let spare = sum(change, sum(bent, bent));
     if 50_000_000_000_000_000 < half || 50_000_000_000_000_000 < spare {
         return TOO_WIDE;
     }
-    let wide = sum(length_square(half), third_of_square(spare));
-    let reach = root_of_product(short_square(side), wide);
-    let swing = sum(
-        distance(tilt(side, &drift)),
-        reach_of(far, &cross(&piece.turn, side)),
-    );
-    sum(reach, sum(swing, distance(tilt(side, &bend))))
+    let reach = reach_across(short_square(side), half, third_of_square(spare));
+    sum(reach, stray_of(piece, side, far))
 }
 
 /// How far to either side the places that are left are.

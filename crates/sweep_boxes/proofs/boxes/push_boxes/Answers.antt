@@ -1,13 +1,9 @@
-use Rattle.std.proofs.Common.{◌≡◌, true, ◌+◌, ◌^◌, ℕ, ℤ, List, pos, length, FitsSigned, arith, rules, subst, sym}
+use Rattle.std.proofs.Common.{◌≡◌, true, ◌+◌, ◌^◌, ℤ, pos, length, FitsSigned, arith, rules, subst, sym}
 use mir.Syntax.{w32}
 use Rattle.space.specs.Motion.{Motion}
 use Rattle.std.proofs.lemmas.Int.{to_z-of_z}
 use Rattle.space.specs.Reach.{is_in_reach}
-use Rattle.bern_form.specs.Between.{is_left_between}
-use Rattle.bern_form.specs.Marks.{is_left_on}
-use Rattle.bern_form.specs.Slab.{SlabSize}
 use Rattle.cutter_slabs.specs.Stacks.{outer_stack, reach_of}
-use Rattle.sweep_boxes.specs.Boxes.{IsInBox}
 use Rattle.sweep_boxes.specs.Covers.{CoverParts, IsInSome}
 use Rattle.sweep_boxes.specs.Pieces.{AreAsLarge}
 use Rattle.sweep_boxes.proofs.Coarse.{left_part, on_ok, possible_parts}

@@ -1,7 +1,6 @@
-use Rattle.std.proofs.Common.{◌≡◌, ◌≤ℤ◌, ◌*ℤ◌, ◌+ℤ◌, ◌-ℤ◌, ◌*◌, ℤ, pos, unsigned_abs, FitsSigned, arith, rules, refl, subst, sym}
-use Rattle.std.proofs.lemmas.Int.{ints, to_z-of_z}
+use Rattle.std.proofs.Common.{FitsSigned, rules}
+use Rattle.std.proofs.lemmas.Int.{to_z-of_z}
 use mir.Syntax.{w128}
-use borrow.Author.Differences.{abs_is}
 use Rattle.space.specs.Vectors.{at}
 use Rattle.sweep_boxes.proofs.Numbers.{change_below, squares_below}
 use Rattle.sweep_boxes.proofs.change.change_limit.Goals as goal

@@ -1,7 +1,6 @@
-use Rattle.std.proofs.Common.{◌≡◌, ◌≤ℤ◌, ◌*ℤ◌, ◌+ℤ◌, ◌-ℤ◌, ◌*◌, ℤ, pos, unsigned_abs, FitsSigned, arith, rules, refl, subst, sym}
+use Rattle.std.proofs.Common.{◌≡◌, ◌≤ℤ◌, ℤ, FitsSigned, arith, rules}
 use Rattle.std.proofs.lemmas.Int.{ints, to_z-of_z}
 use mir.Syntax.{w128}
-use borrow.Author.Differences.{abs_is}
 use Rattle.space.specs.Vectors.{at}
 use Rattle.sweep_boxes.proofs.Numbers.{squares_below}
 use Rattle.sweep_boxes.proofs.change.length_limit.Goals as goal

@@ -1,4 +1,4 @@
-use Rattle.std.proofs.Common.{ℕ, ◌^◌, ◌*◌, ◌%◌, ◌<◌, ◌≤◌, ◌≡◌, arith, subst, sym}
+use Rattle.std.proofs.Common.{ℕ, ◌^◌, ◌*◌, ◌%◌, ◌≤◌, ◌≡◌, arith, subst, sym}
 use Rattle.std.proofs.Math.Pow.{pow_mono}
 use Rattle.sweep_boxes.proofs.cut.parts_of.Goals as goal
 

@@ -1,5 +1,4 @@
-use Rattle.std.proofs.Common.{rules, arith}
-use Rattle.std.proofs.lemmas.Int.{ints}
+use Rattle.std.proofs.Common.{rules}
 use Rattle.sweep_boxes.proofs.cut.piece_of.Goals as goal
 
 pub invariant_of-result-clause-scaled : goal.invariant_of-result-clause-scaled

@@ -1,9 +1,9 @@
-use Rattle.std.proofs.Common.{◌≡◌, ◌≤◌, ◌≤ℤ◌, ◌*ℤ◌, ◌+ℤ◌, ◌-ℤ◌, ◌*◌, ◌+◌, ◌^◌, List, ℕ, ℤ, pos, to_z, of_z, unsigned_abs, FitsSigned, arith, rules, refl, subst, sym}
+use Rattle.std.proofs.Common.{◌≡◌, ◌≤ℤ◌, ◌*ℤ◌, ◌+ℤ◌, ◌-ℤ◌, ◌*◌, ◌+◌, List, ℕ, ℤ, pos, to_z, of_z, unsigned_abs, FitsSigned, arith, rules, subst, sym}
 use Rattle.std.proofs.lemmas.Int.{ints, to_z-of_z}
 use mir.Syntax.{w32, w128}
 use borrow.Author.Differences.{abs_is}
 use Rattle.space.specs.Vectors.{dot}
-use Rattle.sweep_boxes.specs.Pieces.{IsHeldOn, middle_axis, middle_offset}
+use Rattle.sweep_boxes.specs.Pieces.{middle_axis, middle_offset}
 use Rattle.sweep_boxes.specs.Vectors.{cross}
 use Rattle.sweep_boxes.specs.Held.{IsGrown}
 use Rattle.sweep_boxes.proofs.Holding.{held_on}

@@ -1,6 +1,6 @@
-use Rattle.std.proofs.Common.{◌≡◌, ◌≤◌, ◌≤ℤ◌, ◌*ℤ◌, ◌+ℤ◌, ◌-ℤ◌, ◌*◌, ◌+◌, ◌^◌, List, ℕ, ℤ, pos, unsigned_abs, FitsSigned, arith, rules, refl, subst, sym}
+use Rattle.std.proofs.Common.{FitsSigned, arith, rules}
 use Rattle.std.proofs.lemmas.Int.{ints, to_z-of_z}
-use mir.Syntax.{w32, w128}
+use mir.Syntax.{w128}
 use borrow.Author.Differences.{abs_is}
 use Rattle.space.specs.Vectors.{dot}
 use Rattle.sweep_boxes.proofs.Numbers.{minus_fits}

@@ -1,7 +1,6 @@
-use Rattle.std.proofs.Common.{◌≡◌, ◌≤◌, ◌≤ℤ◌, ◌*ℤ◌, ◌+ℤ◌, ◌-ℤ◌, ◌*◌, ◌+◌, ◌^◌, List, ℕ, ℤ, pos, unsigned_abs, FitsSigned, arith, rules, refl, subst, sym}
-use Rattle.std.proofs.lemmas.Int.{ints, to_z-of_z}
-use mir.Syntax.{w32, w128}
-use borrow.Author.Differences.{abs_is}
+use Rattle.std.proofs.Common.{FitsSigned, rules}
+use Rattle.std.proofs.lemmas.Int.{to_z-of_z}
+use mir.Syntax.{w128}
 use Rattle.space.specs.Vectors.{dot}
 use Rattle.sweep_boxes.proofs.Numbers.{sum_fits}
 use Rattle.sweep_boxes.proofs.hold.most_of.Goals as goal

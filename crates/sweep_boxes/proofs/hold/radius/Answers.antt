@@ -1,8 +1,6 @@
-use Rattle.std.proofs.Common.{◌≡◌, ◌≤◌, ◌≤ℤ◌, ◌*ℤ◌, ◌+ℤ◌, ◌-ℤ◌, ◌*◌, ◌+◌, ◌^◌, List, ℕ, ℤ, pos, unsigned_abs, FitsSigned, arith, rules, refl, subst, sym}
-use Rattle.std.proofs.lemmas.Int.{ints, to_z-of_z}
+use Rattle.std.proofs.Common.{◌≡◌, ◌≤◌, ◌≤ℤ◌, ◌*ℤ◌, ◌*◌, ℕ, ℤ, pos, unsigned_abs, FitsSigned, arith, rules, subst}
+use Rattle.std.proofs.lemmas.Int.{to_z-of_z}
 use mir.Syntax.{w128}
-use borrow.Author.Differences.{abs_is}
-use Rattle.space.specs.Vectors.{at, dot}
 use Rattle.sweep_boxes.specs.Limits.{place_limit}
 use Rattle.sweep_boxes.proofs.Numbers.{radius_fits}
 use Rattle.sweep_boxes.proofs.hold.radius.Goals as goal

@@ -1,8 +1,6 @@
-use Rattle.std.proofs.Common.{◌≡◌, ◌≤◌, ◌≤ℤ◌, ◌*ℤ◌, ◌+ℤ◌, ◌-ℤ◌, ◌*◌, ◌+◌, ◌^◌, List, ℤ, pos, unsigned_abs, FitsSigned, arith, rules, refl, subst, sym}
-use Rattle.std.proofs.lemmas.Int.{ints, to_z-of_z}
-use mir.Syntax.{w128}
+use Rattle.std.proofs.Common.{arith}
+use Rattle.std.proofs.lemmas.Int.{ints}
 use borrow.Author.Differences.{abs_is}
-use Rattle.space.specs.Vectors.{at, dot}
 use Rattle.sweep_boxes.proofs.hold.total.Goals as goal
 
 pub returns-clause-value : goal.returns-clause-value

@@ -1,5 +1,5 @@
-use Rattle.std.proofs.Common.{◌≡◌, ◌≤ℤ◌, ◌+ℤ◌, ◌*ℤ◌, ℤ, FitsSigned, rules, subst, ap, ◌∙◌}
-use Rattle.std.proofs.lemmas.Int.{to_z-of_z}
+use Rattle.std.proofs.Common.{◌≡◌, ◌≤ℤ◌, ◌+ℤ◌, ◌*ℤ◌, pos, FitsSigned, arith, rules}
+use Rattle.std.proofs.lemmas.Int.{ints, to_z-of_z}
 use mir.Syntax.{w128}
 use Rattle.sweep_boxes.specs.Held.{IsSpread}
 use Rattle.sweep_boxes.proofs.Stepped.{spread_at}
@@ -7,21 +7,25 @@ use Rattle.sweep_boxes.proofs.levels.across_at.Goals as goal
 
 pub returns-clause-value : goal.returns-clause-value
 returns-clause-value c piece widest side far of wide =
-    let ladder = c.args.ladder.now in let reach = c.root_of_product in let whole = c.sum in
+    let ladder = c.args.ladder.now in let reach = c.reach_across in let whole = c.sum in
     let a : FitsSigned w128 ladder.square = search rules in
     let b : FitsSigned w128 ladder.third = search rules in
     let d : FitsSigned w128 ladder.stray = search rules in
     let h = c.ranges.half in
-    let f0 : FitsSigned w128 c.length_square.result = search rules in
-    let f1 : FitsSigned w128 c.sum-wide.result = search rules in
-    let f2 : FitsSigned w128 reach.result = search rules in
-    let f3 : FitsSigned w128 whole.result = search rules in
-    let square_is : c.length_square.result ≡ c.args.half *ℤ c.args.half = simp to_z-of_z at c.length_square.ensures.value in
-    let wide_is : c.sum-wide.result ≡ c.length_square.result +ℤ ladder.third = simp to_z-of_z at c.sum-wide.ensures.value in
+    let f0 : FitsSigned w128 reach.result = search rules in
+    let f1 : FitsSigned w128 whole.result = search rules in
     let whole_is : whole.result ≡ reach.result +ℤ ladder.stray = simp to_z-of_z at whole.ensures.value in
-    let rooted : (ladder.square *ℤ c.sum-wide.result) ≤ℤ (reach.result *ℤ reach.result) = simp to_z-of_z at reach.ensures.value in
-    let root : (ladder.square *ℤ (c.args.half *ℤ c.args.half +ℤ ladder.third)) ≤ℤ (reach.result *ℤ reach.result) =
-    subst (λ (z : ℤ). (ladder.square *ℤ z) ≤ℤ (reach.result *ℤ reach.result)) (wide_is ∙ ap (λ z. z +ℤ ladder.third) square_is) rooted in
+    let root : (ladder.square *ℤ (c.args.half *ℤ c.args.half +ℤ ladder.third)) ≤ℤ (reach.result *ℤ reach.result) = simp to_z-of_z at reach.ensures.value in
     let spread : IsSpread whole.result side piece widest far =
     spread_at ladder piece widest c.args.half reach.result whole.result side far of wide whole_is record { some = reach.ensures.some; root = root } ladder.change_small.0 ladder.bent_small.0 ladder.third_small.0 in
     simp to_z-of_z spread
+
+pub returns-clause-some : goal.returns-clause-some
+returns-clause-some c =
+    let ladder = c.args.ladder.now in let reach = c.reach_across in let whole = c.sum in
+    let d : FitsSigned w128 ladder.stray = search rules in
+    let f0 : FitsSigned w128 reach.result = search rules in
+    let f1 : FitsSigned w128 whole.result = search rules in
+    let whole_is : whole.result ≡ reach.result +ℤ ladder.stray = simp to_z-of_z at whole.ensures.value in
+    let some : pos 0 ≤ℤ whole.result = omega (arith, ints, whole_is, reach.ensures.some, ladder.stray_small.0) in
+    simp to_z-of_z some

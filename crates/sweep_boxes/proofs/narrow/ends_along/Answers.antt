@@ -1,7 +1,6 @@
-use Rattle.std.proofs.Common.{◌≡◌, ◌≤◌, ◌≤ℤ◌, ◌*ℤ◌, ◌+ℤ◌, ◌-ℤ◌, ◌*◌, ◌+◌, ◌^◌, List, ℕ, ℤ, pos, neg_ℤ, unsigned_abs, FitsSigned, arith, rules, refl, subst, sym}
-use Rattle.std.proofs.lemmas.Int.{ints, to_z-of_z}
+use Rattle.std.proofs.Common.{◌≤◌, ◌*◌, pos, FitsSigned, rules}
+use Rattle.std.proofs.lemmas.Int.{to_z-of_z}
 use mir.Syntax.{w32, w128}
-use borrow.Author.Differences.{abs_is}
 use Rattle.space.specs.Vectors.{at, dot}
 use Rattle.sweep_boxes.specs.Limits.{place_limit, side_limit}
 use Rattle.sweep_boxes.specs.Pieces.{offset_from}

@@ -1,9 +1,6 @@
-use Rattle.std.proofs.Common.{◌≡◌, ◌≤◌, ◌≤ℤ◌, List, ℕ, ℤ, pos, FitsSigned, arith, rules, refl, subst, sym}
-use Rattle.std.proofs.lemmas.Int.{ints, to_z-of_z}
-use mir.Syntax.{w32, w128}
-use Rattle.space.specs.Vectors.{at, dot}
-use Rattle.bern_form.specs.Slab.{SlabSize}
-use Rattle.sweep_boxes.specs.Pieces.{AreAsLarge}
+use Rattle.std.proofs.Common.{FitsSigned, rules}
+use Rattle.std.proofs.lemmas.Int.{to_z-of_z}
+use mir.Syntax.{w32}
 use Rattle.sweep_boxes.proofs.Boxed.{among_of, held_of, inner_range}
 use Rattle.sweep_boxes.proofs.narrow.narrowed.Goals as goal
 

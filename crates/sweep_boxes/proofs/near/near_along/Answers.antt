@@ -1,7 +1,7 @@
-use Rattle.std.proofs.Common.{◌≡◌, ◌≤◌, ◌≤ℤ◌, ◌+ℤ◌, ◌-ℤ◌, List, ℕ, ℤ, pos, FitsSigned, arith, rules, refl, subst, sym}
-use Rattle.std.proofs.lemmas.Int.{ints, to_z-of_z}
-use mir.Syntax.{w32, w128}
-use Rattle.space.specs.Vectors.{at, dot}
+use Rattle.std.proofs.Common.{◌≤ℤ◌, ◌+ℤ◌, ◌-ℤ◌, ℤ, FitsSigned, rules}
+use Rattle.std.proofs.lemmas.Int.{to_z-of_z}
+use mir.Syntax.{w32}
+use Rattle.space.specs.Vectors.{at}
 use Rattle.sweep_boxes.proofs.Boxed.{near_end, near_start}
 use Rattle.sweep_boxes.proofs.near.near_along.Goals as goal
 

@@ -1,8 +1,8 @@
-use Rattle.std.proofs.Common.{◌≡◌, ◌≤◌, ◌≤ℤ◌, ◌+ℤ◌, ◌-ℤ◌, List, ℕ, ℤ, pos, true, to_z, of_z, FitsSigned, arith, rules, refl, subst, sym}
-use Rattle.std.proofs.lemmas.Int.{ints, to_z-of_z}
-use mir.Syntax.{w32, w128}
-use Rattle.space.specs.Vectors.{at, dot}
-use Rattle.space.specs.Reach.{is_in_reach, is_near}
+use Rattle.std.proofs.Common.{◌≡◌, true, to_z, of_z, FitsSigned, rules}
+use Rattle.std.proofs.lemmas.Int.{to_z-of_z}
+use mir.Syntax.{w32}
+use Rattle.space.specs.Vectors.{at}
+use Rattle.space.specs.Reach.{is_near}
 use Rattle.sweep_boxes.proofs.Boxed.{inner_range, reach_parts}
 use Rattle.sweep_boxes.proofs.near.near_part.Goals as goal
 

@@ -1,4 +1,4 @@
-use Rattle.std.proofs.Common.{◌≡◌, ◌≤ℤ◌, pos, ◌*ℤ◌, FitsSigned, arith, rules}
+use Rattle.std.proofs.Common.{◌≤ℤ◌, ◌*ℤ◌, FitsSigned, arith, rules}
 use Rattle.std.proofs.lemmas.Int.{ints}
 use mir.Syntax.{w128}
 use borrow.Author.Differences.{abs_is}

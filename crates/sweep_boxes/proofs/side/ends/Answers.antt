@@ -1,8 +1,6 @@
-use Rattle.std.proofs.Common.{◌≡◌, ◌≤◌, ◌≤ℤ◌, ◌*ℤ◌, ◌+ℤ◌, ◌-ℤ◌, ◌*◌, ◌+◌, ◌^◌, List, ℕ, ℤ, pos, neg_ℤ, unsigned_abs, FitsSigned, arith, rules, refl, subst, sym}
-use Rattle.std.proofs.lemmas.Int.{ints, to_z-of_z}
+use Rattle.std.proofs.Common.{◌≡◌, ◌≤ℤ◌, ◌*ℤ◌, ◌-ℤ◌, ℤ, pos, FitsSigned, rules, subst}
+use Rattle.std.proofs.lemmas.Int.{to_z-of_z}
 use mir.Syntax.{w32, w128}
-use borrow.Author.Differences.{abs_is}
-use Rattle.sweep_boxes.specs.Limits.{place_limit}
 use Rattle.space.proofs.Naturals.{natural}
 use Rattle.sweep_boxes.proofs.Lined.{within_margin}
 use Rattle.sweep_boxes.proofs.side.ends.Goals as goal

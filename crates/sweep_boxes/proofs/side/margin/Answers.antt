@@ -1,9 +1,6 @@
-use Rattle.std.proofs.Common.{◌≡◌, ◌≤◌, ◌≤ℤ◌, ◌*ℤ◌, ◌+ℤ◌, ◌-ℤ◌, ◌*◌, ◌+◌, ◌^◌, List, ℕ, ℤ, pos, unsigned_abs, FitsSigned, arith, rules, refl, subst, sym}
-use Rattle.std.proofs.lemmas.Int.{ints, to_z-of_z}
-use mir.Syntax.{w32, w128}
-use borrow.Author.Differences.{abs_is}
+use Rattle.std.proofs.Common.{◌*◌, ◌^◌, arith, refl}
+use Rattle.std.proofs.lemmas.Int.{to_z-of_z}
 use Rattle.space.proofs.Naturals.{abs_mul}
-use Rattle.sweep_boxes.specs.Limits.{place_limit, side_limit}
 use Rattle.sweep_boxes.proofs.Numbers.{product_fits}
 use Rattle.sweep_boxes.proofs.side.margin.Goals as goal
 

@@ -1,4 +1,4 @@
-use Rattle.std.proofs.Common.{◌≡◌, ◌≤ℤ◌, ◌<◌, ℕ, ℤ, pos, get_or, FitsSigned, arith, rules, refl, subst, sym, ◌∙◌}
+use Rattle.std.proofs.Common.{◌≡◌, ◌≤ℤ◌, pos, get_or, FitsSigned, arith, rules, subst, sym, ◌∙◌}
 use Rattle.std.proofs.lemmas.Int.{ints, to_z-of_z}
 use Rattle.std.proofs.lemmas.List.{get_or_default}
 use mir.Syntax.{w32}

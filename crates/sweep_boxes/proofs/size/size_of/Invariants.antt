@@ -1,4 +1,4 @@
-use Rattle.std.proofs.Common.{◌≤◌, ◌<◌, ◌≤ℤ◌, ℕ, pos, get_or}
+use Rattle.std.proofs.Common.{◌<◌, ◌≤ℤ◌, ℕ, pos, get_or}
 use Rattle.bern_form.specs.Slab.{SlabSize}
 use Rattle.sweep_boxes.specs.Pieces.{IsAsLarge}
 use Rattle.sweep_boxes.proofs.size.size_of.Given as goal
