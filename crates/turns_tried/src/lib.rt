@@ -1,11 +1,19 @@
 //! Tries of what turns strips, over the small job: orders of steps, versions looked back at, tickets of two threads, crews.
 #![tactic(auto)]
 
+#[cfg(test)]
 mod again;
+#[cfg(test)]
 mod crews;
+#[cfg(test)]
 mod long_ray;
+#[cfg(test)]
 mod meeting;
+#[cfg(test)]
 mod orders;
+#[cfg(test)]
 mod passing;
+#[cfg(test)]
 mod tickets;
+#[cfg(test)]
 mod versions;
