@@ -23,6 +23,10 @@ pub struct OpenStretch {
     pub levels: u32,
 }
 
+/// How often the time is halved at most, down to a part in 64 of the move. Fewer halves leave more points to be marked one by one, on
+/// longer stretches; more of them cost more than they settle.
+const HALVINGS: u32 = 6;
+
 /// The diameter of the widest of the slabs, which is the highest.
 fn widest(slabs: &[Slab]) -> i32
     requires { IsRising slabs.now }
@@ -126,7 +130,7 @@ fn open_in(
 }
 
 /// The part of a move outside of which all points from one index to another are clear of it. Where there is none they are clear: none
-/// is sure, and none is possible. That the part is as short as it could be isn't said. It is looked for down to a part in 32 of
+/// is sure, and none is possible. That the part is as short as it could be isn't said. It is looked for down to a part in 64 of
 /// the move.
 pub fn open_stretch(
     sweep: &Sweep,
@@ -151,7 +155,7 @@ pub fn open_stretch(
     let square = scaled_square(scale, widest(stacks.outer()));
     let start = Pair::at_sample(sweep, grid, ray, from, to, 0, scale);
     let end = Pair::at_sample(sweep, grid, ray, from, to, scale, scale);
-    let stop = depth.saturating_sub(5);
+    let stop = depth.saturating_sub(HALVINGS);
     open_in(
         sweep, grid, ray, from, to, scale, square, &start, &end, 0, depth, stop,
     )

@@ -23,14 +23,17 @@ use Rattle.ray_grid.specs.declared.ray.Family.TheVariants.{X, Y, Z}
 use Rattle.ray_grid.specs.Lattice.{node_at, place_at, point_at, point_of, points_of}
 use Rattle.wanted_marks.specs.Ways.{IsAlong, scaled_way}
 use Rattle.wanted_marks.specs.Rays.{RayOf}
+use Rattle.ray_runs.specs.declared.clear.OpenStretch.{OpenStretch}
+use Rattle.width_bisect.specs.Forms.{AreWidthForms, width_between}
 use Rattle.wanted_marks.specs.declared.line.Line.{Line}
+use Rattle.wanted_marks.specs.declared.on_stretch.StretchLine.{StretchLine}
 use Rattle.wanted_marks.specs.declared.sheet.Sheet.{Sheet}
-use Rattle.wanted_marks.specs.Lines.{HasForms, IsLineOf, IsThrough, d_step, u_step}
+use Rattle.wanted_marks.specs.Lines.{FitsAt, HasForms, HasFormsBetween, IsLineOf, IsThrough, d_step, heights_at, u_step, width_at}
+use Rattle.wanted_marks.specs.StretchLines.{IsStretchLineOf, IsThroughOn}
 use Rattle.wanted_marks.specs.Sheets.{FitsOn}
 use Rattle.wanted_marks.proofs.Bending.{bend_small}
 use Rattle.wanted_marks.proofs.Fitting.{spread_fits}
-use Rattle.wanted_marks.proofs.Stepping.{HasRay, forms_are}
-use Rattle.wanted_marks.specs.Widths.{whole_width}
+use Rattle.wanted_marks.proofs.Stepping.{HasRay, forms_are, forms_between}
 
 moves : (o s : ℤ) (l : ℕ) → o +ℤ (pos l *ℤ s) ≡ (o +ℤ (pos 0 *ℤ s)) +ℤ pos l *ℤ ((o +ℤ (pos 1 *ℤ s)) -ℤ (o +ℤ (pos 0 *ℤ s)))
 moves o s l =
@@ -74,16 +77,22 @@ point_between s first next p last l n h here there f t = (
   component_between (at s 2) (at next 2 -ℤ at first 2) (at p 2) (at last 2) l n h here.z there.z f.2 t.2,
 )
 
-pub width_small : (m : Motion) (p : List ℤ) (S : ℕ) → IsSweep m → IsPoint p → S ≤ scale_limit → All IsSmall (whole_width m p S)
-width_small m p S sweep point few =
-    (between_fits (offset_at m p (pos 0) (pos S)) (offset_at m p (pos S) (pos S)) (axis_at m (pos 0) (pos S)) (axis_at m (pos S) (pos S))
-    (offset_within m p 0 S sweep point (omega arith) few) (offset_within m p S S sweep point (omega arith) few)
-    (axis_within m 0 S sweep (omega arith) few) (axis_within m S S sweep (omega arith) few)).width
+pub width_small : (m : Motion) (p : List ℤ) (j k S : ℕ) → IsSweep m → IsPoint p → j ≤ S → k ≤ S → S ≤ scale_limit → All IsSmall (width_between m p j k S)
+width_small m p j k S sweep point first last few =
+    (between_fits (offset_at m p (pos j) (pos S)) (offset_at m p (pos k) (pos S)) (axis_at m (pos j) (pos S)) (axis_at m (pos k) (pos S))
+    (offset_within m p j S sweep point first few) (offset_within m p k S sweep point last few) (axis_within m j S sweep first few) (axis_within m k S sweep last few)).width
 
-pub heights_bounded : (m : Motion) (p : List ℤ) (S : ℕ) → IsSweep m → IsPoint p → S ≤ scale_limit → IsBounded2 (3 * (offset_limit * axis_limit)) (u_between m p 0 S S)
-heights_bounded m p S sweep point few =
-    cross_bounded (offset_at m p (pos 0) (pos S)) (offset_at m p (pos S) (pos S)) (axis_at m (pos 0) (pos S)) (axis_at m (pos S) (pos S)) offset_limit axis_limit
-    (offset_within m p 0 S sweep point (omega arith) few) (offset_within m p S S sweep point (omega arith) few) (axis_within m 0 S sweep (omega arith) few) (axis_within m S S sweep (omega arith) few)
+pub heights_bounded : (m : Motion) (p : List ℤ) (j k S : ℕ) → IsSweep m → IsPoint p → j ≤ S → k ≤ S → S ≤ scale_limit → IsBounded2 (3 * (offset_limit * axis_limit)) (u_between m p j k S)
+heights_bounded m p j k S sweep point first last few =
+    cross_bounded (offset_at m p (pos j) (pos S)) (offset_at m p (pos k) (pos S)) (axis_at m (pos j) (pos S)) (axis_at m (pos k) (pos S)) offset_limit axis_limit
+    (offset_within m p j S sweep point first few) (offset_within m p k S sweep point last few) (axis_within m j S sweep first few) (axis_within m k S sweep last few)
+
+-- what a line has at a point fits
+forms_fit : (line : Line) (l : ℤ) (m : Motion) (p : List ℤ) (j k S : ℕ) → HasFormsBetween line l m p j k S → IsSweep m → IsPoint p → j ≤ S → k ≤ S → S ≤ scale_limit → FitsAt line l
+forms_fit line l m p j k S forms sweep point first last few = record {
+  width = small_as forms.width (width_small m p j k S sweep point first last few);
+  height = subst (IsBounded2 (3 * (offset_limit * axis_limit))) (sym forms.height) (heights_bounded m p j k S sweep point first last few);
+}
 
 -- moments
 moment_small : (p a : List ℤ) → IsWithin offset_limit p → IsWithin axis_limit a → IsWithin (2 * part_limit) (moment p a)
@@ -109,7 +118,7 @@ ray_fits sheet m o v S j ray sweep point few within =
     let P = offset_at m o (pos 0) (pos S) in let Q = offset_at m o (pos S) (pos S) in let A = axis_at m (pos 0) (pos S) in let C = axis_at m (pos S) (pos S) in
     let hP = offset_within m o 0 S sweep point (omega arith) few in let hQ = offset_within m o S S sweep point (omega arith) few in
     let hA = axis_within m 0 S sweep (omega arith) few in let hC = axis_within m S S sweep (omega arith) few in
-    let height = heights_bounded m o S sweep point few in record {
+    let height = heights_bounded m o 0 S S sweep point (omega arith) (omega arith) few in record {
       start = subst (λ (x : List ℤ). IsWithin turn_limit x) (sym ray.start) (outer_small (moment P A) (moment_small P A hP hA));
       middle = subst (λ (x : List ℤ). IsWithin turn_limit x) (sym ray.middle) (sum_small (moment P C) (moment Q A) (moment_small P C hP hC) (moment_small Q A hQ hA));
       end = subst (λ (x : List ℤ). IsWithin turn_limit x) (sym ray.end) (outer_small (moment Q C) (moment_small Q C hQ hC));
@@ -129,20 +138,36 @@ bends_up line m o v S is =
     let C = axis_at m (pos S) (pos S) in
     subst (λ (c : List ℤ). pos 0 ≤ℤ at c 4) (sym is.second_is) (four_times (spread v C) (spread_natural v C))
 
--- the forms of the points of a ray whose ends lie within a metre
+-- the points of a ray whose ends lie within a metre
+ray_point : (r : RayOf) (l n : ℕ) → l < points_of r.grid r.ray.family → points_of r.grid r.ray.family ≤ n + 1 → IsPoint (point_of r.grid r.ray 0) → IsPoint (point_of r.grid r.ray n)
+    → IsPoint (point_of r.grid r.ray l)
+ray_point r l n below all first last =
+    let o = point_of r.grid r.ray 0 in let y = point_of r.grid r.ray 1 in let j = r.ray.j in
+    point_between o o y (point_of r.grid r.ray l) (point_of r.grid r.ray n) l n (omega (arith, below, all)) (along_ray r j l) (along_ray r j n) first last
+
+-- their forms
 pub line_of_ray : (line : Line) (r : RayOf) (k n S : ℕ) → S ≡ 2 ^ r.sweep.depth → S ≤ scale_limit → IsSweep r.sweep.motion
     → IsThrough line r.sweep.motion (point_of r.grid r.ray 0) (scaled_way (pos S) (point_at r.grid r.ray.family r.ray.i k 0) (point_at r.grid r.ray.family r.ray.i k 1)) S
     → IsPoint (point_of r.grid r.ray 0) → IsPoint (point_of r.grid r.ray n) → points_of r.grid r.ray.family ≤ n + 1 → IsLineOf line r
 line_of_ray line r k n S e few sweep is first last all =
     let m = r.sweep.motion in let o = point_of r.grid r.ray 0 in let x = point_at r.grid r.ray.family r.ray.i k 0 in let y = point_at r.grid r.ray.family r.ray.i k 1 in
     let forms = λ (l : ℕ). forms_are line m o x y (point_of r.grid r.ray l) S (pos l) is (along_ray r k l) in
-    let point = λ (l : ℕ) (below : l < points_of r.grid r.ray.family).
-    point_between o x y (point_of r.grid r.ray l) (point_of r.grid r.ray n) l n (omega (arith, below, all)) (along_ray r k l) (along_ray r k n) first last in record {
-      fits = λ l below. record {
-        width = small_as (forms l).width (width_small m (point_of r.grid r.ray l) S sweep (point l below) few);
-        height = subst (IsBounded2 (3 * (offset_limit * axis_limit))) (sym (forms l).height) (heights_bounded m (point_of r.grid r.ray l) S sweep (point l below) few);
-      };
+    let point = λ (l : ℕ) (below : l < points_of r.grid r.ray.family). ray_point r l n below all first last in record {
+      fits = λ l below. forms_fit line (pos l) m (point_of r.grid r.ray l) 0 S S (forms l) sweep (point l below) (omega arith) (omega arith) few;
       bends = λ h below. bend_small line m o x y (point_of r.grid r.ray h) S (pos h) is (along_ray r k h) sweep first (point h below) few;
       forms = λ l below. subst (λ z. HasForms line (pos l) m (point_of r.grid r.ray l) z) e (forms l);
       convex = bends_up line m o (scaled_way (pos S) x y) S is;
+    }
+
+-- on a stretch of the move
+pub stretch_line_of_ray : (x : StretchLine) (s : OpenStretch) (r : RayOf) (n S : ℕ) → S ≡ 2 ^ r.sweep.depth → S ≤ scale_limit → IsSweep r.sweep.motion → s.first + 2 ^ s.levels ≤ S
+    → IsThroughOn x s r.sweep.motion (point_of r.grid r.ray 0) (scaled_way (pos S) (point_of r.grid r.ray 0) (point_of r.grid r.ray 1)) S
+    → IsPoint (point_of r.grid r.ray 0) → IsPoint (point_of r.grid r.ray n) → points_of r.grid r.ray.family ≤ n + 1 → IsStretchLineOf x s r
+stretch_line_of_ray x s r n S e few sweep within is first last all =
+    let m = r.sweep.motion in let o = point_of r.grid r.ray 0 in let y = point_of r.grid r.ray 1 in let j = s.first in let k = s.first + 2 ^ s.levels in
+    let forms = λ (l : ℕ). forms_between x.line m o o y (point_of r.grid r.ray l) j k S (pos l) is.line_is (along_ray r r.ray.j l) in record {
+      fits = λ l below.
+          forms_fit x.line (pos l) m (point_of r.grid r.ray l) j k S (forms l) sweep (ray_point r l n below all first last) (omega (arith, within)) within few;
+      forms = λ l below. subst (λ z. AreWidthForms (heights_at x.line (pos l)) x.n.c (width_at x.line (pos l)) m (point_of r.grid r.ray l) j k z) e
+          record { u_is = (forms l).height; n_is = is.n_is; width_is = (forms l).width };
     }

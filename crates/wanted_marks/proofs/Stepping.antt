@@ -13,7 +13,7 @@ use Rattle.ray_runs.proofs.Lagrange.{lagrange_at, less_squares}
 use Rattle.wanted_marks.specs.declared.line.Line.{Line}
 use Rattle.ray_runs.specs.declared.moments.Moments.{Moments}
 use Rattle.wanted_marks.specs.declared.sheet.Sheet.{Sheet}
-use Rattle.wanted_marks.specs.Lines.{HasForms, IsThrough, d_step, u_step}
+use Rattle.wanted_marks.specs.Lines.{HasForms, HasFormsBetween, IsLineFrom, IsThrough, IsThroughBetween, d_step, u_step}
 use Rattle.wanted_marks.specs.Sheets.{AreMoments, IsLineOn, IsSheet, end_at, first_at, middle_at, own_product, start_at}
 use Rattle.wanted_marks.specs.Ways.{IsAlong, scaled_vector, scaled_way}
 use Rattle.wanted_marks.specs.Widths.{IsTurn, moved3, moved5, quadratics, spread_form, whole_width}
@@ -170,19 +170,30 @@ turn_is m S first last n ef el en =
     }
 
 -- the forms of the point l steps on
-pub forms_are : (line : Line) (m : Motion) (o first next p : List ℤ) (S : ℕ) (l : ℤ) → IsThrough line m o (scaled_way (pos S) first next) S → IsAlong o first next p l → HasForms line l m p S
-forms_are line m o first next p S l is on =
+pub forms_between : (line : Line) (m : Motion) (o first next p : List ℤ) (j k S : ℕ) (l : ℤ) → IsThroughBetween line m o (scaled_way (pos S) first next) j k S
+    → IsAlong o first next p l → HasFormsBetween line l m p j k S
+forms_between line m o first next p j k S l is on =
     let s = pos S in let v = scaled_way s first next in
-    let P = offset_at m o (pos 0) s in let Q = offset_at m o s s in let A = axis_at m (pos 0) s in let C = axis_at m s s in
-    let n = n_between m 0 S S in let u = u_between m o 0 S S in let w = u_step m v S in let d = d_between m o 0 S S in let f = d_step m o v S in let g = dot_on_cell v v v v in
-    let start = offset_moves m o first next p (pos 0) s l on in
-    let end = offset_moves m o first next p s s l on in
-    let U : u_between m p 0 S S ≡ moved3 u w l = ap₂ (λ x y. dot_on_cell x y A C) start end ∙ u_moves P Q A C v l in
-    let D : d_between m p 0 S S ≡ moved_twice d f g l = ap₂ (λ x y. dot_on_cell x y x y) start end ∙ d_moves P Q v l in record {
-      width = ap (λ x. quadratics x line.first.c line.second.c l) is.constant_is ∙ ap₂ (λ x y. quadratics (whole_width m o S) x y l) is.first_is is.second_is
+    let P = offset_at m o (pos j) s in let Q = offset_at m o (pos k) s in let A = axis_at m (pos j) s in let C = axis_at m (pos k) s in
+    let n = n_between m j k S in let u = u_between m o j k S in let w = dot_on_cell v v A C in let d = d_between m o j k S in let f = dot_on_cell P Q v v in let g = dot_on_cell v v v v in
+    let start = offset_moves m o first next p (pos j) s l on in
+    let end = offset_moves m o first next p (pos k) s l on in
+    let U : u_between m p j k S ≡ moved3 u w l = ap₂ (λ x y. dot_on_cell x y A C) start end ∙ u_moves P Q A C v l in
+    let D : d_between m p j k S ≡ moved_twice d f g l = ap₂ (λ x y. dot_on_cell x y x y) start end ∙ d_moves P Q v l in record {
+      width = ap (λ x. quadratics x line.first.c line.second.c l) is.constant_is ∙ ap₂ (λ x y. quadratics (spread_form (pos 4) d n u u) x y l) is.first_is is.second_is
           ∙ width_moves n u w d f g l ∙ ap₂ (λ x y. spread_form (pos 4) x n y y) (sym D) (sym U);
       height = ap₂ (λ x y. moved3 x y l) is.height_is is.height_step_is ∙ sym U;
     }
+
+pub forms_are : (line : Line) (m : Motion) (o first next p : List ℤ) (S : ℕ) (l : ℤ) → IsThrough line m o (scaled_way (pos S) first next) S → IsAlong o first next p l → HasForms line l m p S
+forms_are line m o first next p S l is on = forms_between line m o first next p 0 S S l is on
+
+-- a line by offsets and axes as they are kept
+pub line_as : (line : Line) (p q v a c P Q V A C : List ℤ) → p ≡ P → q ≡ Q → v ≡ V → a ≡ A → c ≡ C → IsLineFrom line p q v a c → IsLineFrom line P Q V A C
+line_as line p q v a c P Q V A C ep eq ev ea ec is =
+    let l0 = subst (λ (z : List ℤ). IsLineFrom line z q v a c) ep is in let l1 = subst (λ (z : List ℤ). IsLineFrom line P z v a c) eq l0 in
+    let l2 = subst (λ (z : List ℤ). IsLineFrom line P Q z a c) ev l1 in let l3 = subst (λ (z : List ℤ). IsLineFrom line P Q V z c) ea l2 in
+    subst (λ (z : List ℤ). IsLineFrom line P Q V A z) ec l3
 
 -- moments
 minor_moves : (p q t w a b j : ℤ) → (p +ℤ j *ℤ t) *ℤ b -ℤ (q +ℤ j *ℤ w) *ℤ a ≡ (p *ℤ b -ℤ q *ℤ a) +ℤ j *ℤ (t *ℤ b -ℤ w *ℤ a)

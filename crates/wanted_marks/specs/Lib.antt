@@ -14,4 +14,4 @@ pub mod Ready
 pub mod ReadyRay
 pub mod Strips
 pub mod Opens
-pub mod StretchEnds
+pub mod StretchLines

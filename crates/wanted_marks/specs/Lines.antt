@@ -1,15 +1,16 @@
--- The forms of the points of a line on a whole move, as they are kept, and at the point l steps on.
+-- The forms of the points of a line on a move, as they are kept, and at the point l steps on.
 use Rattle.std.specs.Prelude.{◌≡◌, ℕ, ◌*◌, ◌^◌, ◌<◌, List, ℤ, pos, ◌+ℤ◌, ◌*ℤ◌, ◌≤ℤ◌, All}
 use Rattle.space.specs.Motion.{Motion, axis_at, offset_at}
 use Rattle.space.specs.Vectors.{at}
-use Rattle.bern_form.specs.Between.{n_between, u_between}
+use Rattle.bern_form.specs.Between.{u_between}
 use Rattle.bern_form.specs.Cells.{dot_on_cell}
 use Rattle.bern_form.specs.Forms.{IsSmall, scaled4}
 use Rattle.bern_form.specs.Sizes.{IsBounded2, axis_limit, offset_limit}
 use Rattle.ray_grid.specs.Lattice.{point_of, points_of}
+use Rattle.width_bisect.specs.Forms.{width_between}
 use Rattle.wanted_marks.specs.declared.line.Line.{Line}
 use Rattle.wanted_marks.specs.Rays.{MoveOf, RayOf}
-use Rattle.wanted_marks.specs.Widths.{moved3, quadratic, quadratics, spread_form, whole_width}
+use Rattle.wanted_marks.specs.Widths.{moved3, quadratic, quadratics, spread_form}
 
 -- the width form, and u
 abbrev pub width_at : Line → ℤ → List ℤ
@@ -34,10 +35,14 @@ pub record FitsAt (line : Line) (l : ℤ) : Type 0 where
   pub width : All IsSmall (width_at line l)
   pub height : IsBounded2 (3 * (offset_limit * axis_limit)) (heights_at line l)
 
--- they are those of the point p
-pub record HasForms (line : Line) (l : ℤ) (m : Motion) (p : List ℤ) (S : ℕ) : Type 0 where
-  pub width : width_at line l ≡ whole_width m p S
-  pub height : heights_at line l ≡ u_between m p 0 S S
+-- they are those of the point p between the samples j and k of S
+pub record HasFormsBetween (line : Line) (l : ℤ) (m : Motion) (p : List ℤ) (j k S : ℕ) : Type 0 where
+  pub width : width_at line l ≡ width_between m p j k S
+  pub height : heights_at line l ≡ u_between m p j k S
+
+-- on the whole move
+abbrev pub HasForms : Line → ℤ → Motion → List ℤ → ℕ → Type 0
+HasForms line l m p S = HasFormsBetween line l m p 0 S S
 
 -- on a move of a cutter, at the cells of its depth
 abbrev pub HasFormsIn : Line → ℤ → MoveOf → List ℤ → Type 0
@@ -58,10 +63,19 @@ u_step m v S = dot_on_cell v v (axis_at m (pos 0) (pos S)) (axis_at m (pos S) (p
 abbrev pub d_step : Motion → List ℤ → List ℤ → ℕ → List ℤ
 d_step m s v S = dot_on_cell (offset_at m s (pos 0) (pos S)) (offset_at m s (pos S) (pos S)) v v
 
--- the line begins at the point s and goes on by the step v
-pub record IsThrough (line : Line) (m : Motion) (s v : List ℤ) (S : ℕ) : Type 0 where
-  pub constant_is : line.constant.c ≡ whole_width m s S
-  pub first_is : line.first.c ≡ spread_form (pos 8) (d_step m s v S) (n_between m 0 S S) (u_between m s 0 S S) (u_step m v S)
-  pub second_is : line.second.c ≡ spread_form (pos 4) (dot_on_cell v v v v) (n_between m 0 S S) (u_step m v S) (u_step m v S)
-  pub height_is : line.height ≡ u_between m s 0 S S
-  pub height_step_is : line.height_step ≡ u_step m v S
+-- The line goes on by the step v from a point whose offsets from the tip at two samples are p and q; a and c are the axes there.
+pub record IsLineFrom (line : Line) (p q v a c : List ℤ) : Type 0 where
+  pub constant_is : line.constant.c ≡ spread_form (pos 4) (dot_on_cell p q p q) (dot_on_cell a c a c) (dot_on_cell p q a c) (dot_on_cell p q a c)
+  pub first_is : line.first.c ≡ spread_form (pos 8) (dot_on_cell p q v v) (dot_on_cell a c a c) (dot_on_cell p q a c) (dot_on_cell v v a c)
+  pub second_is : line.second.c ≡ spread_form (pos 4) (dot_on_cell v v v v) (dot_on_cell a c a c) (dot_on_cell v v a c) (dot_on_cell v v a c)
+  pub height_is : line.height ≡ dot_on_cell p q a c
+  pub height_step_is : line.height_step ≡ dot_on_cell v v a c
+
+-- between the samples j and k of S it begins at the point s
+abbrev pub IsThroughBetween : Line → Motion → List ℤ → List ℤ → ℕ → ℕ → ℕ → Type 0
+IsThroughBetween line m s v j k S =
+    IsLineFrom line (offset_at m s (pos j) (pos S)) (offset_at m s (pos k) (pos S)) v (axis_at m (pos j) (pos S)) (axis_at m (pos k) (pos S))
+
+-- on the whole move
+abbrev pub IsThrough : Line → Motion → List ℤ → List ℤ → ℕ → Type 0
+IsThrough line m s v S = IsThroughBetween line m s v 0 S S

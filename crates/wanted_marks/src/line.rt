@@ -1,13 +1,13 @@
 ghost use Rattle.std.specs.Prelude.{◌≡◌, ◌*◌, ◌<◌, ◌≤◌, ℤ, pos, ◌+ℤ◌, ◌*ℤ◌, int_lt, unsigned_abs};
 ghost use Rattle.std.specs.Int.{int_wrap};
 ghost use mir.Syntax.{w128};
-ghost use Rattle.space.specs.Ranges.{IsPoint};
+ghost use Rattle.space.specs.Ranges.{IsPoint, IsWithin};
 ghost use Rattle.space.specs.Vectors.{at};
 ghost use Rattle.bern_form.specs.Forms.{IsSmall, all_negative, all_positive, difference4, scaled4};
-ghost use Rattle.bern_form.specs.Sizes.{scale_limit};
+ghost use Rattle.bern_form.specs.Sizes.{axis_limit, offset_limit, scale_limit};
 ghost use Rattle.ray_runs.specs.Sizes.{turn_limit};
 ghost use Rattle.wanted_marks.specs.Ways.{scaled_way};
-ghost use Rattle.wanted_marks.specs.Lines.{FitsAt, IsThrough, coefficient_at, height_at, heights_at, width_at};
+ghost use Rattle.wanted_marks.specs.Lines.{FitsAt, IsLineFrom, IsThrough, coefficient_at, height_at, heights_at, width_at};
 ghost use Rattle.wanted_marks.specs.Peaks.{IsPeak};
 ghost use Rattle.wanted_marks.specs.Widths.{IsTurn, quadratic};
 
@@ -38,7 +38,7 @@ pub fn quadratic(a: i128, b: i128, c: i128, l: u32) -> i128
     wrapped(a, l, wrapped(b, l, c))
 }
 
-/// The forms of the points of a line on a whole move. The width form 4 (d n - u^2) is kept as that of the first point, and as
+/// The forms of the points of a line on a whole move, or between two samples of it. The width form 4 (d n - u^2) is kept as that of the first point, and as
 /// what l and l^2 are taken times in that of the point l steps on; u as that of the first point and what l is taken times.
 #[derive(Drop)]
 pub struct Line {
@@ -50,8 +50,40 @@ pub struct Line {
 }
 
 impl Line {
-    /// The line through two points. Along it the offset from the tip grows by the same vector w with each step, so u by w.a and the
-    /// moment by w x a.
+    /// The line from a point whose offsets from the tip at two samples are given, and the axes a and c there. Along it the offset grows by
+    /// the same vector w with each step, so u by w.a and the moment by w x a.
+    pub fn between(
+        from: &[i64; 3],
+        to: &[i64; 3],
+        way: &[i64; 3],
+        a: &[i64; 3],
+        c: &[i64; 3],
+    ) -> Line
+        requires from { IsWithin offset_limit from.now }
+        requires to { IsWithin offset_limit to.now }
+        requires way { IsWithin offset_limit way.now }
+        requires a { IsWithin axis_limit a.now }
+        requires c { IsWithin axis_limit c.now }
+        ensures { IsLineFrom result from.now to.now way.now a.now c.now }
+    {
+        let origin = Moments::between(from, to, a, c);
+        let step = Moments::between(way, way, a, c);
+        Line {
+            constant: Form4 {
+                c: origin.four_squares(),
+            },
+            first: Form4 {
+                c: eight_products(&origin, &step),
+            },
+            second: Form4 {
+                c: step.four_squares(),
+            },
+            height: heights(from, to, a, c),
+            height_step: heights(way, way, a, c),
+        }
+    }
+
+    /// The line through two points, on the whole move.
     pub fn through(
         start: &[i32; 3],
         next: &[i32; 3],
@@ -68,21 +100,7 @@ impl Line {
         let from = scaled_way(scale, &sweep.from, start);
         let to = scaled_way(scale, &sweep.to, start);
         let way = scaled_way(scale, start, next);
-        let origin = Moments::between(&from, &to, &turn.first, &turn.last);
-        let step = Moments::between(&way, &way, &turn.first, &turn.last);
-        Line {
-            constant: Form4 {
-                c: origin.four_squares(),
-            },
-            first: Form4 {
-                c: eight_products(&origin, &step),
-            },
-            second: Form4 {
-                c: step.four_squares(),
-            },
-            height: heights(&from, &to, &turn.first, &turn.last),
-            height_step: heights(&way, &way, &turn.first, &turn.last),
-        }
+        Line::between(&from, &to, &way, &turn.first, &turn.last)
     }
 
     /// A coefficient of the width form, of the point l steps on.

@@ -4,7 +4,7 @@ use crate::limits::{diameter_of, greatest_diameter, limits_of};
 use crate::line::Line;
 use crate::long::is_long;
 use crate::near::Near;
-use crate::on_stretch::Ends;
+use crate::on_stretch::StretchLine;
 use crate::peak::Peak;
 use crate::ray_marker::RayMarker;
 use crate::sheet::{Sheet, heights_on, width_on};
@@ -55,7 +55,7 @@ impl<'a> MoveMarker<'a> {
     ghost use Rattle.wanted_marks.specs.Lines.{FitsAt, HasFormsIn, IsLineOf, bend_over, height_at, width_at};
     ghost use Rattle.wanted_marks.specs.Nears.{IsNear};
     ghost use Rattle.wanted_marks.specs.Opens.{IsOpenAt};
-    ghost use Rattle.wanted_marks.specs.StretchEnds.{AreEndsOn};
+    ghost use Rattle.wanted_marks.specs.StretchLines.{HasFormsOn, IsStretchLineOf};
     ghost use Rattle.wanted_marks.specs.Rays.{IsClearOf, IsRemovedBy, RayOf, is_possible_in, is_sure_in, move_of};
     ghost use Rattle.width_bisect.specs.Bounds.{meets};
     ghost use Rattle.wanted_marks.specs.Runs.{IsHeldAt, IsRun};
@@ -151,33 +151,51 @@ impl<'a> MoveMarker<'a> {
         stretch.levels <= self.depth.saturating_sub(1)
     }
 
-    /// Where the origin stands at both ends of a stretch.
-    pub(crate) fn ends_of(&self, stretch: &OpenStretch) -> Ends
+    /// The line through the points of a ray on a stretch of the move, where the ray has two or more.
+    pub(crate) fn line_on_stretch(
+        &self,
+        grid: &Grid,
+        ray: &Ray,
+        stretch: &OpenStretch,
+    ) -> Option<StretchLine>
+        requires ray { IsRay grid.now ray.now }
         requires few { stretch.now.levels ≤ 10 }
         requires within { stretch.now.first + 2 ^ stretch.now.levels ≤ 2 ^ self.now.depth }
-        ensures { AreEndsOn result stretch.now self.now }
+        ensures { let r : RayOf = record { sweep = self.now; grid = grid.now; ray = ray.now } in
+            IfSome result (λ line. IsStretchLineOf line stretch.now r) }
     {
-        Ends::of(self.sweep, stretch, self.scale)
+        let points = grid.points(ray.family);
+        if points < 2 {
+            return None;
+        }
+        let start = grid.point(ray, 0);
+        let next = grid.point(ray, 1);
+        // The points between the first and the last lie within a metre as these two do.
+        let _last = grid.point(ray, points - 1);
+        Some(StretchLine::through(&start, &next, self.sweep, stretch, self.scale))
     }
 
-    /// What is asked of a point by its forms on the stretch outside of which it is clear. `near` is the number of a slab to look from, in
-    /// whose place comes that of the slab at the point's height, where it is looked for.
+    /// What is asked of the point l steps on along a line, by the forms that the line has there on the stretch outside of which the point is
+    /// clear. `near` is the number of a slab to look from, in whose place comes that of the slab at the point's height, where it is looked
+    /// for.
     #[inline]
     pub(crate) fn mark_on_stretch(
         &self,
+        line: &StretchLine,
+        l: u32,
         point: [i32; 3],
         stretch: &OpenStretch,
-        ends: &Ends,
         near: &mut usize,
         asked: Asked,
     ) -> Mark
         requires point { IsPoint point }
+        requires fits { FitsAt line.now.line (pos l) }
         requires open { IsOpenAt stretch.now self.now point }
-        requires ends { AreEndsOn ends.now stretch.now self.now }
+        requires forms { HasFormsOn line.now (pos l) stretch.now self.now point }
         ensures sure { tells_sure result ≡ is_sure_in self.now point }
         ensures possible { asked ≡ Asked.Whole → tells_possible result ≡ is_possible_in self.now point }
     {
-        let forms = ends.forms(self.sweep, &point, stretch, self.scale);
+        let forms = line.forms(l);
         mark_on_part(
             self.sweep,
             self.stacks,

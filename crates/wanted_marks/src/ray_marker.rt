@@ -2,7 +2,7 @@ use crate::held::{Held, Told};
 use crate::line::Line;
 use crate::move_marker::MoveMarker;
 use crate::near::Near;
-use crate::on_stretch::Ends;
+use crate::on_stretch::StretchLine;
 use crate::part::Part;
 use crate::sides::{Sides, are_many, is_few};
 use crate::word::{WordMarks, asked_at, bits_between, bits_without, chosen_bits};
@@ -42,11 +42,11 @@ impl<'a> RayMarker<'a> {
     ghost use Rattle.wanted_marks.specs.Lines.{IsLineOf, height_at, width_at};
     ghost use Rattle.wanted_marks.specs.Nears.{IsNear};
     ghost use Rattle.wanted_marks.specs.Opens.{AreOpenAt, IsOpenAt};
-    ghost use Rattle.wanted_marks.specs.Parts.{AreAmong, AreFrom, FollowsFrom};
+    ghost use Rattle.wanted_marks.specs.Parts.{AreAmong, AreFrom, AreRemoved, FollowsFrom};
     ghost use Rattle.wanted_marks.specs.Rays.{AreOnRay, IsClearOf, IsRemovedBy};
     ghost use Rattle.wanted_marks.specs.Runs.{IsHeldAt, IsRun};
     ghost use Rattle.wanted_marks.specs.Rays.{is_possible_at, is_possible_bit, is_sure_at, is_sure_bit, is_told_bit};
-    ghost use Rattle.wanted_marks.specs.StretchEnds.{AreEndsOn};
+    ghost use Rattle.wanted_marks.specs.StretchLines.{IsStretchLineOf};
     ghost use Rattle.wanted_marks.specs.Told.{tells_possible, tells_sure};
 
     pub(crate) fn new(mover: &'a MoveMarker<'a>, grid: &'a Grid, ray: Ray) -> RayMarker<'a>
@@ -322,18 +322,18 @@ impl<'a> RayMarker<'a> {
         sure | below | above
     }
 
-    /// The same by seven samples: one for all, and three for what it leaves below and above.
-    fn sure_by_samples(&self, first: u32, wanted: u64) -> u64
-        requires { AreOnRay self.now first wanted }
-        ensures wanted { (b : ℕ) → b < 64 → has_bit result b ≡ true → has_bit wanted b ≡ true }
-        ensures sure { (b : ℕ) → b < 64 → has_bit result b ≡ true
-            → IsRemovedBy self.now.sweep (point_of self.now.grid self.now.ray (first + b)) }
+    /// The same where some are known to be sure, by three more samples for what those leave below and three for what they leave above.
+    fn sure_beside(&self, first: u32, wanted: u64, known: u64) -> u64
+        requires on_ray { AreOnRay self.now first wanted }
+        requires among { AreAmong known wanted }
+        requires known { AreRemoved self.now first known }
+        ensures wanted { AreAmong result wanted }
+        ensures sure { AreRemoved self.now first result }
     {
-        let sure = self.sure_bits(first, wanted);
-        let sides = Sides::beside(bits_without(wanted, sure), sure);
+        let sides = Sides::beside(bits_without(wanted, known), known);
         let below = self.sure_on_sides(first, sides.below);
         let above = self.sure_on_sides(first, sides.above);
-        sure | below | above
+        known | below | above
     }
 
     /// The part of the move outside of which the points of these bits are clear, for which all points from the lowest of them to the
@@ -354,29 +354,38 @@ impl<'a> RayMarker<'a> {
         self.mover.open_stretch(self.grid, &self.ray, from, to)
     }
 
-    /// What is asked of the point at an index, by its forms on the stretch outside of which it is clear.
+    /// What is asked of the point at an index, by the line through the points on the stretch outside of which it is clear.
     #[inline]
     fn mark_on_stretch(
         &self,
         stretch: &OpenStretch,
-        ends: &Ends,
+        line: &StretchLine,
         l: u32,
         near: &mut usize,
         asked: Asked,
     ) -> Mark
         requires within { l < points_of self.now.grid self.now.ray.family }
-        requires ends { AreEndsOn ends.now stretch.now self.now.sweep }
+        requires line { IsStretchLineOf line.now stretch.now self.now }
         requires open { IsOpenAt stretch.now self.now.sweep (point_of self.now.grid self.now.ray l) }
         ensures sure { tells_sure result ≡ is_sure_at self.now l }
         ensures possible { asked ≡ Asked.Whole → tells_possible result ≡ is_possible_at self.now l }
     {
+        let point = self.grid.point(&self.ray, l);
         self.mover
-            .mark_on_stretch(self.grid.point(&self.ray, l), stretch, ends, near, asked)
+            .mark_on_stretch(line, l, point, stretch, near, asked)
     }
 
-    /// Which of the wanted points are sure, and which of those that are not in `sure_only` are possible, each by its forms on the
-    /// stretch outside of which all are clear.
-    fn mark_on(&self, stretch: &OpenStretch, first: u32, wanted: u64, sure_only: u64) -> WordMarks
+    /// Which of the wanted points are sure, and which of those that are not in `sure_only` are possible, each by the line through them
+    /// on the stretch outside of which all are clear.
+    fn mark_on(
+        &self,
+        stretch: &OpenStretch,
+        line: &StretchLine,
+        first: u32,
+        wanted: u64,
+        sure_only: u64,
+    ) -> WordMarks
+        requires line { IsStretchLineOf line.now stretch.now self.now }
         requires on_ray { AreOnRay self.now first wanted }
         requires open { AreOpenAt stretch.now self.now first wanted }
         ensures sure { (b : ℕ) → b < 64 → has_bit result.sure b ≡ is_sure_bit self.now first wanted b }
@@ -385,16 +394,32 @@ impl<'a> RayMarker<'a> {
     {
         // The points are few by the type, which is known where a field is seen.
         let _few = &self.ray;
-        let ends = self.mover.ends_of(stretch);
         let mut near = 0;
         let mut part = Part::of_word(wanted);
         while part.rest != 0 {
             let b = lowest_bit(part.rest);
             let asked = asked_at(sure_only, b);
-            let mark = self.mark_on_stretch(stretch, &ends, first + b, &mut near, asked);
+            let mark = self.mark_on_stretch(stretch, line, first + b, &mut near, asked);
             part = part.with_mark(b, mark);
         }
         part.marks
+    }
+
+    /// The same, on the stretch alone where that is short.
+    fn mark_open(&self, stretch: &OpenStretch, first: u32, wanted: u64, sure_only: u64) -> WordMarks
+        requires on_ray { AreOnRay self.now first wanted }
+        requires open { AreOpenAt stretch.now self.now first wanted }
+        ensures sure { (b : ℕ) → b < 64 → has_bit result.sure b ≡ is_sure_bit self.now first wanted b }
+        ensures possible { (b : ℕ) → b < 64 → has_bit sure_only b ≡ false
+            → has_bit result.possible b ≡ is_possible_bit self.now first wanted b }
+    {
+        if !self.mover.is_short(stretch) {
+            return self.mark_each(first, wanted, sure_only);
+        }
+        match self.mover.line_on_stretch(self.grid, &self.ray, stretch) {
+            None => self.mark_each(first, wanted, sure_only),
+            Some(line) => self.mark_on(stretch, &line, first, wanted, sure_only),
+        }
     }
 
     /// The same as `mark_each` for a long move: where the halves of the time show that the points are clear but for a short part of it,
@@ -410,11 +435,28 @@ impl<'a> RayMarker<'a> {
                 sure: 0,
                 possible: 0,
             },
+            Some(stretch) => self.mark_open(&stretch, first, wanted, sure_only),
+        }
+    }
+
+    /// The same, of points of which a sample has shown none to be sure. Mostly all are clear, so further samples are taken only where the
+    /// halves of the time don't show that.
+    fn mark_unless_clear(&self, first: u32, wanted: u64, sure_only: u64) -> WordMarks
+        requires { AreOnRay self.now first wanted }
+        ensures sure { (b : ℕ) → b < 64 → has_bit result.sure b ≡ is_sure_bit self.now first wanted b }
+        ensures possible { (b : ℕ) → b < 64 → has_bit sure_only b ≡ false
+            → has_bit result.possible b ≡ is_possible_bit self.now first wanted b }
+    {
+        match self.open_of_bits(first, wanted) {
+            None => WordMarks {
+                sure: 0,
+                possible: 0,
+            },
             Some(stretch) => {
-                if !self.mover.is_short(&stretch) {
-                    return self.mark_each(first, wanted, sure_only);
-                }
-                self.mark_on(&stretch, first, wanted, sure_only)
+                let sure = self.sure_beside(first, wanted, 0);
+                let rest = bits_without(wanted, sure);
+                let marks = self.mark_open(&stretch, first, rest, sure_only);
+                marks.with_sure(sure)
             }
         }
     }
@@ -426,7 +468,11 @@ impl<'a> RayMarker<'a> {
         ensures possible { (b : ℕ) → b < 64 → has_bit sure_only b ≡ false
             → has_bit result.possible b ≡ is_possible_bit self.now first wanted b }
     {
-        let sure = self.sure_by_samples(first, wanted);
+        let known = self.sure_bits(first, wanted);
+        if known == 0 {
+            return self.mark_unless_clear(first, wanted, sure_only);
+        }
+        let sure = self.sure_beside(first, wanted, known);
         let rest = bits_without(wanted, sure);
         self.mark_by_parts(first, rest, sure_only).with_sure(sure)
     }

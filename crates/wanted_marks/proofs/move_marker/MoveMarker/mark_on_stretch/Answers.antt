@@ -1,17 +1,20 @@
-use Rattle.std.proofs.Common.{◌^◌, refl, subst, sym, ◌∙◌}
+use Rattle.std.proofs.Common.{pos, ◌^◌, refl, subst, sym, ◌∙◌}
 use Rattle.cutter_marks.specs.MarkBy.{mark_by}
 use Rattle.width_bisect.specs.Asked.{IsAnswer}
 use Rattle.wanted_marks.specs.Opens.{IsOpenAt}
 use Rattle.wanted_marks.specs.Rays.{MoveOf, move_of}
 use Rattle.wanted_marks.specs.Ready.{IsReadyMove}
+use Rattle.wanted_marks.specs.StretchLines.{HasFormsOn}
 use Rattle.wanted_marks.proofs.Opening.{part_of}
 use Rattle.wanted_marks.proofs.Telling.{answer_tells_sure, tells_possible_by, tells_sure_by, whole_answer}
 use Rattle.wanted_marks.proofs.move_marker.MoveMarker.mark_on_stretch.Goals as goal
 
 pub mark_on_part-requires-clause-part : goal.mark_on_part-requires-clause-part
 mark_on_part-requires-clause-part c =
-    let s = c.self.inside in let v = move_of s.stacks.now s.sweep.now s.depth in let f = c.forms-forms.result in let x = c.args.stretch.now in
-    part_of x v c.args.point f.u.c f.n.c f.width.c s.scale c.self.invariant.scale_is (subst (λ (w : MoveOf). IsOpenAt x w c.args.point) (sym c.self.view_is) c.requires.open) c.forms-forms.ensures
+    let s = c.self.inside in let v = move_of s.stacks.now s.sweep.now s.depth in let f = c.forms-forms.result in let e = c.forms-forms.ensures in let x = c.args.stretch.now in
+    let there = subst (λ (w : MoveOf). HasFormsOn c.args.line.now (pos c.args.l) x w c.args.point) (sym c.self.view_is) c.requires.forms in
+    part_of x v c.args.point f.u.c f.n.c f.width.c (subst (λ (w : MoveOf). IsOpenAt x w c.args.point) (sym c.self.view_is) c.requires.open)
+    record { u_is = e.u ∙ there.u_is; n_is = e.n ∙ there.n_is; width_is = e.width ∙ there.width_is }
 
 pub returns-clause-sure : goal.returns-clause-sure
 returns-clause-sure c =
