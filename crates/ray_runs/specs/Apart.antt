@@ -28,6 +28,14 @@ AreBeside f p p' q q' a c =
 abbrev pub AreApart : ℤ → List ℤ → List ℤ → List ℤ → List ℤ → List ℤ → List ℤ → Type 0
 AreApart f p p' q q' a c = (IsBehind p p' a c × IsBehind q q' a c) ⊎ AreBeside f p p' q q' a c
 
+-- at one sample both points are behind the tip, by their offsets and the axis
+abbrev pub AreBehindAt : List ℤ → List ℤ → List ℤ → Type 0
+AreBehindAt p q a = (dot p a <ℤ pos 0) × (dot q a <ℤ pos 0)
+
+-- and they, and all points between them, are farther from the axis there than half of a diameter whose scaled square is f, by their moments
+abbrev pub AreBesideAt : ℤ → List ℤ → List ℤ → List ℤ → Type 0
+AreBesideAt f x y a = AreAbove f (dot a a) (dot x x) (dot x y) (dot y y)
+
 -- a slab is no wider than a diameter
 pub record IsNoWider (most : ℤ) (s : SlabSize) : Type 0 where
   pub thick : pos 0 ≤ℤ s.dia

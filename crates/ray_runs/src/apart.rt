@@ -4,11 +4,11 @@ ghost use Rattle.space.specs.Vectors.{at, dot};
 ghost use Rattle.bern_form.specs.Cells.{dot_on_cell};
 ghost use Rattle.bern_form.specs.Forms.{lifted};
 ghost use Rattle.bern_form.specs.Sizes.{axis_limit, offset_limit};
-ghost use Rattle.ray_runs.specs.Apart.{AreAbove, AreApart, AreBeside, IsBehind};
+ghost use Rattle.ray_runs.specs.Apart.{AreAbove, AreApart, AreBehindAt, AreBeside, AreBesideAt, IsBehind};
 ghost use Rattle.ray_runs.specs.Moments.{vector_product};
 ghost use Rattle.ray_runs.specs.Sizes.{part_limit, turn_limit};
 
-use crate::moments::{Moments, height};
+use crate::moments::{Moments, height, product};
 use crate::pair::Pair;
 
 /// The sum of two heights.
@@ -21,25 +21,27 @@ pub fn total(x: i64, y: i64) -> i64
     x + y
 }
 
-/// Whether a point is behind the tip throughout, by its offsets p and q and the axes a and c at both samples.
+/// Whether two points are behind the tip at a sample, by their offsets and the axis there.
 #[inline]
-fn is_behind(p: &[i64; 3], q: &[i64; 3], a: &[i64; 3], c: &[i64; 3]) -> bool
+pub fn are_behind_at(p: &[i64; 3], q: &[i64; 3], a: &[i64; 3]) -> bool
+    requires p { IsWithin offset_limit p.now }
+    requires q { IsWithin offset_limit q.now }
+    requires a { IsWithin axis_limit a.now }
+    ensures { IsTrue result → AreBehindAt p.now q.now a.now }
+{
+    height(p, a) < 0 && height(q, a) < 0
+}
+
+/// Whether the middle coefficient of u is below 0, by a point's offsets p and q and the axes a and c at both samples.
+#[inline]
+fn is_behind_amid(p: &[i64; 3], q: &[i64; 3], a: &[i64; 3], c: &[i64; 3]) -> bool
     requires p { IsWithin offset_limit p.now }
     requires q { IsWithin offset_limit q.now }
     requires a { IsWithin axis_limit a.now }
     requires c { IsWithin axis_limit c.now }
-    ensures { IsTrue result → IsBehind p.now q.now a.now c.now }
+    ensures { IsTrue result → (dot p.now c.now +ℤ dot q.now a.now) <ℤ pos 0 }
 {
-    if 0 <= height(p, a) {
-        return false;
-    }
-    if 0 <= height(q, c) {
-        return false;
-    }
-    if 0 <= total(height(p, c), height(q, a)) {
-        return false;
-    }
-    true
+    total(height(p, c), height(q, a)) < 0
 }
 
 /// Twice the sum of two squared lengths.
@@ -99,6 +101,24 @@ fn is_above(limit: i128, number: i128) -> bool
     limit < 4 * number
 }
 
+/// Whether two points are beside a diameter at a sample, and all between them are, by their moments and the axis there.
+#[inline]
+pub fn are_beside_at(x: &[i64; 3], y: &[i64; 3], a: &[i64; 3], square: i64) -> bool
+    requires x { IsWithin turn_limit x.now }
+    requires y { IsWithin turn_limit y.now }
+    requires a { IsWithin axis_limit a.now }
+    ensures { IsTrue result → AreBesideAt square x.now y.now a.now }
+{
+    let limit = limit_of(square, height(a, a));
+    if !is_above(limit, product(x, x)) {
+        return false;
+    }
+    if !is_above(limit, product(y, y)) {
+        return false;
+    }
+    is_above(limit, product(x, y))
+}
+
 /// Whether one coefficient is above the limit's for both points and between them.
 #[inline]
 fn are_above(x: &Moments, y: &Moments, i: usize, square: i64, raised: i64) -> bool
@@ -121,20 +141,14 @@ fn are_above(x: &Moments, y: &Moments, i: usize, square: i64, raised: i64) -> bo
     is_above(limit, x.times(y, i))
 }
 
-/// Whether the points are beside a diameter throughout. The ends of a stretch are the likeliest to be near it.
+/// Whether the coefficients between the outer ones are above the limits' for both points and between them.
 #[inline]
-fn are_beside(x: &Moments, y: &Moments, square: i64, raised: &[i64; 5]) -> bool
-    ensures { let x = x.now in let y = y.now in IsTrue result → (i : ℕ) → i < 5 → AreAbove square (at raised.now i)
+fn are_beside_amid(x: &Moments, y: &Moments, square: i64, raised: &[i64; 5]) -> bool
+    ensures { let x = x.now in let y = y.now in IsTrue result → (i : ℕ) → 0 < i → i < 4 → AreAbove square (at raised.now i)
         (at (vector_product x.start x.middle x.end x.start x.middle x.end) i)
         (at (vector_product x.start x.middle x.end y.start y.middle y.end) i)
         (at (vector_product y.start y.middle y.end y.start y.middle y.end) i) }
 {
-    if !are_above(x, y, 4, square, raised[4]) {
-        return false;
-    }
-    if !are_above(x, y, 0, square, raised[0]) {
-        return false;
-    }
     if !are_above(x, y, 3, square, raised[3]) {
         return false;
     }
@@ -151,25 +165,65 @@ fn are_behind(start: &Pair, end: &Pair) -> bool
         → (IsBehind s.first.offset e.first.offset s.first.axis e.first.axis
         × IsBehind s.last.offset e.last.offset s.first.axis e.first.axis) }
 {
-    let a = &start.first.axis;
-    let c = &end.first.axis;
-    if !is_behind(&start.first.offset, &end.first.offset, a, c) {
+    if !start.is_behind {
         return false;
     }
-    is_behind(&start.last.offset, &end.last.offset, a, c)
+    if !end.is_behind {
+        return false;
+    }
+    let a = &start.first.axis;
+    let c = &end.first.axis;
+    if !is_behind_amid(&start.first.offset, &end.first.offset, a, c) {
+        return false;
+    }
+    is_behind_amid(&start.last.offset, &end.last.offset, a, c)
+}
+
+/// Whether all points between two are beside a diameter whose scaled square is given throughout. They have to be at both samples, which is
+/// looked at first.
+#[inline]
+fn are_beside(start: &Pair, end: &Pair, square: i64) -> bool
+    requires start { let s = start.now in IsTrue s.is_beside → AreBesideAt square s.first_moment s.last_moment s.first.axis }
+    requires end { let e = end.now in IsTrue e.is_beside → AreBesideAt square e.first_moment e.last_moment e.first.axis }
+    ensures { let s = start.now in let e = end.now in IsTrue result
+        → AreBeside square s.first.offset e.first.offset s.last.offset e.last.offset s.first.axis e.first.axis }
+{
+    if !start.is_beside {
+        return false;
+    }
+    if !end.is_beside {
+        return false;
+    }
+    let a = &start.first.axis;
+    let c = &end.first.axis;
+    let x = Moments::joining(
+        &start.first_moment,
+        &end.first_moment,
+        &start.first.offset,
+        &end.first.offset,
+        a,
+        c,
+    );
+    let y = Moments::joining(
+        &start.last_moment,
+        &end.last_moment,
+        &start.last.offset,
+        &end.last.offset,
+        a,
+        c,
+    );
+    are_beside_amid(&x, &y, square, &raised(a, c))
 }
 
 /// Whether all points between two are behind the tip between two samples, or beside a diameter whose scaled square is given.
 pub fn are_apart(start: &Pair, end: &Pair, square: i64) -> bool
+    requires start { let s = start.now in IsTrue s.is_beside → AreBesideAt square s.first_moment s.last_moment s.first.axis }
+    requires end { let e = end.now in IsTrue e.is_beside → AreBesideAt square e.first_moment e.last_moment e.first.axis }
     ensures { let s = start.now in let e = end.now in IsTrue result
         → AreApart square s.first.offset e.first.offset s.last.offset e.last.offset s.first.axis e.first.axis }
 {
     if are_behind(start, end) {
         return true;
     }
-    let a = &start.first.axis;
-    let c = &end.first.axis;
-    let x = Moments::between(&start.first.offset, &end.first.offset, a, c);
-    let y = Moments::between(&start.last.offset, &end.last.offset, a, c);
-    are_beside(&x, &y, square, &raised(a, c))
+    are_beside(start, end, square)
 }

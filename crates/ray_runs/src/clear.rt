@@ -1,10 +1,10 @@
-ghost use Rattle.std.specs.Prelude.{◌≡◌, ℕ, ◌+◌, ◌^◌, ◌<◌, ◌≤◌, All, pos, false, unsigned_abs};
+ghost use Rattle.std.specs.Prelude.{◌≡◌, ℕ, ◌+◌, ◌^◌, ◌<◌, ◌≤◌, All, IsTrue, pos, false, unsigned_abs};
 ghost use Rattle.std.specs.Option.{MatchOption};
 ghost use Rattle.space.specs.Motion.{axis_at, offset_at};
 ghost use Rattle.bern_form.specs.Sizes.{scale_limit};
 ghost use Rattle.cutter_slabs.specs.Rising.{IsRising};
 ghost use Rattle.ray_grid.specs.Lattice.{IsRay, point_of, points_of};
-ghost use Rattle.ray_runs.specs.Apart.{AreOutBeside, IsNoWider, IsPairAt};
+ghost use Rattle.ray_runs.specs.Apart.{AreBesideAt, AreOutBeside, IsNoWider, IsPairAt};
 ghost use Rattle.ray_runs.specs.Between.{AreClear};
 ghost use Rattle.ray_runs.specs.Open.{AreOutBut, IsOpenOnly, joined_stretch};
 
@@ -87,6 +87,8 @@ fn open_in(
         IsPairAt sweep.now (point_of grid.now ray.now) from to j scale s.first.offset s.last.offset s.first.axis }
     requires end { let e = end.now in
         IsPairAt sweep.now (point_of grid.now ray.now) from to (j + 2 ^ levels) scale e.first.offset e.last.offset e.first.axis }
+    requires start_beside { let s = start.now in IsTrue s.is_beside → AreBesideAt square s.first_moment s.last_moment s.first.axis }
+    requires end_beside { let e = end.now in IsTrue e.is_beside → AreBesideAt square e.first_moment e.last_moment e.first.axis }
     ensures { AreOutBut result square sweep.now (point_of grid.now ray.now) scale from to j (j + 2 ^ levels) }
 {
     if are_apart(start, end, square) {
@@ -97,7 +99,7 @@ fn open_in(
         return Some(whole);
     }
     let middle = j + cells_of(levels - 1);
-    let pair = Pair::at_sample(sweep, grid, ray, from, to, middle, scale);
+    let pair = Pair::at_sample(sweep, grid, ray, from, to, middle, scale, square);
     let late = open_in(
         sweep,
         grid,
@@ -153,8 +155,8 @@ pub fn open_stretch(
     let _inner = stacks.inner();
     let scale = cells_of(depth);
     let square = scaled_square(scale, widest(stacks.outer()));
-    let start = Pair::at_sample(sweep, grid, ray, from, to, 0, scale);
-    let end = Pair::at_sample(sweep, grid, ray, from, to, scale, scale);
+    let start = Pair::at_sample(sweep, grid, ray, from, to, 0, scale, square);
+    let end = Pair::at_sample(sweep, grid, ray, from, to, scale, scale, square);
     let stop = depth.saturating_sub(HALVINGS);
     open_in(
         sweep, grid, ray, from, to, scale, square, &start, &end, 0, depth, stop,

@@ -12,6 +12,6 @@ mod run;
 mod slab_at;
 
 pub use clear::{OpenStretch, open_stretch};
-pub use forms::{PointForms, forms_between, heights};
+pub use forms::heights;
 pub use moments::Moments;
 pub use run::{Run, sure_run};

@@ -55,7 +55,7 @@ fn minor(p: i64, q: i64, a: i64, b: i64) -> i64
 
 /// The moment of an offset about an axis.
 #[inline]
-fn moment(p: &[i64; 3], a: &[i64; 3]) -> [i64; 3]
+pub fn moment(p: &[i64; 3], a: &[i64; 3]) -> [i64; 3]
     requires p { IsWithin offset_limit p.now }
     requires a { IsWithin axis_limit a.now }
     ensures value { result ≡ moment p.now a.now }
@@ -90,6 +90,19 @@ fn sum(x: &[i64; 3], y: &[i64; 3]) -> [i64; 3]
     [plus(x[0], y[0]), plus(x[1], y[1]), plus(x[2], y[2])]
 }
 
+/// The middle coefficient of a moment between two samples, by the offsets p and q and the axes a and c there.
+#[inline]
+fn amid(p: &[i64; 3], q: &[i64; 3], a: &[i64; 3], c: &[i64; 3]) -> [i64; 3]
+    requires p { IsWithin offset_limit p.now }
+    requires q { IsWithin offset_limit q.now }
+    requires a { IsWithin axis_limit a.now }
+    requires c { IsWithin axis_limit c.now }
+    ensures value { result ≡ middle_moment p.now q.now a.now c.now }
+    ensures small { IsWithin turn_limit result }
+{
+    sum(&moment(p, c), &moment(q, a))
+}
+
 /// A product of components of two moments.
 #[inline]
 fn square(x: i64, y: i64) -> i128
@@ -115,7 +128,7 @@ fn add_squares(x: i128, y: i128, z: i128) -> i128
 
 /// The scalar product of two moments.
 #[inline]
-fn product(x: &[i64; 3], y: &[i64; 3]) -> i128
+pub fn product(x: &[i64; 3], y: &[i64; 3]) -> i128
     requires x { IsWithin turn_limit x.now }
     requires y { IsWithin turn_limit y.now }
     ensures value { result ≡ dot x.now y.now }
@@ -193,8 +206,35 @@ impl Moments {
     {
         Moments {
             start: moment(p, a),
-            middle: sum(&moment(p, c), &moment(q, a)),
+            middle: amid(p, q, a, c),
             end: moment(q, c),
+        }
+    }
+
+    /// The same where the moments at both samples are known.
+    #[inline]
+    pub(crate) fn joining(
+        start: &[i64; 3],
+        end: &[i64; 3],
+        p: &[i64; 3],
+        q: &[i64; 3],
+        a: &[i64; 3],
+        c: &[i64; 3],
+    ) -> Moments
+        requires start { IsWithin turn_limit start.now }
+        requires end { IsWithin turn_limit end.now }
+        requires p { IsWithin offset_limit p.now }
+        requires q { IsWithin offset_limit q.now }
+        requires a { IsWithin axis_limit a.now }
+        requires c { IsWithin axis_limit c.now }
+        ensures start { result.start ≡ start.now }
+        ensures middle { result.middle ≡ middle_moment p.now q.now a.now c.now }
+        ensures end { result.end ≡ end.now }
+    {
+        Moments {
+            start: *start,
+            middle: amid(p, q, a, c),
+            end: *end,
         }
     }
 

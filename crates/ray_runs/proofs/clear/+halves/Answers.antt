@@ -1,10 +1,10 @@
-use Rattle.std.proofs.Common.{◌+◌, ◌-◌, ◌^◌, ◌≡◌, arith, refl, subst, to_z, of_z}
+use Rattle.std.proofs.Common.{◌+◌, ◌-◌, ◌^◌, ◌≡◌, arith, refl, subst, sym, to_z, of_z}
 use Rattle.std.proofs.lemmas.Int.{to_z-of_z}
 use mir.Syntax.{w64}
 use Rattle.ray_grid.specs.Lattice.{point_of}
 use Rattle.box_bisect.proofs.RayLines.{ray_line}
 use Rattle.box_bisect.proofs.Searching.{halved}
-use Rattle.ray_runs.specs.Apart.{AreApart, IsPairAt}
+use Rattle.ray_runs.specs.Apart.{AreApart, AreBesideAt, IsPairAt}
 use Rattle.ray_runs.proofs.Open.{but_as, halves_open, out_around_whole}
 use Rattle.ray_runs.proofs.Boxes.{apart_out}
 use Rattle.ray_runs.proofs.clear.+halves.Goals as goal
@@ -27,6 +27,7 @@ at_sample-pair-requires-clause-sample g c =
 
 pub open_in-late-requires : goal.open_in-late-requires
 open_in-late-requires g c =
+    let square = sym (to_z-of_z w64 c.args.square c.ranges.square) in
     let a = c.args in let r = c.requires in let m = a.sweep.now in let point = point_of a.grid.now a.ray.now in let pair = c.at_sample-pair.ensures in let n = a.levels - 1 in
     let h = (halved a.levels n a.j (omega arith)).end in let k = c.cells_of.ensures.cells in let cells = r.cells in
     let end : a.j + 2 ^ a.levels ≡ (a.j + c.cells_of.result) + 2 ^ n = omega (arith, h, k) in (
@@ -47,7 +48,10 @@ open_in-late-requires g c =
                     omega (arith, h, k, cells),
                     (
                       record { first = pair.first; last = pair.last; axis = pair.axis },
-                      subst (λ i. IsPairAt m point a.from a.to i a.scale a.end.now.first.offset a.end.now.last.offset a.end.now.first.axis) end r.end,
+                      (
+                        subst (λ i. IsPairAt m point a.from a.to i a.scale a.end.now.first.offset a.end.now.last.offset a.end.now.first.axis) end r.end,
+                        (pair.beside, λ yes. subst (λ f. AreBesideAt f a.end.now.first_moment a.end.now.last_moment a.end.now.first.axis) square (r.end_beside yes)),
+                      ),
                     ),
                   ),
                 ),
@@ -60,6 +64,7 @@ open_in-late-requires g c =
 
 pub open_in-early-requires : goal.open_in-early-requires
 open_in-early-requires g c =
+    let square = sym (to_z-of_z w64 c.args.square c.ranges.square) in
     let a = c.args in let r = c.requires in let m = a.sweep.now in let point = point_of a.grid.now a.ray.now in let pair = c.at_sample-pair.ensures in let n = a.levels - 1 in
     let h = (halved a.levels n a.j (omega arith)).end in let k = c.cells_of.ensures.cells in let cells = r.cells in
     let middle : a.j + c.cells_of.result ≡ a.j + 2 ^ n = omega (arith, k) in let q = c.at_sample-pair.result in
@@ -81,7 +86,10 @@ open_in-early-requires g c =
                     omega (arith, h, k, cells),
                     (
                       r.start,
-                      subst (λ i. IsPairAt m point a.from a.to i a.scale q.first.offset q.last.offset q.first.axis) middle there,
+                      (
+                        subst (λ i. IsPairAt m point a.from a.to i a.scale q.first.offset q.last.offset q.first.axis) middle there,
+                        (λ yes. subst (λ f. AreBesideAt f a.start.now.first_moment a.start.now.last_moment a.start.now.first.axis) square (r.start_beside yes), pair.beside),
+                      ),
                     ),
                   ),
                 ),
