@@ -15,6 +15,23 @@ fn are_beyond(least: i64, most: i64, a: i64, b: i64) -> bool
     a < least && b < least || most < a && most < b
 }
 
+/// Whether the points from one to another are all too low, all too high, or all too far to one side, by the two alone.
+#[inline]
+pub fn are_all_beyond(first: &Stance, step: &Step, hold: &Hold, l: u32, m: u32) -> bool
+    requires from { FitsAfter first.now step.now (pos l) }
+    requires to { FitsAfter first.now step.now (pos m) }
+    ensures { IsTrue result → (x : ℕ) → l ≤ x → x ≤ m → is_held_after hold.now first.now step.now (pos x) ≡ false }
+{
+    let low = moved(first.height, l, step.height);
+    let high = moved(first.height, m, step.height);
+    if are_beyond(hold.least, hold.most, low, high) {
+        return true;
+    }
+    let left = tilted(first.side, l, step.side);
+    let right = tilted(first.side, m, step.side);
+    are_beyond(-hold.across, hold.across, left, right)
+}
+
 /// Whether a square of a moment is too large, and grows from there.
 #[inline]
 fn is_leaving(hold: &Hold, width: i128, growth: i128) -> bool
@@ -165,14 +182,7 @@ pub fn held_between(first: &Stance, step: &Step, hold: &Hold, l: u32, m: u32) ->
     ensures to { result.1 ≤ m + 1 }
     ensures held { (x : ℕ) → l ≤ x → x ≤ m → in_range x result ≡ is_held_after hold.now first.now step.now (pos x) }
 {
-    let low = moved(first.height, l, step.height);
-    let high = moved(first.height, m, step.height);
-    if are_beyond(hold.least, hold.most, low, high) {
-        return (l, l);
-    }
-    let left = tilted(first.side, l, step.side);
-    let right = tilted(first.side, m, step.side);
-    if are_beyond(-hold.across, hold.across, left, right) {
+    if are_all_beyond(first, step, hold, l, m) {
         return (l, l);
     }
     let bottom = first_amid(first, step, hold, l, m);

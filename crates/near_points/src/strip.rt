@@ -4,7 +4,7 @@ ghost use Rattle.vf_spans.specs.Words.{has_bit};
 
 use crate::hold::Hold;
 use crate::offset::{offset_from, scaled, turned, way_across};
-use crate::scan::held_between;
+use crate::scan::{are_all_beyond, held_between};
 use crate::stance::Stance;
 use crate::step::Step;
 use crate::trim::trimmed;
@@ -53,11 +53,12 @@ impl<'a> Model for NearStrip<'a> {
 }
 
 impl<'a> NearStrip<'a> {
-    ghost use Rattle.std.specs.Prelude.{◌≡◌, ℕ, ◌<◌, true};
+    ghost use Rattle.std.specs.Prelude.{◌≡◌, ℕ, ◌<◌, ◌≤◌, IsTrue, true};
     ghost use Rattle.ray_grid.specs.Families.{first_axis, second_axis};
-    ghost use Rattle.ray_grid.specs.Lattice.{nodes_of};
+    ghost use Rattle.ray_grid.specs.Lattice.{nodes_of, points_of};
+    ghost use Rattle.vf_spans.specs.Members.{in_range};
     ghost use Rattle.vf_spans.specs.Words.{has_bit};
-    ghost use Rattle.near_points.specs.Rays.{AreOnRay, IsHeldBit, IsKeptBit, near_ray_at};
+    ghost use Rattle.near_points.specs.Rays.{AreOnRay, IsHeldAt, IsHeldBit, IsKeptBit, near_ray_at};
 
     /// For the rays of a family with the node i.
     pub fn new(
@@ -87,6 +88,19 @@ impl<'a> NearStrip<'a> {
             step: Step::of_stance(&along),
             hold: Hold::of_cylinder(cylinder),
         }
+    }
+
+    /// Whether the cylinder may hold a point of a range of the ray with the node j: not where, by the two at its ends, all of them are too
+    /// low for it where it is widest, or too high, or too far to one side.
+    #[inline]
+    pub fn may_hold(&self, j: u32, range: (u32, u32)) -> bool
+        requires node { j < nodes_of self.now.grid (second_axis self.now.family) }
+        requires some { range.0 < range.1 }
+        requires on_ray { range.1 ≤ points_of self.now.grid self.now.family }
+        ensures { (l : ℕ) → in_range l range ≡ true → IsHeldAt (near_ray_at self.now j) l → IsTrue result }
+    {
+        let start = self.start.moved(&self.across, j);
+        !are_all_beyond(&start, &self.step, &self.hold, range.0, range.1 - 1)
     }
 
     /// Of the wanted points of a word of the ray with the node j all that the cylinder holds at each level, and none that it doesn't hold

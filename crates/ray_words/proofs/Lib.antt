@@ -3,3 +3,5 @@ pub mod Changes
 pub mod WrittenRays
 pub mod Keeping
 pub mod Ranges
+pub mod Runs
+pub mod Settling

@@ -1,6 +1,6 @@
 -- The five sets of a ray, of which a stretch is kept as words.
 use Rattle.std.specs.Prelude.{◌≡◌, ℕ, ◌+◌, ◌*◌, ◌<◌, ◌≤◌, Bool, true, false, not, ◌&&◌, ◌||◌, [], length}
-use Rattle.vf_spans.specs.Members.{has}
+use Rattle.vf_spans.specs.Members.{has, in_range}
 use Rattle.vf_spans.specs.Words.{has_bit, in_word}
 use Rattle.dexel_rays.specs.declared.word_sets.WordDelta.{WordDelta}
 use Rattle.dexel_rays.specs.declared.word_sets.WordSets.{WordSets}
@@ -29,6 +29,17 @@ pub record IsWordAt (d : Sets) (n : ℕ) (w : WordSets) : Type 0 where
 -- a move has to be asked about the point of this index; what the move marks, and whether it is rapid, doesn't matter
 abbrev pub is_wanted_at : Sets → ℕ → Bool
 is_wanted_at d i = is_wanted (seen_at d [] [] false i)
+
+-- at no index of a range has a move to be asked
+abbrev pub HasNoneWanted : Sets → ℕ × ℕ → Type 0
+HasNoneWanted d range = (l : ℕ) → in_range l range ≡ true → is_wanted_at d l ≡ false
+
+-- a range within a window that has each index of the window about which a move has to be asked
+pub record HasAllWanted (d : Sets) (window range : ℕ × ℕ) : Type 0 where
+  pub from : window.0 ≤ range.0
+  pub order : range.0 ≤ range.1
+  pub to : range.1 ≤ window.1
+  pub all : (l : ℕ) → in_range l window ≡ true → is_wanted_at d l ≡ true → in_range l range ≡ true
 
 -- each bit of the word n is an index below the bound
 abbrev pub IsBelow : ℕ → ℕ → ℕ → Type 0

@@ -2,6 +2,7 @@
 #![tactic(auto)]
 
 mod range_word;
+mod settled;
 mod word_ray;
 
 pub use word_ray::WordRay;

@@ -1,84 +1,22 @@
-use Rattle.std.proofs.Common.{◌≡◌, ◌≤◌, ◌<◌, ◌+◌, ◌-ℤ◌, pos, FitsSigned, arith, rules, ⊎_elim, leb, ltb, sym, ◌∙◌}
-use Rattle.std.proofs.lemmas.Int.{ints, to_z-of_z}
+use Rattle.std.proofs.Common.{◌≤◌, ◌<◌, ◌+◌, pos, arith, ⊎_elim, leb, ltb, sym, ◌∙◌}
 use Rattle.std.proofs.lemmas.Bool.{cases_lt, le-leb, le-ltb, lt-leb, lt-ltb}
-use mir.Syntax.{w64}
-use Rattle.near_points.specs.Lines.{AreBeyond, height_at, side_at}
 use Rattle.near_points.proofs.Between.{held_amid}
-use Rattle.near_points.proofs.Told.{beside_both, beyond_both, both_true, first_false, second_false, unheld_beyond, unheld_wide}
+use Rattle.near_points.proofs.Told.{both_true, first_false, second_false, unheld_beyond, unheld_wide}
 use Rattle.near_points.proofs.Trimming.{in_none}
 use Rattle.near_points.proofs.scan.held_between.Goals as goal
 
-pub moved-low-requires-clause-to : goal.moved-low-requires-clause-to
-moved-low-requires-clause-to c =
-    let s = c.args.first.now in let t = c.args.step.now in
-    let f : FitsSigned w64 s.height = search rules in
-    let g : FitsSigned w64 t.height = search rules in
-    let fits = c.requires.fits c.args.l (omega arith) c.requires.order in
-    simp to_z-of_z fits.height
+pub are_all_beyond-requires-clause-from : goal.are_all_beyond-requires-clause-from
+are_all_beyond-requires-clause-from c = c.requires.fits c.args.l (omega arith) c.requires.order
 
-pub moved-high-requires-clause-to : goal.moved-high-requires-clause-to
-moved-high-requires-clause-to c =
-    let s = c.args.first.now in let t = c.args.step.now in
-    let f : FitsSigned w64 s.height = search rules in
-    let g : FitsSigned w64 t.height = search rules in
-    let fits = c.requires.fits c.args.m c.requires.order (omega arith) in
-    simp to_z-of_z fits.height
-
-pub tilted-left-requires-clause-to : goal.tilted-left-requires-clause-to
-tilted-left-requires-clause-to c =
-    let s = c.args.first.now in let t = c.args.step.now in
-    let f : FitsSigned w64 s.side = search rules in
-    let g : FitsSigned w64 t.side = search rules in
-    let fits = c.requires.fits c.args.l (omega arith) c.requires.order in
-    simp to_z-of_z fits.side
-
-pub tilted-right-requires-clause-to : goal.tilted-right-requires-clause-to
-tilted-right-requires-clause-to c =
-    let s = c.args.first.now in let t = c.args.step.now in
-    let f : FitsSigned w64 s.side = search rules in
-    let g : FitsSigned w64 t.side = search rules in
-    let fits = c.requires.fits c.args.m c.requires.order (omega arith) in
-    simp to_z-of_z fits.side
-
-pub overflow_sub-hold : goal.overflow_sub-hold
-overflow_sub-hold c =
-    let hold = c.args.hold.now in let some = hold.across_some in
-    let fc : FitsSigned w64 hold.across = search rules in
-    let fm : FitsSigned w64 (pos 0 -ℤ hold.across) = omega (arith, ints, some, fc) in
-    simp to_z-of_z fm
+pub are_all_beyond-requires-clause-to : goal.are_all_beyond-requires-clause-to
+are_all_beyond-requires-clause-to c = c.requires.fits c.args.m c.requires.order (omega arith)
 
 pub last_narrow-to-requires-clause-narrow : goal.last_narrow-to-requires-clause-narrow
 last_narrow-to-requires-clause-narrow c = c.first_narrow-from.ensures.there (omega (arith, c.if-top-from.false))
 
-pub returns-then-are_beyond-clause-held : goal.returns-then-are_beyond-clause-held
-returns-then-are_beyond-clause-held c = λ x from to.
-    let a = c.moved-low.result in let e = c.moved-high.result in let hold = c.args.hold.now in let first = c.args.first.now in let step = c.args.step.now in
-    let l = c.args.l in let m = c.args.m in
-    let fa : FitsSigned w64 a = search rules in
-    let fb : FitsSigned w64 e = search rules in
-    let fl : FitsSigned w64 hold.least = search rules in
-    let fm : FitsSigned w64 hold.most = search rules in
-    let ff : FitsSigned w64 first.height = search rules in
-    let ft : FitsSigned w64 step.height = search rules in
-    let low : a ≡ height_at first step (pos l) = simp to_z-of_z at c.moved-low.ensures in
-    let high : e ≡ height_at first step (pos m) = simp to_z-of_z at c.moved-high.ensures in
-    let apart : AreBeyond hold.least hold.most a e = simp to_z-of_z at (c.are_beyond.ensures c.if-are_beyond.true) in
-    in_none x l ∙ sym (beyond_both hold first step a e l x m apart low high from to)
-
-pub returns-then-are_beyond-2-clause-held : goal.returns-then-are_beyond-2-clause-held
-returns-then-are_beyond-2-clause-held c = λ x from to.
-    let a = c.tilted-left.result in let e = c.tilted-right.result in let hold = c.args.hold.now in let first = c.args.first.now in let step = c.args.step.now in
-    let l = c.args.l in let m = c.args.m in let some = hold.across_some in
-    let fa : FitsSigned w64 a = search rules in
-    let fb : FitsSigned w64 e = search rules in
-    let ff : FitsSigned w64 first.side = search rules in
-    let ft : FitsSigned w64 step.side = search rules in
-    let fc : FitsSigned w64 hold.across = search rules in
-    let fm : FitsSigned w64 (pos 0 -ℤ hold.across) = omega (arith, ints, some, fc) in
-    let left : a ≡ side_at first step (pos l) = simp to_z-of_z at c.tilted-left.ensures in
-    let right : e ≡ side_at first step (pos m) = simp to_z-of_z at c.tilted-right.ensures in
-    let apart : AreBeyond (pos 0 -ℤ hold.across) hold.across a e = simp to_z-of_z at (c.are_beyond-2.ensures c.if-are_beyond-2.true) in
-    in_none x l ∙ sym (beside_both hold first step a e l x m apart left right from to)
+pub returns-then-are_all_beyond-clause-held : goal.returns-then-are_all_beyond-clause-held
+returns-then-are_all_beyond-clause-held c = λ x from to.
+    in_none x c.args.l ∙ sym (c.are_all_beyond.ensures c.if-are_all_beyond.true x from to)
 
 pub returns-then-m-bottom-clause-held : goal.returns-then-m-bottom-clause-held
 returns-then-m-bottom-clause-held c = λ x from to.
