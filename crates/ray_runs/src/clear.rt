@@ -23,9 +23,9 @@ pub struct OpenStretch {
     pub levels: u32,
 }
 
-/// How often the time is halved at most, down to a part in 64 of the move. Fewer halves leave more points to be marked one by one, on
-/// longer stretches; more of them cost more than they settle.
-const HALVINGS: u32 = 6;
+/// How often the time is halved at most, down to a part in 256 of the move. Fewer halves leave more points to be marked one by one, on
+/// longer stretches; more of them settle hardly any more.
+const HALVINGS: u32 = 8;
 
 /// The diameter of the widest of the slabs, which is the highest.
 fn widest(slabs: &[Slab]) -> i32
@@ -58,9 +58,15 @@ fn joined(
     }
 }
 
+/// Whether a stretch is open at both ends. Both its halves are then open too, so the whole of it is.
+#[inline]
+fn are_open(start: &Pair, end: &Pair) -> bool {
+    start.is_open() && end.is_open()
+}
+
 /// The part of the stretch between the sample `j` and the one 2^`levels` after it outside of which no slab that is no wider than a
 /// diameter is left, for the points from one index to another: none where they are clear throughout. Where that is not found by the
-/// stretch itself, both its halves are asked, down to stretches of 2^`stop` cells.
+/// stretch itself, both its halves are asked, down to stretches of 2^`stop` cells, but where a sample shows that both are open.
 #[cycle(halves)]
 fn open_in(
     sweep: &Sweep,
@@ -98,8 +104,14 @@ fn open_in(
     if levels <= stop {
         return Some(whole);
     }
+    if are_open(start, end) {
+        return Some(whole);
+    }
     let middle = j + cells_of(levels - 1);
     let pair = Pair::at_sample(sweep, grid, ray, from, to, middle, scale, square);
+    if pair.is_open() {
+        return Some(whole);
+    }
     let late = open_in(
         sweep,
         grid,
@@ -132,7 +144,7 @@ fn open_in(
 }
 
 /// The part of a move outside of which all points from one index to another are clear of it. Where there is none they are clear: none
-/// is sure, and none is possible. That the part is as short as it could be isn't said. It is looked for down to a part in 64 of
+/// is sure, and none is possible. That the part is as short as it could be isn't said. It is looked for down to a part in 256 of
 /// the move.
 pub fn open_stretch(
     sweep: &Sweep,

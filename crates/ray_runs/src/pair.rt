@@ -33,6 +33,12 @@ impl Pair {
     ghost use Rattle.ray_grid.specs.Lattice.{IsRay, point_of, points_of};
     ghost use Rattle.ray_runs.specs.Apart.{AreBesideAt};
 
+    /// Whether no stretch that begins or ends at the sample is found to be clear.
+    #[inline]
+    pub fn is_open(&self) -> bool {
+        !self.is_behind && !self.is_beside
+    }
+
     /// Two points by where they stand, and the scaled square of a diameter.
     fn of_poses(first: Pose, last: Pose, square: i64) -> Pair
         ensures first { result.first ≡ first }

@@ -20,6 +20,16 @@ returns-then-levels-stop g c =
     let a = c.args in
     out_around_whole record { first = a.j; levels = a.levels } a.square a.sweep.now (point_of a.grid.now a.ray.now) a.scale a.from a.to a.j (a.j + 2 ^ a.levels) c.requires.levels refl refl
 
+pub returns-then-are_open : goal.returns-then-are_open
+returns-then-are_open g c =
+    let a = c.args in
+    out_around_whole record { first = a.j; levels = a.levels } a.square a.sweep.now (point_of a.grid.now a.ray.now) a.scale a.from a.to a.j (a.j + 2 ^ a.levels) c.requires.levels refl refl
+
+pub returns-then-is_open : goal.returns-then-is_open
+returns-then-is_open g c =
+    let a = c.args in
+    out_around_whole record { first = a.j; levels = a.levels } a.square a.sweep.now (point_of a.grid.now a.ray.now) a.scale a.from a.to a.j (a.j + 2 ^ a.levels) c.requires.levels refl refl
+
 pub at_sample-pair-requires-clause-sample : goal.at_sample-pair-requires-clause-sample
 at_sample-pair-requires-clause-sample g c =
     let h = (halved c.args.levels (c.args.levels - 1) c.args.j (omega arith)).end in let n = c.cells_of.ensures.cells in let cells = c.requires.cells in
