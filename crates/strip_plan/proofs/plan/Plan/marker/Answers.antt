@@ -6,7 +6,7 @@ use Rattle.strip_plan.proofs.plan.Plan.marker.Goals as goal
 pub returns-clause-marker : goal.returns-clause-marker
 returns-clause-marker c move named =
     let moves = ap (λ (p : PlanOf). p.moves) c.self.view_is in
-    c.new.ensures
+    c.of_ready.ensures
     ∙ marker_is c.args.self.now c.self.inside.moves.items c.self.inside.cutters.slabs c.self.inside.depth c.self.inside.cutters.stacks.items c.self.inside.cutters.places.items c.args.number
     c.index-place.result.now move c.index.result.now c.index-2.result.now c.behind-self.inside.sweep moves (ap (λ (p : PlanOf). p.slabs) c.self.view_is) (ap (λ (p : PlanOf). p.depth) c.self.view_is)
     c.self.invariant.4 (search rules) c.index-place.ensures c.index-2.ensures c.index.ensures (ap (λ (m : JobMove). m.motion) c.behind-self.view_is) named

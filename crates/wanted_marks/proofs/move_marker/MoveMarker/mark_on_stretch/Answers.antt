@@ -11,7 +11,7 @@ use Rattle.wanted_marks.proofs.move_marker.MoveMarker.mark_on_stretch.Goals as g
 pub mark_on_part-requires-clause-part : goal.mark_on_part-requires-clause-part
 mark_on_part-requires-clause-part c =
     let s = c.self.inside in let v = move_of s.stacks.now s.sweep.now s.depth in let f = c.forms-forms.result in let x = c.args.stretch.now in
-    part_of x v c.args.point f.u.c f.n.c f.width.c s.scale c.self.invariant.scale_is (subst (λ (w : MoveOf). IsOpenAt x w c.args.point) (sym c.self.view_is) c.requires.open) c.forms-forms.ensures
+    part_of x v c.args.point f.u.c f.n.c f.width.c s.ready.now.scale c.self.invariant.scale_is (subst (λ (w : MoveOf). IsOpenAt x w c.args.point) (sym c.self.view_is) c.requires.open) c.forms-forms.ensures
 
 pub returns-clause-sure : goal.returns-clause-sure
 returns-clause-sure c =
@@ -23,7 +23,7 @@ returns-clause-sure c =
 pub returns-clause-possible : goal.returns-clause-possible
 returns-clause-possible c = λ whole.
     let v = c.args.self.now in let given = c.mark_on_part.result in let asked = c.args.asked in let mark = mark_by v.cutter v.slabs v.motion c.args.point (2 ^ v.depth) in
-    let s = c.self.inside in let ready = subst (IsReadyMove s.scale s.turn.first s.turn.last s.turn.n.c s.limits) c.self.view_is c.self.invariant in
+    let s = c.self.inside in let ready = subst (IsReadyMove s.ready.now) c.self.view_is c.self.invariant in
     tells_possible_by given v.cutter v.slabs v.motion c.args.point (2 ^ v.depth) (ready.both c.args.point)
     (whole_answer asked given mark whole
     (subst (λ (w : MoveOf). IsAnswer asked given (mark_by w.cutter w.slabs w.motion c.args.point (2 ^ w.depth))) c.self.view_is c.mark_on_part.ensures))
