@@ -7,7 +7,7 @@ use Rattle.std.proofs.Math.Seq.{get_or-append_seam}
 use Rattle.space.specs.Motion.{Motion}
 use Rattle.cutter_slabs.specs.Stacks.{StacksOf}
 use Rattle.wanted_marks.specs.declared.ready_move.ReadyMove.{ReadyMove}
-use Rattle.wanted_marks.specs.Rays.{MoveOf, move_of}
+use Rattle.wanted_marks.specs.Rays.{move_of}
 use Rattle.wanted_marks.specs.Ready.{IsReadyMove}
 use Rattle.job_model.specs.Tasks.{JobMove}
 use Rattle.strip_plan.specs.Cutters.{HasStacks}
