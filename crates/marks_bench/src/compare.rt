@@ -12,7 +12,7 @@ use ray_grid::{Grid, Ray};
 use std::alloc::Global;
 use sweep_boxes::PointBox;
 use vf_io::NoMemory;
-use wanted_marks::{MoveMarker, RayMarker};
+use wanted_marks::{MoveMarker, RayMarker, ReadyMove};
 
 /// All points of a word, each third one, and each other one.
 const ALL: u64 = u64::MAX;
@@ -76,7 +76,8 @@ fn compare_word(
 fn count_markers(case: &Case, stacks: &Stacks, plain: &Word, first: u32, tally: &mut Tally)
     requires within { first < points_of case.now.grid case.now.ray.family }
 {
-    let mover = MoveMarker::new(&case.sweep, stacks, case.depth);
+    let ready = ReadyMove::new(&case.sweep, stacks, case.depth);
+    let mover = MoveMarker::of_ready(&case.sweep, stacks, case.depth, &ready);
     let by_ray = mover.on_ray(&case.grid, case.ray);
     count_words(&by_ray, &case.grid, &case.ray, plain, first, tally);
     let strip = mover.on_strip(&case.grid, case.ray.family, case.ray.i);

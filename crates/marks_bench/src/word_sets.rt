@@ -7,7 +7,7 @@ use std::alloc::Global;
 use vf_io::NoMemory;
 use vf_spans::Words;
 use vf_spans::bits::with_bit;
-use wanted_marks::{MoveMarker, mark_wanted};
+use wanted_marks::{MoveMarker, ReadyMove, mark_wanted};
 
 /// The sure and the possible ones of the wanted points of a ray.
 #[derive(Drop)]
@@ -48,7 +48,8 @@ pub(crate) fn word_sets_of(
     let sure_only = patterned(alloc, bound, sure_only)?;
     let mut sure = Words::new(alloc, bound)?;
     let mut possible = Words::new(alloc, bound)?;
-    let mover = MoveMarker::new(&case.sweep, stacks, case.depth);
+    let ready = ReadyMove::new(&case.sweep, stacks, case.depth);
+    let mover = MoveMarker::of_ready(&case.sweep, stacks, case.depth, &ready);
     let marker = mover.on_ray(&case.grid, case.ray);
     mark_wanted(&marker, &wanted, &sure_only, &mut sure, &mut possible);
     Ok(WordSets { sure, possible })

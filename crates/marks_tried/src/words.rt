@@ -5,7 +5,7 @@ use ray_grid::{Family, Grid, Ray};
 use std::process::Abort;
 use std::test::Fail;
 use vf_spans::bits::{has_bit, lowest_bits};
-use wanted_marks::{MoveMarker, WordMarks};
+use wanted_marks::{MoveMarker, ReadyMove, WordMarks};
 
 /// A lattice of 20 mm by 10 mm by 16 mm with nodes at each second millimetre and points at each half of one.
 const GRID: Grid = Grid {
@@ -72,7 +72,8 @@ fn rays_by_a_ball(rt: HostRuntime) -> Result<(), Fail> {
     };
     let grid = GRID;
     let stacks = Stacks::new(rt.alloc(), ball, 8)?;
-    let mover = MoveMarker::new(&sweep, &stacks, DEPTH);
+    let ready = ReadyMove::new(&sweep, &stacks, DEPTH);
+    let mover = MoveMarker::of_ready(&sweep, &stacks, DEPTH, &ready);
     for (family, i, j, sure, possible) in WORDS {
         let ray = Ray { family, i, j };
         match marks_of(&mover, &grid, ray) {

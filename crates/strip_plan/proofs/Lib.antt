@@ -10,3 +10,4 @@ pub mod Rows
 pub mod Cylindered
 pub mod Passed
 pub mod Grouped
+pub mod Readied

@@ -6,3 +6,4 @@ pub mod IndexBoxes
 pub mod Boxed
 pub mod Cylinders
 pub mod Passing
+pub mod ReadyMoves

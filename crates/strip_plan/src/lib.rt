@@ -11,6 +11,7 @@ mod passing;
 mod plan;
 mod plan_move;
 mod ranges;
+mod ready_moves;
 mod windows;
 
 pub use plan::Plan;

@@ -15,6 +15,7 @@ use crate::cylinders::cylinders_of;
 use crate::index_box::IndexBox;
 use crate::passing::{count_alone, groups_of};
 use crate::plan_move::PlanMove;
+use crate::ready_moves::ready_moves_of;
 use crate::windows::{boxes_ray_window, boxes_strip_window, row};
 use edit_plan::{Edit, Edits};
 use ray_grid::{Family, Grid, Ray};
@@ -22,7 +23,7 @@ use std::alloc::Global;
 use std::marker::Model;
 use sweep_boxes::BoundingCylinder;
 use vf_io::NoMemory;
-use wanted_marks::MoveMarker;
+use wanted_marks::{MoveMarker, ReadyMove};
 
 /// A plan, ready for strips. It is seen as the grid, the slabs, the depth, the moves and the edits that it was made of.
 #[derive(Drop)]
@@ -35,6 +36,7 @@ pub struct Plan {
     boxes: Boxes,
     groups: Vec<Option<IndexBox>>,
     cylinders: Vec<BoundingCylinder>,
+    ready: Vec<ReadyMove>,
 }
 
 impl Model for Plan {
@@ -46,6 +48,7 @@ impl Model for Plan {
     ghost use Rattle.strip_plan.specs.Cutters.{HasStacks};
     ghost use Rattle.strip_plan.specs.Cylinders.{HasCylinders};
     ghost use Rattle.strip_plan.specs.Passing.{AreGroups};
+    ghost use Rattle.strip_plan.specs.ReadyMoves.{HasReadyMoves};
 
     ghost Value = { PlanOf };
 
@@ -58,7 +61,8 @@ impl Model for Plan {
         (length p.moves.items)
         × HasCylinders p.grid p.cutters.slabs p.depth p.moves.items p.cylinders.items (length p.moves.items)
         × IsPlan record { grid = p.grid; slabs = p.cutters.slabs; depth = p.depth; moves = p.moves.items; edits = p.edits }
-        × AreGroups p.boxes.hulls.items p.edits p.groups.items };
+        × AreGroups p.boxes.hulls.items p.edits p.groups.items
+        × HasReadyMoves p.cutters.slabs p.depth p.moves.items p.ready.items (length p.moves.items) };
 }
 
 impl Plan {
@@ -83,6 +87,7 @@ impl Plan {
         let boxes = boxes_of(alloc, &grid, depth, &moves, &cutters)?;
         let groups = groups_of(alloc, &boxes.hulls, edits.as_slice())?;
         let cylinders = cylinders_of(alloc, &grid, &moves, &cutters)?;
+        let ready = ready_moves_of(alloc, depth, &moves, &cutters)?;
         Ok(Plan {
             grid,
             depth,
@@ -92,6 +97,7 @@ impl Plan {
             boxes,
             groups,
             cylinders,
+            ready,
         })
     }
 
@@ -153,10 +159,11 @@ impl Plan {
         ensures valid { IsPlan self.now }
     {
         let place = self.cutters.places[number as usize];
-        MoveMarker::new(
+        MoveMarker::of_ready(
             &self.moves[number as usize].sweep,
             &self.cutters.stacks[place],
             self.depth,
+            &self.ready[number as usize],
         )
     }
 

@@ -1,24 +1,25 @@
 -- What is known of a move of a cutter that is ready for marks.
-use Rattle.std.specs.Prelude.{◌≡◌, ℕ, ◌^◌, ◌≤◌, ℤ, List, true, All}
+use Rattle.std.specs.Prelude.{◌≡◌, ◌^◌, ◌≤◌, ℤ, List, true, All}
 use Rattle.space.specs.Motion.{IsSweep}
 use Rattle.bern_form.specs.Forms.{IsSmall}
 use Rattle.bern_form.specs.Sizes.{scale_limit}
 use Rattle.cutter_slabs.specs.Rising.{IsRising}
 use Rattle.cutter_slabs.specs.Stacks.{inner_stack, outer_stack}
+use Rattle.wanted_marks.specs.declared.ready_move.ReadyMove.{ReadyMove}
 use Rattle.wanted_marks.specs.Limits.{AreLimits}
 use Rattle.wanted_marks.specs.Rays.{MoveOf, is_possible_in, is_sure_in}
 use Rattle.wanted_marks.specs.Widths.{IsTurn}
 
 -- The depth is one that points are marked at, the motion is valid, a point that is sure is possible too, the slabs rise, and what is kept
 -- of the move is right: the scale, the axis at both ends with n, and the limits.
-pub record IsReadyMove (scale : ℕ) (first last n limits : List ℤ) (v : MoveOf) : Type 0 where
+pub record IsReadyMove (ready : ReadyMove) (v : MoveOf) : Type 0 where
   pub shallow : v.depth ≤ 10
   pub valid : IsSweep v.motion
   pub both : (p : List ℤ) → is_sure_in v p ≡ true → is_possible_in v p ≡ true
   pub rising : IsRising (inner_stack v.cutter v.slabs)
   pub outer_rising : IsRising (outer_stack v.cutter v.slabs)
-  pub scale_is : scale ≡ 2 ^ v.depth
-  pub few : scale ≤ scale_limit
-  pub turn : IsTurn first last n v.motion scale
-  pub limits_are : AreLimits limits v
-  pub limits_small : All IsSmall limits
+  pub scale_is : ready.scale ≡ 2 ^ v.depth
+  pub few : ready.scale ≤ scale_limit
+  pub turn : IsTurn ready.turn.first ready.turn.last ready.turn.n.c v.motion ready.scale
+  pub limits_are : AreLimits ready.limits v
+  pub limits_small : All IsSmall ready.limits

@@ -13,6 +13,7 @@ mod on_stretch;
 mod part;
 mod peak;
 mod ray_marker;
+mod ready_move;
 mod scaled;
 mod sets;
 mod sheet;
@@ -23,6 +24,7 @@ mod word;
 
 pub use move_marker::MoveMarker;
 pub use ray_marker::RayMarker;
+pub use ready_move::ReadyMove;
 pub use sets::mark_wanted;
 pub use strip_marker::StripMarker;
 pub use word::WordMarks;

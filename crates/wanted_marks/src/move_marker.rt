@@ -1,16 +1,15 @@
 use crate::held::Held;
 use crate::hull::{are_behind, are_beside};
-use crate::limits::{diameter_of, greatest_diameter, limits_of};
+use crate::limits::diameter_of;
 use crate::line::Line;
-use crate::long::is_long;
 use crate::near::Near;
 use crate::on_stretch::StretchLine;
 use crate::peak::Peak;
 use crate::ray_marker::RayMarker;
+use crate::ready_move::ReadyMove;
 use crate::sheet::{Sheet, heights_on, width_on};
 use crate::strip_marker::StripMarker;
-use crate::turn::Turn;
-use axis_cells::{Mark, Sweep, cells_of};
+use axis_cells::{Mark, Sweep};
 use box_bisect::mark_point_uncounted;
 use cutter_slabs::Stacks;
 use ray_grid::{Family, Grid, Ray};
@@ -18,17 +17,13 @@ use ray_runs::{OpenStretch, Run, open_stretch, sure_run};
 use std::marker::Model;
 use width_bisect::{Asked, Sample, WholeForms, mark_by_forms, mark_on_part, scaled_square};
 
-/// A move of a cutter, ready to mark points of rays. It keeps what is the same for all of them: how the axis turns, and the
-/// limits beyond which a point is beside every outer slab throughout the move.
+/// A move of a cutter, ready to mark points of rays, by what is reckoned of it once and is the same for all of them.
 #[derive(Drop)]
 pub struct MoveMarker<'a> {
     sweep: &'a Sweep,
     stacks: &'a Stacks,
     depth: u32,
-    scale: u32,
-    turn: Turn,
-    limits: [i128; 5],
-    is_long: bool,
+    ready: &'a ReadyMove,
 }
 
 impl<'a> Model for MoveMarker<'a> {
@@ -39,8 +34,7 @@ impl<'a> Model for MoveMarker<'a> {
 
     ghost view = { λ s. move_of s.stacks.now s.sweep.now s.depth };
 
-    ghost invariant = { λ s. IsReadyMove s.scale s.turn.first s.turn.last s.turn.n.c s.limits
-        (move_of s.stacks.now s.sweep.now s.depth) };
+    ghost invariant = { λ s. IsReadyMove s.ready.now (move_of s.stacks.now s.sweep.now s.depth) };
 }
 
 impl<'a> MoveMarker<'a> {
@@ -58,31 +52,27 @@ impl<'a> MoveMarker<'a> {
     ghost use Rattle.wanted_marks.specs.StretchLines.{HasFormsOn, IsStretchLineOf};
     ghost use Rattle.wanted_marks.specs.Rays.{IsClearOf, IsRemovedBy, RayOf, is_possible_in, is_sure_in, move_of};
     ghost use Rattle.width_bisect.specs.Bounds.{meets};
+    ghost use Rattle.wanted_marks.specs.Ready.{IsReadyMove};
     ghost use Rattle.wanted_marks.specs.Runs.{IsHeldAt, IsRun};
     ghost use Rattle.wanted_marks.specs.declared.line.Line.{Line};
     ghost use Rattle.wanted_marks.specs.Strips.{IsSheetOf};
     ghost use Rattle.wanted_marks.specs.Told.{tells_possible, tells_sure};
 
-    /// For marks by the stacks and the reach of a cutter, at the samples and on the cells of a depth.
-    pub fn new(sweep: &'a Sweep, stacks: &'a Stacks, depth: u32) -> MoveMarker<'a>
-        requires { depth ≤ 10 }
+    /// For marks by the stacks and the reach of a cutter, at the samples and on the cells of a depth, by what was reckoned of that move.
+    pub fn of_ready(
+        sweep: &'a Sweep,
+        stacks: &'a Stacks,
+        depth: u32,
+        ready: &'a ReadyMove,
+    ) -> MoveMarker<'a>
+        requires { IsReadyMove ready.now (move_of stacks.now sweep.now depth) }
         ensures { result ≡ move_of stacks.now sweep.now depth }
     {
-        // A sweep is valid by its type, which is known where a field of it is seen; a stack tells that sure points are possible.
-        let _valid = &sweep.from;
-        let _stack = stacks.inner();
-        let scale = cells_of(depth);
-        let turn = Turn::of_sweep(sweep, scale);
-        let diameter = greatest_diameter(stacks.outer());
-        let limits = limits_of(&turn.n, scale, diameter);
         MoveMarker {
             sweep,
             stacks,
             depth,
-            scale,
-            turn,
-            limits,
-            is_long: is_long(sweep, diameter),
+            ready,
         }
     }
 
@@ -105,7 +95,7 @@ impl<'a> MoveMarker<'a> {
     /// Whether its tip goes further than twice the cutter's width. Points are then met far from both ends of the move.
     #[inline]
     pub(crate) fn is_long(&self) -> bool {
-        self.is_long
+        self.ready.is_long
     }
 
     /// Some points of a ray from one index to another that one sample shows to be sure, and so possible.
@@ -172,7 +162,7 @@ impl<'a> MoveMarker<'a> {
         let next = grid.point(ray, 1);
         // The points between the first and the last lie within a metre as these two do.
         let _last = grid.point(ray, points - 1);
-        Some(StretchLine::through(&start, &next, self.sweep, stretch, self.scale))
+        Some(StretchLine::through(&start, &next, self.sweep, stretch, self.ready.scale))
     }
 
     /// What is asked of the point l steps on along a line, by the forms that the line has there on the stretch outside of which the point is
@@ -235,7 +225,7 @@ impl<'a> MoveMarker<'a> {
     {
         let forms = WholeForms {
             u: heights_on(line, l),
-            n: self.turn.n,
+            n: self.ready.turn.n,
             width: width_on(line, l),
         };
         mark_by_forms(
@@ -262,7 +252,13 @@ impl<'a> MoveMarker<'a> {
         let next = grid.point(ray, 1);
         // The points between the first and the last lie within a metre as these two do.
         let _last = grid.point(ray, points - 1);
-        Some(Line::through(&start, &next, self.sweep, &self.turn, self.scale))
+        Some(Line::through(
+            &start,
+            &next,
+            self.sweep,
+            &self.ready.turn,
+            self.ready.scale,
+        ))
     }
 
     /// The sheet through the points of a strip, where it has two rays of two points or more.
@@ -280,7 +276,14 @@ impl<'a> MoveMarker<'a> {
         let start = grid.point(&first, 0);
         let next = grid.point(&first, 1);
         let beside = grid.point(&second, 0);
-        Some(Sheet::through(&start, &next, &beside, self.sweep, &self.turn, self.scale))
+        Some(Sheet::through(
+            &start,
+            &next,
+            &beside,
+            self.sweep,
+            &self.ready.turn,
+            self.ready.scale,
+        ))
     }
 
     /// The line through the points of a ray, where it has two or more, from the sheet of its strip.
@@ -310,9 +313,9 @@ impl<'a> MoveMarker<'a> {
         ensures last { (p : List ℤ) → HasFormsIn line.now (pos l) self.now p → IsLastOf result self.now p }
     {
         Sample {
-            scale: self.scale,
+            scale: self.ready.scale,
             u: line.last_height(l),
-            n: self.turn.last_square(),
+            n: self.ready.turn.last_square(),
             width: line.last_width(l),
         }
     }
@@ -326,7 +329,7 @@ impl<'a> MoveMarker<'a> {
         requires width { last.now.width ≡ at (width_at line.now (pos l)) 4 }
         ensures { IsTrue result → (p : List ℤ) → HasFormsIn line.now (pos l) self.now p → IsClearOf self.now p }
     {
-        let limits = &self.limits;
+        let limits = &self.ready.limits;
         if line.is_behind(l, last.u) {
             return true;
         }
@@ -344,16 +347,16 @@ impl<'a> MoveMarker<'a> {
     {
         let outer = self.stacks.outer();
         let peak = Peak {
-            scale: self.scale,
+            scale: self.ready.scale,
             square: line.peak(l, last.u),
-            least: self.turn.least,
+            least: self.ready.turn.least,
         };
         let reached = peak.reached(outer, near);
         if reached == 0 {
             return true;
         }
-        let factor = scaled_square(self.scale, diameter_of(&outer[reached - 1]));
-        line.exceed_times(l, last.width, factor, &self.turn.raised)
+        let factor = scaled_square(self.ready.scale, diameter_of(&outer[reached - 1]));
+        line.exceed_times(l, last.width, factor, &self.ready.turn.raised)
     }
 
     /// Whether the points from the one l steps on to the one m steps on are all behind the tip throughout the move, or all beside
@@ -367,7 +370,7 @@ impl<'a> MoveMarker<'a> {
         ensures { IsTrue result → (x : ℕ) → l ≤ x → x ≤ m → (p : List ℤ) → HasFormsIn line.now (pos x) self.now p
             → IsClearOf self.now p }
     {
-        let limits = &self.limits;
+        let limits = &self.ready.limits;
         if are_behind(line, l, m) {
             return true;
         }
@@ -419,9 +422,9 @@ impl<'a> MoveMarker<'a> {
         ensures { IsTrue result → (p : List ℤ) → HasFormsIn line.now (pos l) self.now p → IsRemovedBy self.now p }
     {
         let first = Sample {
-            scale: self.scale,
+            scale: self.ready.scale,
             u: line.first_height(l),
-            n: self.turn.first_square(),
+            n: self.ready.turn.first_square(),
             width: line.first_width(l),
         };
         first.is_held(self.stacks.inner(), near)

@@ -14,7 +14,7 @@ use Rattle.wanted_marks.proofs.move_marker.MoveMarker.is_held_first.Goals as goa
 pub returns : goal.returns
 returns c = λ yes p forms.
     let s = c.self.inside in let v = c.args.self.now in let S = 2 ^ v.depth in let slabs = c.inner.result.now in
-    let ready = subst (IsReadyMove s.scale s.turn.first s.turn.last s.turn.n.c s.limits) c.self.view_is c.self.invariant in
+    let ready = subst (IsReadyMove s.ready.now) c.self.view_is c.self.invariant in
     let f0 : FitsSigned w64 c.first_height.result = search rules in
     let f1 : FitsSigned w64 c.first_square.result = search rules in
     let f2 : FitsSigned w128 c.first_width.result = search rules in

@@ -13,7 +13,7 @@ use Rattle.wanted_marks.proofs.move_marker.MoveMarker.is_held_last.Goals as goal
 pub returns-clause-held : goal.returns-clause-held
 returns-clause-held c = λ yes p last.
     let s = c.self.inside in let v = c.args.self.now in let S = 2 ^ v.depth in let x = c.args.last.now in let near = c.look_near.new.near in
-    let ready = subst (IsReadyMove s.scale s.turn.first s.turn.last s.turn.n.c s.limits) c.self.view_is c.self.invariant in
+    let ready = subst (IsReadyMove s.ready.now) c.self.view_is c.self.invariant in
     let w = spread (offset_at v.motion p (pos S) (pos S)) (axis_at v.motion (pos S) (pos S)) in
     let ahead : pos 0 ≤ℤ x.u = omega (arith, ints) in
     let met = ap (meets near.bounds x.u) (sym (last.width_is ∙ last_width_is v.motion p S)) ∙ sym c.holds.ensures ∙ yes in

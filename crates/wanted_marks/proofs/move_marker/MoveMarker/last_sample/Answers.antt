@@ -9,7 +9,7 @@ use Rattle.wanted_marks.proofs.move_marker.MoveMarker.last_sample.Goals as goal
 pub returns-clause-last : goal.returns-clause-last
 returns-clause-last c = λ p forms.
     let s = c.self.inside in let v = c.args.self.now in
-    let ready = subst (IsReadyMove s.scale s.turn.first s.turn.last s.turn.n.c s.limits) c.self.view_is c.self.invariant in
+    let ready = subst (IsReadyMove s.ready.now) c.self.view_is c.self.invariant in
     let f0 : FitsSigned w64 c.last_height.result = search rules in
     let f1 : FitsSigned w64 c.last_square.result = search rules in
     let f2 : FitsSigned w128 c.last_width.result = search rules in
@@ -23,7 +23,7 @@ returns-clause-last c = λ p forms.
 pub returns-clause-at_last : goal.returns-clause-at_last
 returns-clause-at_last c =
     let s = c.self.inside in let v = c.args.self.now in
-    let ready = subst (IsReadyMove s.scale s.turn.first s.turn.last s.turn.n.c s.limits) c.self.view_is c.self.invariant in
+    let ready = subst (IsReadyMove s.ready.now) c.self.view_is c.self.invariant in
     let f1 : FitsSigned w64 c.last_square.result = search rules in
     record {
       scale_is = ready.scale_is;

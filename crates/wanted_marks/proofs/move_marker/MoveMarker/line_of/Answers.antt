@@ -12,10 +12,10 @@ pub returns : goal.returns
 returns c =
     let s = c.self.inside in let v = c.args.self.now in
     let r : RayOf = record { sweep = v; grid = c.args.grid.now; ray = c.args.ray.now } in
-    let ready = subst (IsReadyMove s.scale s.turn.first s.turn.last s.turn.n.c s.limits) c.self.view_is c.self.invariant in
+    let ready = subst (IsReadyMove s.ready.now) c.self.view_is c.self.invariant in
     let start = c.point-start in let next = c.point-next in let last = c.point-last in
-    let step = λ (x : MoveOf) (a b : List ℤ). IsThrough c.through.result x.motion a (scaled_way (pos s.scale) a b) s.scale in
+    let step = λ (x : MoveOf) (a b : List ℤ). IsThrough c.through.result x.motion a (scaled_way (pos s.ready.now.scale) a b) s.ready.now.scale in
     let is = subst (λ (b : List ℤ). step v (point_of r.grid r.ray 0) b) next.ensures.position
     (subst (λ (a : List ℤ). step v a next.result) start.ensures.position (subst (λ (x : MoveOf). step x start.result next.result) c.self.view_is c.through.ensures)) in
-    line_of_ray c.through.result r r.ray.j (c.points-points.result - 1) s.scale ready.scale_is ready.few ready.valid is
+    line_of_ray c.through.result r r.ray.j (c.points-points.result - 1) s.ready.now.scale ready.scale_is ready.few ready.valid is
     (subst IsPoint start.ensures.position start.ensures.near) (subst IsPoint last.ensures.position last.ensures.near) (omega (arith, c.points-points.ensures))

@@ -14,7 +14,7 @@ line-requires c =
     let s = c.self.inside in let v = c.args.self.now in let ray = c.args.ray.now in let S = 2 ^ v.depth in
     let r : RayOf = record { sweep = v; grid = c.args.grid.now; ray = ray } in
     let strip : StripOf = record { sweep = v; grid = c.args.grid.now; family = ray.family; i = ray.i } in
-    let ready = subst (IsReadyMove s.scale s.turn.first s.turn.last s.turn.n.c s.limits) c.self.view_is c.self.invariant in
+    let ready = subst (IsReadyMove s.ready.now) c.self.view_is c.self.invariant in
     let few : S ≤ scale_limit = subst (λ k. k ≤ scale_limit) ready.scale_is ready.few in
     let first = point_at r.grid ray.family ray.i 0 0 in let beside = point_at r.grid ray.family ray.i 1 0 in let v01 = way_to strip 0 1 S in
     ray_fits c.args.sheet.now v.motion (point_of r.grid ray 0) v01 S (pos ray.j)
@@ -26,7 +26,7 @@ returns c =
     let s = c.self.inside in let v = c.args.self.now in let ray = c.args.ray.now in let S = 2 ^ v.depth in
     let r : RayOf = record { sweep = v; grid = c.args.grid.now; ray = ray } in
     let strip : StripOf = record { sweep = v; grid = c.args.grid.now; family = ray.family; i = ray.i } in
-    let ready = subst (IsReadyMove s.scale s.turn.first s.turn.last s.turn.n.c s.limits) c.self.view_is c.self.invariant in
+    let ready = subst (IsReadyMove s.ready.now) c.self.view_is c.self.invariant in
     let few : S ≤ scale_limit = subst (λ k. k ≤ scale_limit) ready.scale_is ready.few in
     let first = point_at r.grid ray.family ray.i 0 0 in let beside = point_at r.grid ray.family ray.i 1 0 in
     let o = point_of r.grid ray 0 in let v01 = way_to strip 0 1 S in

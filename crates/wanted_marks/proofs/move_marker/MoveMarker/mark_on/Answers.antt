@@ -16,7 +16,7 @@ returns-clause-sure c =
 pub returns-clause-possible : goal.returns-clause-possible
 returns-clause-possible c = λ whole.
     let v = c.args.self.now in let given = c.mark_by_forms.result in let asked = c.args.asked in let mark = mark_by v.cutter v.slabs v.motion c.args.point (2 ^ v.depth) in
-    let s = c.self.inside in let ready = subst (IsReadyMove s.scale s.turn.first s.turn.last s.turn.n.c s.limits) c.self.view_is c.self.invariant in
+    let s = c.self.inside in let ready = subst (IsReadyMove s.ready.now) c.self.view_is c.self.invariant in
     tells_possible_by given v.cutter v.slabs v.motion c.args.point (2 ^ v.depth) (ready.both c.args.point)
     (whole_answer asked given mark whole
     (subst (λ (w : MoveOf). IsAnswer asked given (mark_by w.cutter w.slabs w.motion c.args.point (2 ^ w.depth))) c.self.view_is c.mark_by_forms.ensures))

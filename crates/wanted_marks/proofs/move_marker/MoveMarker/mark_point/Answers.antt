@@ -14,6 +14,6 @@ returns-clause-sure c =
 pub returns-clause-possible : goal.returns-clause-possible
 returns-clause-possible c =
     let v = c.args.self.now in let mark = c.mark_point_uncounted.result in
-    let s = c.self.inside in let ready = subst (IsReadyMove s.scale s.turn.first s.turn.last s.turn.n.c s.limits) c.self.view_is c.self.invariant in
+    let s = c.self.inside in let ready = subst (IsReadyMove s.ready.now) c.self.view_is c.self.invariant in
     tells_possible_by mark v.cutter v.slabs v.motion c.args.point (2 ^ v.depth) (ready.both c.args.point)
     (subst (λ (w : MoveOf). mark ≡ mark_by w.cutter w.slabs w.motion c.args.point (2 ^ w.depth)) c.self.view_is c.mark_point_uncounted.ensures.value)

@@ -12,14 +12,14 @@ use Rattle.cutter_marks.specs.MarkBy.{is_possible_by, is_sure_by}
 use Rattle.axis_cells.specs.Exclusion.{squared}
 use Rattle.wanted_marks.specs.Limits.{IsNoWider, all_not_below_zero}
 use Rattle.wanted_marks.proofs.Widest.{all_within}
-use Rattle.wanted_marks.proofs.move_marker.MoveMarker.new.Goals as goal
+use Rattle.wanted_marks.proofs.ready_move.ReadyMove.new.Goals as goal
 
 some_cells : (depth : ℕ) → 0 < 2 ^ depth
 some_cells depth = let some : 2 ^ 0 ≤ 2 ^ depth = pow_mono {i = 0} {j = depth} (omega arith) in some
 
-pub invariant_of-result : goal.invariant_of-result
+pub returns : goal.returns
 unfolding is_possible_by is_sure_by
-invariant_of-result c =
+returns c =
     let valid = subst IsSweep c.sweep.view_is c.sweep.invariant in
     let m = c.args.sweep.now in let S = 2 ^ c.args.depth in
     let scale = c.cells_of-scale in let turn = c.of_sweep-turn in let widest = c.greatest_diameter-diameter.result in

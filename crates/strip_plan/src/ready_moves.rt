@@ -1,0 +1,29 @@
+ghost use Rattle.std.specs.Prelude.{◌≤◌, IfOk, length};
+ghost use Rattle.strip_plan.specs.Cutters.{HasStacks};
+ghost use Rattle.strip_plan.specs.ReadyMoves.{HasReadyMoves};
+
+use crate::cutters::Cutters;
+use crate::plan_move::PlanMove;
+use std::alloc::Global;
+use vf_io::NoMemory;
+use wanted_marks::ReadyMove;
+
+/// What is reckoned of each move for its marks, once for all strips that it enters. Fails only for want of memory.
+pub(crate) fn ready_moves_of(
+    alloc: Global,
+    depth: u32,
+    moves: &[PlanMove],
+    cutters: &Cutters,
+) -> Result<Vec<ReadyMove>, NoMemory>
+    requires shallow { depth ≤ 10 }
+    requires stacks { HasStacks cutters.now.slabs moves.now cutters.now.stacks.items cutters.now.places.items (length moves.now) }
+    ensures { IfOk result (λ made. HasReadyMoves cutters.now.slabs depth moves.now made.items (length moves.now)) }
+{
+    let mut ready = Vec::with_capacity(alloc, moves.len())?;
+    for n in 0..moves.len() {
+        let next = &moves[n];
+        let place = cutters.places[n];
+        ready.push(ReadyMove::new(&next.sweep, &cutters.stacks[place], depth))?;
+    }
+    Ok(ready)
+}
