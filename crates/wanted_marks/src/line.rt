@@ -38,8 +38,9 @@ pub fn quadratic(a: i128, b: i128, c: i128, l: u32) -> i128
     wrapped(a, l, wrapped(b, l, c))
 }
 
-/// The forms of the points of a line on a whole move, or between two samples of it. The width form 4 (d n - u^2) is kept as that of the first point, and as
-/// what l and l^2 are taken times in that of the point l steps on; u as that of the first point and what l is taken times.
+/// The forms of the points of a line on a whole move, or between two samples of it. The width form 4 (d n - u^2) is kept as that of the
+/// first point, and as what l and l^2 are taken times in that of the point l steps on; u as that of the first point and what l is taken
+/// times.
 #[derive(Drop)]
 pub struct Line {
     pub constant: Form4,

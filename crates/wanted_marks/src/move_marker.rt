@@ -165,9 +165,9 @@ impl<'a> MoveMarker<'a> {
         Some(StretchLine::through(&start, &next, self.sweep, stretch, self.ready.scale))
     }
 
-    /// What is asked of the point l steps on along a line, by the forms that the line has there on the stretch outside of which the point is
-    /// clear. `near` is the number of a slab to look from, in whose place comes that of the slab at the point's height, where it is looked
-    /// for.
+    /// What is asked of the point l steps on along a line, by the forms that the line has there on the stretch outside of which the point
+    /// is clear. `near` is the number of a slab to look from, in whose place comes that of the slab at the point's height, where it is
+    /// looked for.
     #[inline]
     pub(crate) fn mark_on_stretch(
         &self,
