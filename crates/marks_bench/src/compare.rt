@@ -76,7 +76,7 @@ fn compare_word(
 fn count_markers(case: &Case, stacks: &Stacks, plain: &Word, first: u32, tally: &mut Tally)
     requires within { first < points_of case.now.grid case.now.ray.family }
 {
-    let ready = ReadyMove::new(&case.sweep, stacks, case.depth);
+    let ready = ReadyMove::new(&case.sweep, stacks, case.depth, &case.grid);
     let mover = MoveMarker::of_ready(&case.sweep, stacks, case.depth, &ready);
     let by_ray = mover.on_ray(&case.grid, case.ray);
     count_words(&by_ray, &case.grid, &case.ray, plain, first, tally);

@@ -48,7 +48,7 @@ pub(crate) fn word_sets_of(
     let sure_only = patterned(alloc, bound, sure_only)?;
     let mut sure = Words::new(alloc, bound)?;
     let mut possible = Words::new(alloc, bound)?;
-    let ready = ReadyMove::new(&case.sweep, stacks, case.depth);
+    let ready = ReadyMove::new(&case.sweep, stacks, case.depth, &case.grid);
     let mover = MoveMarker::of_ready(&case.sweep, stacks, case.depth, &ready);
     let marker = mover.on_ray(&case.grid, case.ray);
     mark_wanted(&marker, &wanted, &sure_only, &mut sure, &mut possible);

@@ -72,7 +72,7 @@ fn rays_by_a_ball(rt: HostRuntime) -> Result<(), Fail> {
     };
     let grid = GRID;
     let stacks = Stacks::new(rt.alloc(), ball, 8)?;
-    let ready = ReadyMove::new(&sweep, &stacks, DEPTH);
+    let ready = ReadyMove::new(&sweep, &stacks, DEPTH, &grid);
     let mover = MoveMarker::of_ready(&sweep, &stacks, DEPTH, &ready);
     for (family, i, j, sure, possible) in WORDS {
         let ray = Ray { family, i, j };

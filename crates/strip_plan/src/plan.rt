@@ -87,7 +87,7 @@ impl Plan {
         let boxes = boxes_of(alloc, &grid, depth, &moves, &cutters)?;
         let groups = groups_of(alloc, &boxes.hulls, edits.as_slice())?;
         let cylinders = cylinders_of(alloc, &grid, &moves, &cutters)?;
-        let ready = ready_moves_of(alloc, depth, &moves, &cutters)?;
+        let ready = ready_moves_of(alloc, &grid, depth, &moves, &cutters)?;
         Ok(Plan {
             grid,
             depth,

@@ -4,6 +4,7 @@ ghost use Rattle.strip_plan.specs.ReadyMoves.{HasReadyMoves};
 
 use crate::cutters::Cutters;
 use crate::plan_move::PlanMove;
+use ray_grid::Grid;
 use std::alloc::Global;
 use vf_io::NoMemory;
 use wanted_marks::ReadyMove;
@@ -11,6 +12,7 @@ use wanted_marks::ReadyMove;
 /// What is reckoned of each move for its marks, once for all strips that it enters. Fails only for want of memory.
 pub(crate) fn ready_moves_of(
     alloc: Global,
+    grid: &Grid,
     depth: u32,
     moves: &[PlanMove],
     cutters: &Cutters,
@@ -23,7 +25,7 @@ pub(crate) fn ready_moves_of(
     for n in 0..moves.len() {
         let next = &moves[n];
         let place = cutters.places[n];
-        ready.push(ReadyMove::new(&next.sweep, &cutters.stacks[place], depth))?;
+        ready.push(ReadyMove::new(&next.sweep, &cutters.stacks[place], depth, grid))?;
     }
     Ok(ready)
 }

@@ -10,6 +10,7 @@ pub mod Bending
 pub mod Dropping
 pub mod Widest
 pub mod OnRays
+pub mod OnStrips
 pub mod Holding
 pub mod Amid
 pub mod Running

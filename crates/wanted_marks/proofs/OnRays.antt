@@ -18,6 +18,7 @@ use Rattle.axis_cells.proofs.Bounds.{between_fits, cross_bounded}
 use Rattle.ray_runs.specs.Moments.{moment, vector_sum}
 use Rattle.ray_runs.specs.Sizes.{part_limit, turn_limit}
 use Rattle.ray_runs.proofs.Fits.{minor_small, two_small}
+use Rattle.ray_grid.specs.Grids.{GridSize}
 use Rattle.ray_grid.specs.declared.ray.Family.{Family}
 use Rattle.ray_grid.specs.declared.ray.Family.TheVariants.{X, Y, Z}
 use Rattle.ray_grid.specs.Lattice.{node_at, place_at, point_at, point_of, points_of}
@@ -33,7 +34,8 @@ use Rattle.wanted_marks.specs.StretchLines.{IsStretchLineOf, IsThroughOn}
 use Rattle.wanted_marks.specs.Sheets.{FitsOn}
 use Rattle.wanted_marks.proofs.Bending.{bend_small}
 use Rattle.wanted_marks.proofs.Fitting.{spread_fits}
-use Rattle.wanted_marks.proofs.Stepping.{HasRay, forms_are, forms_between}
+use Rattle.wanted_marks.proofs.Stepping.{HasRay, forms_are, forms_between, same3}
+use Rattle.wanted_marks.specs.Widths.{whole_width}
 
 moves : (o s : ℤ) (l : ℕ) → o +ℤ (pos l *ℤ s) ≡ (o +ℤ (pos 0 *ℤ s)) +ℤ pos l *ℤ ((o +ℤ (pos 1 *ℤ s)) -ℤ (o +ℤ (pos 0 *ℤ s)))
 moves o s l =
@@ -57,6 +59,21 @@ pub across_rays : (r : RayOf) (f : Family) (i j : ℕ) → IsAlong (point_at r.g
 across_rays r X i j = record { x = stays (place_at r.grid 0 0) (place_at r.grid 0 0) (pos j); y = stays (node_at r.grid 1 i) (node_at r.grid 1 i) (pos j); z = moves (at r.grid.origin 2) r.grid.pitch j }
 across_rays r Y i j = record { x = stays (node_at r.grid 0 i) (node_at r.grid 0 i) (pos j); y = stays (place_at r.grid 1 0) (place_at r.grid 1 0) (pos j); z = moves (at r.grid.origin 2) r.grid.pitch j }
 across_rays r Z i j = record { x = stays (node_at r.grid 0 i) (node_at r.grid 0 i) (pos j); y = moves (at r.grid.origin 1) r.grid.pitch j; z = stays (place_at r.grid 2 0) (place_at r.grid 2 0) (pos j) }
+
+-- the first points of the strips of a family
+pub across_strips : (grid : GridSize) (f : Family) (i : ℕ) → IsAlong (point_at grid f 0 0 0) (point_at grid f 0 0 0) (point_at grid f 1 0 0) (point_at grid f i 0 0) (pos i)
+across_strips grid X i = record { x = stays (place_at grid 0 0) (place_at grid 0 0) (pos i); y = moves (at grid.origin 1) grid.pitch i; z = stays (node_at grid 2 0) (node_at grid 2 0) (pos i) }
+across_strips grid Y i = record { x = moves (at grid.origin 0) grid.pitch i; y = stays (place_at grid 1 0) (place_at grid 1 0) (pos i); z = stays (node_at grid 2 0) (node_at grid 2 0) (pos i) }
+across_strips grid Z i = record { x = moves (at grid.origin 0) grid.pitch i; y = stays (node_at grid 1 0) (node_at grid 1 0) (pos i); z = stays (place_at grid 2 0) (place_at grid 2 0) (pos i) }
+
+no_way : (s z x : ℤ) → s *ℤ z -ℤ s *ℤ z ≡ s *ℤ x -ℤ s *ℤ x
+no_way s z x = let S = var 0 in let Z = var 1 in let X = var 2 in ring (s ∷ z ∷ x ∷ []) (sub (mul S Z) (mul S Z)) (sub (mul S X) (mul S X)) refl
+
+-- on each strip of a family the way from its first point to another is the same
+pub same_way : (grid : GridSize) (f : Family) (i j l S : ℕ) → scaled_way (pos S) (point_at grid f 0 0 0) (point_at grid f 0 j l) ≡ scaled_way (pos S) (point_at grid f i 0 0) (point_at grid f i j l)
+same_way grid X i j l S = same3 _ _ _ _ _ _ refl (no_way (pos S) (node_at grid 1 0) (node_at grid 1 i)) refl
+same_way grid Y i j l S = same3 _ _ _ _ _ _ (no_way (pos S) (node_at grid 0 0) (node_at grid 0 i)) refl refl
+same_way grid Z i j l S = same3 _ _ _ _ _ _ (no_way (pos S) (node_at grid 0 0) (node_at grid 0 i)) refl refl
 
 part_between : (x w : ℤ) (l n : ℕ) → l ≤ n → unsigned_abs x ≤ metre → unsigned_abs (x +ℤ pos n *ℤ w) ≤ metre → unsigned_abs (x +ℤ pos l *ℤ w) ≤ metre
 part_between x (pos a) l n h first last =

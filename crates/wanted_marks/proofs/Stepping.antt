@@ -10,11 +10,12 @@ use Rattle.bern_form.specs.Cells.{dot_on_cell}
 use Rattle.bern_form.specs.Forms.{scaled4}
 use Rattle.ray_runs.specs.Moments.{middle_moment, moment, moment_product, vector_product, vector_sum}
 use Rattle.ray_runs.proofs.Lagrange.{lagrange_at, less_squares}
+use Rattle.wanted_marks.specs.declared.family_sheet.FamilySheet.{FamilySheet}
 use Rattle.wanted_marks.specs.declared.line.Line.{Line}
 use Rattle.ray_runs.specs.declared.moments.Moments.{Moments}
 use Rattle.wanted_marks.specs.declared.sheet.Sheet.{Sheet}
 use Rattle.wanted_marks.specs.Lines.{HasForms, HasFormsBetween, IsLineFrom, IsThrough, IsThroughBetween, d_step, u_step}
-use Rattle.wanted_marks.specs.Sheets.{AreMoments, IsLineOn, IsSheet, end_at, first_at, middle_at, own_product, start_at}
+use Rattle.wanted_marks.specs.Sheets.{AreMoments, AreSheets, IsLineOn, IsSheet, IsSheetOn, end_at, first_at, middle_at, own_product, start_at}
 use Rattle.wanted_marks.specs.Ways.{IsAlong, scaled_vector, scaled_way}
 use Rattle.wanted_marks.specs.Widths.{IsTurn, moved3, moved5, quadratics, spread_form, whole_width}
 
@@ -279,4 +280,17 @@ line_is line sheet m start v t o S j is ray on = record {
   second_is = on.second_is ∙ is.second_is;
   height_is = on.height_is ∙ ray.height;
   height_step_is = on.height_step_is ∙ is.height_step_is;
+}
+
+-- sheet i of a family, which begins at the point o
+pub sheet_is : (sheet : Sheet) (sheets : FamilySheet) (m : Motion) (start v t e o : List ℤ) (S : ℕ) (i : ℤ) → AreSheets sheets m start v t e S → HasRay sheets.first_rays m o v S i → IsSheetOn sheet sheets i → IsSheet sheet m o v t S
+sheet_is sheet sheets m start v t e o S i are ray on = record {
+  start = record { start_is = on.start_is ∙ ray.start; middle_is = on.middle_is ∙ ray.middle; end_is = on.end_is ∙ ray.end };
+  side = record { start_is = on.side_start_is ∙ are.side.start_is; middle_is = on.side_middle_is ∙ are.side.middle_is; end_is = on.side_end_is ∙ are.side.end_is };
+  first_is = on.first_is ∙ ray.first;
+  first_side_is = on.first_side_is ∙ are.first_side_is;
+  second_is = on.second_is ∙ are.first_rays.second_is;
+  height_is = on.height_is ∙ ray.height;
+  height_step_is = on.height_step_is ∙ are.first_rays.height_step_is;
+  height_side_is = on.height_side_is ∙ are.height_side_is;
 }

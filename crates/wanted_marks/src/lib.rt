@@ -1,6 +1,8 @@
 //! The marks of a ray's wanted points, a word of 64 at a time.
 #![tactic(auto)]
 
+mod families;
+mod family_sheet;
 mod held;
 mod hull;
 mod limits;

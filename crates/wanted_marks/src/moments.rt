@@ -61,6 +61,20 @@ pub fn moved(x: &Moments, side: &Moments, j: u32) -> Moments
     }
 }
 
+/// A moment once more.
+#[inline]
+pub fn copied(x: &Moments) -> Moments
+    ensures start { result.start ≡ x.now.start }
+    ensures middle { result.middle ≡ x.now.middle }
+    ensures end { result.end ≡ x.now.end }
+{
+    Moments {
+        start: x.start,
+        middle: x.middle,
+        end: x.end,
+    }
+}
+
 /// Eight times a coefficient of degree 4.
 #[inline]
 fn eight(x: i128) -> i128

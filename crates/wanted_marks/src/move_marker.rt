@@ -1,3 +1,4 @@
+use crate::family_sheet::FamilySheet;
 use crate::held::Held;
 use crate::hull::{are_behind, are_beside};
 use crate::limits::diameter_of;
@@ -45,6 +46,7 @@ impl<'a> MoveMarker<'a> {
     ghost use Rattle.ray_grid.specs.Lattice.{IsRay, nodes_of, point_of, points_of};
     ghost use Rattle.bern_form.specs.Forms.{IsSmall};
     ghost use Rattle.space.specs.Vectors.{at};
+    ghost use Rattle.wanted_marks.specs.FamilySheets.{IsFamilySheet};
     ghost use Rattle.wanted_marks.specs.Lasts.{IsAtLast, IsLastOf};
     ghost use Rattle.wanted_marks.specs.Lines.{FitsAt, HasFormsIn, IsLineOf, bend_over, height_at, width_at};
     ghost use Rattle.wanted_marks.specs.Nears.{IsNear};
@@ -262,7 +264,7 @@ impl<'a> MoveMarker<'a> {
     }
 
     /// The sheet through the points of a strip, where it has two rays of two points or more.
-    pub(crate) fn sheet_of(&self, grid: &Grid, family: Family, i: u32) -> Option<Sheet>
+    fn sheet_of(&self, grid: &Grid, family: Family, i: u32) -> Option<Sheet>
         ensures { IfSome result (λ sheet. IsSheetOf sheet record { sweep = self.now; grid = grid.now; family = family; i = i }) }
     {
         let first = Ray { family, i, j: 0 };
@@ -284,6 +286,30 @@ impl<'a> MoveMarker<'a> {
             &self.ready.turn,
             self.ready.scale,
         ))
+    }
+
+    /// The sheet through the points of a strip, from those of the strips of its family.
+    fn sheet_on(&self, sheets: &FamilySheet, grid: &Grid, family: Family, i: u32) -> Sheet
+        requires strip { i < nodes_of grid.now (first_axis family) }
+        requires sheets { IsFamilySheet sheets.now self.now.motion grid.now family (2 ^ self.now.depth) }
+        ensures { IsSheetOf result record { sweep = self.now; grid = grid.now; family = family; i = i } }
+    {
+        // The first point of the strip lies within a metre; a move is valid by its type.
+        let _first = grid.point(&Ray { family, i, j: 0 }, 0);
+        let _valid = &self.depth;
+        sheets.strip(i)
+    }
+
+    /// The sheet through the points of a strip, where it has two rays of two points or more: from those of its family where they were
+    /// made, and else by its own points.
+    pub(crate) fn strip_sheet(&self, grid: &Grid, family: Family, i: u32) -> Option<Sheet>
+        requires { i < nodes_of grid.now (first_axis family) }
+        ensures { IfSome result (λ sheet. IsSheetOf sheet record { sweep = self.now; grid = grid.now; family = family; i = i }) }
+    {
+        match self.ready.families.sheets(grid, family) {
+            Some(sheets) => Some(self.sheet_on(sheets, grid, family, i)),
+            None => self.sheet_of(grid, family, i),
+        }
     }
 
     /// The line through the points of a ray, where it has two or more, from the sheet of its strip.

@@ -2,25 +2,30 @@ ghost use Rattle.std.specs.Prelude.{◌≤◌};
 ghost use Rattle.wanted_marks.specs.Rays.{move_of};
 ghost use Rattle.wanted_marks.specs.Ready.{IsReadyMove};
 
+use crate::families::Families;
 use crate::limits::{greatest_diameter, limits_of};
 use crate::long::is_long;
 use crate::turn::Turn;
 use axis_cells::{Sweep, cells_of};
 use cutter_slabs::Stacks;
+use ray_grid::Grid;
 
 /// What is reckoned of a move once, and is the same for all points that it marks: how the axis turns, the limits beyond which a point
-/// is beside every outer slab throughout the move, and whether it is long. It takes some 300 bytes.
+/// is beside every outer slab throughout the move, whether it is long, and the sheets of the strips of a grid. A move takes some 2,250
+/// bytes for it, of which the sheets of the three families are 2,000.
 #[derive(Drop)]
 pub struct ReadyMove {
     pub(crate) scale: u32,
     pub(crate) turn: Turn,
     pub(crate) limits: [i128; 5],
     pub(crate) is_long: bool,
+    pub(crate) families: Families,
 }
 
 impl ReadyMove {
-    /// Of a motion and the stacks of a cutter, for marks at the samples and on the cells of a depth.
-    pub fn new(sweep: &Sweep, stacks: &Stacks, depth: u32) -> ReadyMove
+    /// Of a motion and the stacks of a cutter, for marks at the samples and on the cells of a depth. The strips of the grid are marked
+    /// faster by it than those of another.
+    pub fn new(sweep: &Sweep, stacks: &Stacks, depth: u32, grid: &Grid) -> ReadyMove
         requires { depth ≤ 10 }
         ensures { IsReadyMove result (move_of stacks.now sweep.now depth) }
     {
@@ -31,11 +36,13 @@ impl ReadyMove {
         let turn = Turn::of_sweep(sweep, scale);
         let diameter = greatest_diameter(stacks.outer());
         let limits = limits_of(&turn.n, scale, diameter);
+        let families = Families::of_grid(grid, sweep, &turn, scale);
         ReadyMove {
             scale,
             turn,
             limits,
             is_long: is_long(sweep, diameter),
+            families,
         }
     }
 }

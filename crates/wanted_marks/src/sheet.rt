@@ -24,7 +24,7 @@ fn linear(a: i128, b: i128, l: u32) -> i128
 }
 
 /// a + b l, coefficient by coefficient of degree 4.
-fn moved4(a: &Form4, b: &Form4, l: u32) -> Form4
+pub fn moved4(a: &Form4, b: &Form4, l: u32) -> Form4
     requires { All IsSmall (moved5 a.now.c b.now.c (pos l)) }
     ensures { result.c ≡ moved5 a.now.c b.now.c (pos l) }
 {

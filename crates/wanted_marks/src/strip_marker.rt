@@ -39,7 +39,7 @@ impl<'a> StripMarker<'a> {
         requires { i < nodes_of grid.now (first_axis family) }
         ensures { result ≡ record { sweep = mover.now; grid = grid.now; family = family; i = i } }
     {
-        let sheet = mover.sheet_of(grid, family, i);
+        let sheet = mover.strip_sheet(grid, family, i);
         StripMarker {
             mover,
             grid,

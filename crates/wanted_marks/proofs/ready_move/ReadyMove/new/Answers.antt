@@ -39,4 +39,5 @@ returns c =
       turn = turn.ensures;
       limits_are = all_within S widest (n_between m 0 S S) c.limits_of-limits.result _ limits (subst (λ (l : List SlabSize). All (IsNoWider widest) l) c.outer.ensures.stack c.greatest_diameter-diameter.ensures.greatest);
       limits_small = c.limits_of-limits.ensures.small;
+      families = c.of_grid-families.ensures;
     }
