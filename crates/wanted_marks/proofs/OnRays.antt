@@ -35,7 +35,6 @@ use Rattle.wanted_marks.specs.Sheets.{FitsOn}
 use Rattle.wanted_marks.proofs.Bending.{bend_small}
 use Rattle.wanted_marks.proofs.Fitting.{spread_fits}
 use Rattle.wanted_marks.proofs.Stepping.{HasRay, forms_are, forms_between, same3}
-use Rattle.wanted_marks.specs.Widths.{whole_width}
 
 moves : (o s : ℤ) (l : ℕ) → o +ℤ (pos l *ℤ s) ≡ (o +ℤ (pos 0 *ℤ s)) +ℤ pos l *ℤ ((o +ℤ (pos 1 *ℤ s)) -ℤ (o +ℤ (pos 0 *ℤ s)))
 moves o s l =
