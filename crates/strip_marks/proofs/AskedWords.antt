@@ -7,8 +7,8 @@ use Rattle.vf_spans.specs.Words.{has_bit}
 use Rattle.ray_grid.specs.Lattice.{points_of}
 use Rattle.near_points.specs.Rays.{AreOnRay, IsHeldBit, IsKeptBit, NearRayOf}
 use Rattle.dexel_rays.specs.Sets.{Sets}
-use Rattle.ray_words.specs.Rays.{is_wanted_at}
-use Rattle.strip_marks.specs.RayMarks.{AreAskedIn, HasNoneAsked}
+use Rattle.ray_words.specs.Rays.{HasAllWanted, is_wanted_at}
+use Rattle.strip_marks.specs.RayMarks.{AreAskedIn, HasNoneAsked, IsAskedAt, IsUnasked}
 use Rattle.strip_marks.proofs.AtWords.{AreWantedIn, in_range_below, none_asked}
 
 -- they are points of the ray
@@ -41,3 +41,13 @@ none_asked_next near d window n asked ahead inside is zero = record {
       ⊎_elim (λ (before : l < 64 * n). ahead.none l before) (λ (here : 64 * n ≤ l). none_asked near d window n asked is zero l here lt)
       (cases_lt l (64 * n));
 }
+
+-- a range that has each wanted index of a window has each that the move has to be asked about
+asked_left : (near : NearRayOf) (d : Sets) (window left : ℕ × ℕ) (l : ℕ) → HasAllWanted d window left → IsAskedAt near d window l
+    → IsAskedAt near d left l
+asked_left near d window left l has at = record { wanted = at.wanted; in_window = has.all l at.in_window at.wanted; kept = at.kept }
+
+-- where the move has to be asked about none of it, it has to be asked about none of the window
+pub unasked_left : (near : NearRayOf) (d : Sets) (window left : ℕ × ℕ) → HasAllWanted d window left → IsUnasked near d left
+    → IsUnasked near d window
+unasked_left near d window left has none l at = none l (asked_left near d window left l has at)

@@ -15,8 +15,9 @@ use near_points::NearStrip;
 use ray_words::WordRay;
 use strip_plan::Plan;
 
-/// The first word of ray n of a strip with points of the window that a move is asked about, if it is asked about one at all. A word
-/// with no wanted point isn't held against the cylinder.
+/// The first word of ray n of a strip with points of the window that a move is asked about, if it is asked about one at all. What is
+/// settled at either end of the window isn't looked at, nor is any word where the cylinder is beside all that is left; and a word with no
+/// wanted point isn't held against the cylinder.
 #[inline]
 fn asked_on(near: &NearStrip<'_>, ray: &WordRay, n: u32, window: (u32, u32)) -> Option<AskedWord>
     requires n { n < nodes_of near.now.grid (second_axis near.now.family) }
@@ -25,10 +26,14 @@ fn asked_on(near: &NearStrip<'_>, ray: &WordRay, n: u32, window: (u32, u32)) -> 
     ensures none { IfNone result (IsUnasked (near_ray_at near.now n) ray.now.sets window) }
     ensures some { IfSome result (IsFirstAsked (near_ray_at near.now n) ray.now.sets window) }
 {
-    let end = u64::from(window.1);
-    let mut word = window.0 / 64;
+    let left = ray.unsettled(window);
+    if left.1 <= left.0 || !near.may_hold(n, left) {
+        return None;
+    }
+    let end = u64::from(left.1);
+    let mut word = left.0 / 64;
     while 64 * u64::from(word) < end {
-        let points = asked_in(near, ray, n, word, window);
+        let points = asked_in(near, ray, n, word, left);
         if points != 0 {
             return Some(AskedWord { word, points });
         }
