@@ -10,6 +10,7 @@ ghost use Rattle.strip_journal.specs.Steps.{CanStand, FitsEntry, HasRoom, HasSam
 use crate::entry::{Entry, Hits};
 use crate::journal::Journal;
 use crate::rays::turn_all;
+use std::mem;
 use strip_marks::{Marked, mark_strip};
 use strip_plan::Plan;
 use vf_io::NoMemory;
@@ -81,6 +82,7 @@ impl Journal {
             possible: possible + counts.possible as u32,
         };
         let _noted = self.entries.push(entry);
+        self.room = changes;
     }
 
     /// Takes over what a move changes or finds, if it does, and adds its edit to those that are left. What may fail comes first.
@@ -95,6 +97,7 @@ impl Journal {
         ensures rays { OnErr result (self.new.rays.items ≡ self.old.rays.items) }
     {
         if does_nothing(&marked) {
+            self.room = marked.changes;
             return self.stand();
         }
         self.make_room(marked.changes.len())?;
@@ -114,13 +117,8 @@ impl Journal {
         ensures marked { IfOk result (λ m. (move : JobMove) → HasNumber plan.now number move
             → IsMarkedStrip plan.now move self.old.number self.old.rays.items self.new.rays.items m.changes.items m.counts) }
     {
-        mark_strip(
-            self.alloc,
-            self.rays.as_mut_slice(),
-            plan,
-            number,
-            self.number,
-        )
+        let room = mem::replace(&mut self.room, Vec::new(self.alloc));
+        mark_strip(room, self.rays.as_mut_slice(), plan, number, self.number)
     }
 
     /// Applies a move of the plan. Most moves leave a strip alone: then nothing is marked.

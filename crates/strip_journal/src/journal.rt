@@ -30,4 +30,6 @@ pub struct Journal {
     pub changes: Vec<WordChange>,
     /// The edits that had an effect here, in order.
     pub entries: Vec<Entry>,
+    /// An empty list, whose memory serves the changes of the next move that is marked.
+    pub room: Vec<WordChange>,
 }

@@ -91,6 +91,7 @@ impl Strip {
             rays,
             changes: Vec::new(alloc),
             entries: Vec::new(alloc),
+            room: Vec::new(alloc),
         };
         Ok(Strip { journal })
     }

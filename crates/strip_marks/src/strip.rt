@@ -11,13 +11,13 @@ ghost use Rattle.strip_marks.specs.RowMarks.{AreRaysMarked, AreSetsAt, IsAskedRa
 
 use crate::asked::asked_at;
 use crate::asked_word::AskedRay;
+use crate::change::WordChange;
 use crate::marked::Marked;
 use crate::ray::mark_ray;
 use crate::shared::{Shared, shared_by};
 use job_facts::Counts;
 use near_points::NearStrip;
 use ray_words::WordRay;
-use std::alloc::Global;
 use strip_plan::Plan;
 use vf_io::NoMemory;
 use wanted_marks::StripMarker;
@@ -107,9 +107,10 @@ fn first_ray<'x>(
 
 /// What the move changes on the rays of the strip from the one number on and below the other, and what it finds there. A move
 /// enters few strips, so this stands apart from `mark_strip`; and of those that it enters a third has no point that it is asked about.
+/// The changes go into the list that is given.
 #[inline(never)]
 fn mark_rays(
-    alloc: Global,
+    room: Vec<WordChange>,
     rays: &mut [WordRay],
     plan: &Plan,
     number: u32,
@@ -122,6 +123,7 @@ fn mark_rays(
     requires rays { AreRays plan.now.grid strip rays.old }
     requires some { window.0 < window.1 }
     requires within { window.1 ≤ length rays.old }
+    requires room { room.items ≡ [] }
     ensures same { HaveSameSets rays.old rays.new }
     ensures marked { IfOk result (λ m. (move : JobMove) → HasNumber plan.now number move
         → AreRaysMarked plan.now move strip rays.old rays.new window.0 window.1 m.changes.items m.counts) }
@@ -131,7 +133,7 @@ fn mark_rays(
     let shared = shared_by(plan, number, first.family);
     let near = NearStrip::new(plan.cylinder(number), grid, first.family, first.i);
     let mut marked = Marked {
-        changes: Vec::new(alloc),
+        changes: room,
         counts: Counts::none(),
     };
     let (from, asked) = match first_ray(&near, rays, plan, number, strip, shared, window) {
@@ -160,9 +162,10 @@ fn mark_rays(
 }
 
 /// What a move of the plan changes on a strip, by the sets of the strip's rays, and what it finds there. Only the points of the
-/// move's windows are looked at. The sets stay; the words where something changes are kept from then on.
+/// move's windows are looked at. The sets stay; the words where something changes are kept from then on. A list that is done with gives
+/// its memory for the changes.
 pub fn mark_strip(
-    alloc: Global,
+    mut room: Vec<WordChange>,
     rays: &mut [WordRay],
     plan: &Plan,
     number: u32,
@@ -178,12 +181,13 @@ pub fn mark_strip(
     // A plan is valid by its type.
     let _valid = plan.moves();
     let window = plan.strip_window(number, strip);
+    room.clear();
     if window.0 == window.1 {
         return Ok(Marked {
-            changes: Vec::new(alloc),
+            changes: room,
             counts: Counts::none(),
         });
     }
-    let marked = mark_rays(alloc, rays, plan, number, strip, window)?;
+    let marked = mark_rays(room, rays, plan, number, strip, window)?;
     Ok(marked)
 }

@@ -106,7 +106,7 @@ first_ray-requires-clause-near c =
 pub returns-in-None-clause-marked : goal.returns-in-None-clause-marked
 returns-in-None-clause-marked c = λ move has.
     let a = c.args in
-    nothing_yet a.plan.now move a.strip a.window.0 a.window.1 a.rays.now c.new.result.items c.none.result c.new.ensures.items c.none.ensures
+    nothing_yet a.plan.now move a.strip a.window.0 a.window.1 a.rays.now c.args.room.items c.none.result c.requires.room c.none.ensures
     (c.in-None.ensures.none move has)
 
 pub loop-n-init : goal.loop-n-init
@@ -123,7 +123,7 @@ loop-n-init c =
           within_more 0 ((from - a.window.0) * 4294967295) c.none.result (omega arith)
           (subst (λ (n : Counts). AreWithin 0 n) (sym c.none.ensures) none_within);
       marked = λ move has.
-          nothing_yet a.plan.now move a.strip a.window.0 from a.rays.now c.new.result.items c.none.result c.new.ensures.items c.none.ensures
+          nothing_yet a.plan.now move a.strip a.window.0 from a.rays.now c.args.room.items c.none.result c.requires.room c.none.ensures
           (found.nothing move has);
     }
 

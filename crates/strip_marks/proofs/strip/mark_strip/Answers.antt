@@ -6,9 +6,9 @@ pub returns-then-window-clause-marked : goal.returns-then-window-clause-marked
 returns-then-window-clause-marked c = λ move has.
     let a = c.args in
     let w = c.strip_window-window in
-    unentered_strip a.plan.now a.number move a.strip w.result.0 w.result.1 a.rays.now c.new.result.items c.none.result
+    unentered_strip a.plan.now a.number move a.strip w.result.0 w.result.1 a.rays.now c.clear.new.self.items c.none.result
     c.moves-valid.ensures.valid has c.requires.strip c.requires.rays c.if-window.true
-    (omega (arith, w.ensures.within, c.requires.rays.many)) (w.ensures.holds move has) c.new.ensures.items c.none.ensures
+    (omega (arith, w.ensures.within, c.requires.rays.many)) (w.ensures.holds move has) c.clear.ensures.items c.none.ensures
 
 pub returns-clause-marked : goal.returns-clause-marked
 returns-clause-marked c = λ move has.
