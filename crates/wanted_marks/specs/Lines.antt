@@ -65,16 +65,19 @@ d_step m s v S = dot_on_cell (offset_at m s (pos 0) (pos S)) (offset_at m s (pos
 
 -- The line goes on by the step v from a point whose offsets from the tip at two samples are p and q; a and c are the axes there.
 pub record IsLineFrom (line : Line) (p q v a c : List ℤ) : Type 0 where
-  pub constant_is : line.constant.c ≡ spread_form (pos 4) (dot_on_cell p q p q) (dot_on_cell a c a c) (dot_on_cell p q a c) (dot_on_cell p q a c)
+  pub constant_is : line.constant.c
+      ≡ spread_form (pos 4) (dot_on_cell p q p q) (dot_on_cell a c a c) (dot_on_cell p q a c) (dot_on_cell p q a c)
   pub first_is : line.first.c ≡ spread_form (pos 8) (dot_on_cell p q v v) (dot_on_cell a c a c) (dot_on_cell p q a c) (dot_on_cell v v a c)
-  pub second_is : line.second.c ≡ spread_form (pos 4) (dot_on_cell v v v v) (dot_on_cell a c a c) (dot_on_cell v v a c) (dot_on_cell v v a c)
+  pub second_is : line.second.c
+      ≡ spread_form (pos 4) (dot_on_cell v v v v) (dot_on_cell a c a c) (dot_on_cell v v a c) (dot_on_cell v v a c)
   pub height_is : line.height ≡ dot_on_cell p q a c
   pub height_step_is : line.height_step ≡ dot_on_cell v v a c
 
 -- between the samples j and k of S it begins at the point s
 abbrev pub IsThroughBetween : Line → Motion → List ℤ → List ℤ → ℕ → ℕ → ℕ → Type 0
 IsThroughBetween line m s v j k S =
-    IsLineFrom line (offset_at m s (pos j) (pos S)) (offset_at m s (pos k) (pos S)) v (axis_at m (pos j) (pos S)) (axis_at m (pos k) (pos S))
+    IsLineFrom line (offset_at m s (pos j) (pos S)) (offset_at m s (pos k) (pos S)) v
+    (axis_at m (pos j) (pos S)) (axis_at m (pos k) (pos S))
 
 -- on the whole move
 abbrev pub IsThrough : Line → Motion → List ℤ → List ℤ → ℕ → Type 0
