@@ -51,17 +51,17 @@ fn passed_along(from: &[i32; 3], to: &[i32; 3], i: usize) -> i32
     }
 }
 
-/// How often a way is halved until it is at most a width, and at most `most` times.
+/// How often a way is halved until it is at most half of a width, and at most `most` times.
 fn halvings(way: i32, width: i32, most: u32) -> u32
     ensures { result ≤ most }
 {
-    if most == 0 || way <= width {
+    if most == 0 || way <= width / 2 {
         return 0;
     }
     halvings(way / 2, width, most - 1) + 1
 }
 
-/// How often the time of a move is halved, so that on a part the tip passes at most the cutter's width along each axis. Any
+/// How often the time of a move is halved, so that on a part the tip passes at most half of the cutter's width along each axis. Any
 /// number that the depth allows is right; it only tells how closely the boxes lie about the cutter.
 fn level_of(sweep: &Sweep, size: &Size, depth: u32) -> u32
     ensures deep { result ≤ depth }
