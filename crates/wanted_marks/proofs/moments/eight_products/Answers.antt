@@ -1,4 +1,4 @@
-use Rattle.std.proofs.Common.{◌≡◌, ℤ, pos, ◌*ℤ◌, FitsSigned, rules, to_z, of_z, ap, ◌∙◌}
+use Rattle.std.proofs.Common.{◌≡◌, ℤ, pos, ◌*ℤ◌, FitsSigned, to_z, of_z, ap, ◌∙◌}
 use Rattle.std.proofs.lemmas.Int.{to_z-of_z}
 use mir.Syntax.{w128}
 use Rattle.ray_runs.proofs.StretchTests.{five_same}
@@ -9,10 +9,10 @@ eight_is x y z hx hy e is = to_z-of_z w128 x hx ∙ is ∙ ap (λ t. pos 8 *ℤ 
 
 pub returns : goal.returns
 returns c =
-    let f0 : FitsSigned w128 c.eight.result = search rules in let f1 : FitsSigned w128 c.eight-2.result = search rules in let f2 : FitsSigned w128 c.eight-3.result = search rules in
-    let f3 : FitsSigned w128 c.eight-4.result = search rules in let f4 : FitsSigned w128 c.eight-5.result = search rules in
-    let t0 : FitsSigned w128 c.times.result = search rules in let t1 : FitsSigned w128 c.times-2.result = search rules in let t2 : FitsSigned w128 c.times-3.result = search rules in
-    let t3 : FitsSigned w128 c.times-4.result = search rules in let t4 : FitsSigned w128 c.times-5.result = search rules in
+    let f0 : FitsSigned w128 c.eight.result = record { sfits = c.eight.type_inv } in let f1 : FitsSigned w128 c.eight-2.result = record { sfits = c.eight-2.type_inv } in let f2 : FitsSigned w128 c.eight-3.result = record { sfits = c.eight-3.type_inv } in
+    let f3 : FitsSigned w128 c.eight-4.result = record { sfits = c.eight-4.type_inv } in let f4 : FitsSigned w128 c.eight-5.result = record { sfits = c.eight-5.type_inv } in
+    let t0 : FitsSigned w128 c.times.result = record { sfits = c.times.type_inv } in let t1 : FitsSigned w128 c.times-2.result = record { sfits = c.times-2.type_inv } in let t2 : FitsSigned w128 c.times-3.result = record { sfits = c.times-3.type_inv } in
+    let t3 : FitsSigned w128 c.times-4.result = record { sfits = c.times-4.type_inv } in let t4 : FitsSigned w128 c.times-5.result = record { sfits = c.times-5.type_inv } in
     five_same _ _ _ _ _ _ _ _ _ _ (eight_is c.eight.result c.times.result _ f0 t0 c.times.ensures.value c.eight.ensures) (eight_is c.eight-2.result c.times-2.result _ f1 t1 c.times-2.ensures.value c.eight-2.ensures)
     (eight_is c.eight-3.result c.times-3.result _ f2 t2 c.times-3.ensures.value c.eight-3.ensures) (eight_is c.eight-4.result c.times-4.result _ f3 t3 c.times-4.ensures.value c.eight-4.ensures)
     (eight_is c.eight-5.result c.times-5.result _ f4 t4 c.times-5.ensures.value c.eight-5.ensures)

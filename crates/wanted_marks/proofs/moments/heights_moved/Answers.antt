@@ -30,7 +30,7 @@ returns c =
     let b1 : FitsSigned w64 (at c.args.b.now 1) = search rules in
     let a2 : FitsSigned w64 (at c.args.a.now 2) = search rules in
     let b2 : FitsSigned w64 (at c.args.b.now 2) = search rules in
-    let f0 : FitsSigned w64 c.linear.result = search rules in
-    let f1 : FitsSigned w64 c.linear-2.result = search rules in
-    let f2 : FitsSigned w64 c.linear-3.result = search rules in
+    let f0 : FitsSigned w64 c.linear.result = record { sfits = c.linear.type_inv } in
+    let f1 : FitsSigned w64 c.linear-2.result = record { sfits = c.linear-2.type_inv } in
+    let f2 : FitsSigned w64 c.linear-3.result = record { sfits = c.linear-3.type_inv } in
     simp to_z-of_z (simp (c.linear.ensures, c.linear-2.ensures, c.linear-3.ensures) (simp to_z-of_z refl))

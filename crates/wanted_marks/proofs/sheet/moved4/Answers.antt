@@ -36,11 +36,11 @@ linear-requires-5 c =
 
 pub returns : goal.returns
 returns c =
-    let f0 : FitsSigned w128 c.linear.result = search rules in
-    let f1 : FitsSigned w128 c.linear-2.result = search rules in
-    let f2 : FitsSigned w128 c.linear-3.result = search rules in
-    let f3 : FitsSigned w128 c.linear-4.result = search rules in
-    let f4 : FitsSigned w128 c.linear-5.result = search rules in
+    let f0 : FitsSigned w128 c.linear.result = record { sfits = c.linear.type_inv } in
+    let f1 : FitsSigned w128 c.linear-2.result = record { sfits = c.linear-2.type_inv } in
+    let f2 : FitsSigned w128 c.linear-3.result = record { sfits = c.linear-3.type_inv } in
+    let f3 : FitsSigned w128 c.linear-4.result = record { sfits = c.linear-4.type_inv } in
+    let f4 : FitsSigned w128 c.linear-5.result = record { sfits = c.linear-5.type_inv } in
     let a = back5 w128 c.args.a.now.c (omega arith) (search rules) (search rules) (search rules) (search rules) (search rules) in
     let b = back5 w128 c.args.b.now.c (omega arith) (search rules) (search rules) (search rules) (search rules) (search rules) in
     simp to_z-of_z (simp (c.linear.ensures, c.linear-2.ensures, c.linear-3.ensures, c.linear-4.ensures, c.linear-5.ensures, a, b) refl)

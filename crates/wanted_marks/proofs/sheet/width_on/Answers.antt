@@ -41,11 +41,11 @@ quadratic-requires-5 c =
 
 pub returns : goal.returns
 returns c =
-    let f0 : FitsSigned w128 c.quadratic.result = search rules in
-    let f1 : FitsSigned w128 c.quadratic-2.result = search rules in
-    let f2 : FitsSigned w128 c.quadratic-3.result = search rules in
-    let f3 : FitsSigned w128 c.quadratic-4.result = search rules in
-    let f4 : FitsSigned w128 c.quadratic-5.result = search rules in
+    let f0 : FitsSigned w128 c.quadratic.result = record { sfits = c.quadratic.type_inv } in
+    let f1 : FitsSigned w128 c.quadratic-2.result = record { sfits = c.quadratic-2.type_inv } in
+    let f2 : FitsSigned w128 c.quadratic-3.result = record { sfits = c.quadratic-3.type_inv } in
+    let f3 : FitsSigned w128 c.quadratic-4.result = record { sfits = c.quadratic-4.type_inv } in
+    let f4 : FitsSigned w128 c.quadratic-5.result = record { sfits = c.quadratic-5.type_inv } in
     let a = back5 w128 c.args.line.now.constant.c (omega arith) (search rules) (search rules) (search rules) (search rules) (search rules) in
     let b = back5 w128 c.args.line.now.first.c (omega arith) (search rules) (search rules) (search rules) (search rules) (search rules) in
     let d = back5 w128 c.args.line.now.second.c (omega arith) (search rules) (search rules) (search rules) (search rules) (search rules) in

@@ -1,0 +1,62 @@
+-- Small numbers as code has them: read again from their bits, and their sums and differences.
+use Rattle.std.proofs.Common.{◌≡◌, ◌∙◌, ap₂, sym, subst, to_z, of_z, ℕ, ◌*◌, ◌^◌, ◌<◌, ◌≤◌, ℤ, ◌+ℤ◌, ◌*ℤ◌, ◌-ℤ◌, FitsSigned, arith}
+use Rattle.std.proofs.lemmas.Int.{fits_signed_from_abs, to_z-of_z}
+use Rattle.std.proofs.Math.Nat.{mul-le-mul}
+use mir.Syntax.{w32, w128}
+use mir.Val.{Fits}
+use Rattle.space.proofs.Naturals.{abs_add, abs_sub}
+use Rattle.bern_form.specs.Forms.{IsSmall}
+
+-- a square of few
+few_squared : (h : ℕ) → h < 64 → h * h < 2 ^ 32
+few_squared h few =
+    let l : h ≤ 63 = omega (arith, few) in let k : h * h ≤ 63 * 63 = mul-le-mul l l in omega (arith, k)
+
+pub square_fits : (h : ℕ) → h < 64 → Fits w32 (h * h)
+square_fits h few = record { fits = few_squared h few }
+
+pub fits_small : (z : ℤ) → IsSmall z → FitsSigned w128 z
+fits_small z h = fits_signed_from_abs w128 z (omega (arith, h))
+
+pub small_back : (z : ℤ) → IsSmall z → to_z w128 (of_z w128 z) ≡ z
+small_back z h = to_z-of_z w128 z (fits_small z h)
+
+-- a product that is small, of numbers that fit
+pub product_back : (x y : ℤ) → FitsSigned w128 x → FitsSigned w128 y → to_z w128 (of_z w128 x) *ℤ to_z w128 (of_z w128 y) ≡ x *ℤ y
+product_back x y f g = ap₂ (λ a b. a *ℤ b) (to_z-of_z w128 x f) (to_z-of_z w128 y g)
+
+pub product_fits : (x y : ℤ) → FitsSigned w128 x → FitsSigned w128 y → IsSmall (x *ℤ y) → FitsSigned w128 (to_z w128 (of_z w128 x) *ℤ to_z w128 (of_z w128 y))
+product_fits x y f g h = subst (FitsSigned w128) (sym (product_back x y f g)) (fits_small (x *ℤ y) h)
+
+pub product_is : (x y : ℤ) → FitsSigned w128 x → FitsSigned w128 y → IsSmall (x *ℤ y) → to_z w128 (of_z w128 (to_z w128 (of_z w128 x) *ℤ to_z w128 (of_z w128 y))) ≡ x *ℤ y
+product_is x y f g h = to_z-of_z w128 (to_z w128 (of_z w128 x) *ℤ to_z w128 (of_z w128 y)) (product_fits x y f g h) ∙ product_back x y f g
+
+-- a difference
+module _ (x e : ℤ) (h : IsSmall x) (k : IsSmall e) where
+  both_back : to_z w128 (of_z w128 x) -ℤ to_z w128 (of_z w128 e) ≡ x -ℤ e
+  both_back = ap₂ (λ a b. a -ℤ b) (small_back x h) (small_back e k)
+
+  pub less_fits : FitsSigned w128 (to_z w128 (of_z w128 x) -ℤ to_z w128 (of_z w128 e))
+  less_fits = subst (FitsSigned w128) (sym both_back) (fits_signed_from_abs w128 (x -ℤ e) (omega (arith, abs_sub x e, h, k)))
+
+  pub less_is : to_z w128 (of_z w128 (to_z w128 (of_z w128 x) -ℤ to_z w128 (of_z w128 e))) ≡ x -ℤ e
+  less_is = to_z-of_z w128 (to_z w128 (of_z w128 x) -ℤ to_z w128 (of_z w128 e)) less_fits ∙ both_back
+
+-- the sum of two, from the same
+sum_small : (x y e : ℤ) → IsSmall x → IsSmall y → IsSmall e → FitsSigned w128 ((x -ℤ e) +ℤ (y -ℤ e))
+sum_small x y e h j k =
+    fits_signed_from_abs w128 ((x -ℤ e) +ℤ (y -ℤ e)) (omega (arith, abs_sub x e, abs_sub y e, abs_add (x -ℤ e) (y -ℤ e), h, j, k))
+
+sum_back : (x y e : ℤ) → IsSmall x → IsSmall y → IsSmall e
+    → to_z w128 (of_z w128 (to_z w128 (of_z w128 x) -ℤ to_z w128 (of_z w128 e))) +ℤ to_z w128 (of_z w128 (to_z w128 (of_z w128 y) -ℤ to_z w128 (of_z w128 e)))
+    ≡ (x -ℤ e) +ℤ (y -ℤ e)
+sum_back x y e h j k = ap₂ (λ a b. a +ℤ b) (less_is x e h k) (less_is y e j k)
+
+pub sum_fits : (x y e : ℤ) → IsSmall x → IsSmall y → IsSmall e
+    → FitsSigned w128 (to_z w128 (of_z w128 (to_z w128 (of_z w128 x) -ℤ to_z w128 (of_z w128 e))) +ℤ to_z w128 (of_z w128 (to_z w128 (of_z w128 y) -ℤ to_z w128 (of_z w128 e))))
+sum_fits x y e h j k = subst (FitsSigned w128) (sym (sum_back x y e h j k)) (sum_small x y e h j k)
+
+pub sum_is : (x y e : ℤ) → IsSmall x → IsSmall y → IsSmall e
+    → to_z w128 (of_z w128 (to_z w128 (of_z w128 (to_z w128 (of_z w128 x) -ℤ to_z w128 (of_z w128 e))) +ℤ to_z w128 (of_z w128 (to_z w128 (of_z w128 y) -ℤ to_z w128 (of_z w128 e)))))
+    ≡ (x -ℤ e) +ℤ (y -ℤ e)
+sum_is x y e h j k = to_z-of_z w128 _ (sum_fits x y e h j k) ∙ sum_back x y e h j k
