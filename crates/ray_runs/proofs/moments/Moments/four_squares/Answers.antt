@@ -1,8 +1,25 @@
-use Rattle.std.proofs.Common.{◌≡◌, ℤ, pos, ◌*ℤ◌, FitsSigned, to_z, of_z, ap, ◌∙◌}
+use Rattle.std.proofs.Common.{◌≡◌, ℤ, pos, ◌*◌, ◌*ℤ◌, FitsSigned, to_z, of_z, ap, ◌∙◌}
 use Rattle.std.proofs.lemmas.Int.{to_z-of_z}
 use mir.Syntax.{w128}
+use Rattle.ray_runs.specs.Sizes.{turn_limit}
+use Rattle.ray_runs.proofs.Fits.{all_fit, small_back}
 use Rattle.ray_runs.proofs.StretchTests.{five_same}
 use Rattle.ray_runs.proofs.moments.Moments.four_squares.Goals as goal
+
+pub four-requires : goal.four-requires
+four-requires c = small_back w128 c.squared.result (9 * (turn_limit * turn_limit)) all_fit c.squared.ensures.small
+
+pub four-requires-2 : goal.four-requires-2
+four-requires-2 c = small_back w128 c.squared-2.result (9 * (turn_limit * turn_limit)) all_fit c.squared-2.ensures.small
+
+pub four-requires-3 : goal.four-requires-3
+four-requires-3 c = small_back w128 c.squared-3.result (9 * (turn_limit * turn_limit)) all_fit c.squared-3.ensures.small
+
+pub four-requires-4 : goal.four-requires-4
+four-requires-4 c = small_back w128 c.squared-4.result (9 * (turn_limit * turn_limit)) all_fit c.squared-4.ensures.small
+
+pub four-requires-5 : goal.four-requires-5
+four-requires-5 c = small_back w128 c.squared-5.result (9 * (turn_limit * turn_limit)) all_fit c.squared-5.ensures.small
 
 four_is : (x y z : ℤ) → FitsSigned w128 x → FitsSigned w128 y → y ≡ z → x ≡ pos 4 *ℤ to_z w128 (of_z w128 y) → to_z w128 (of_z w128 x) ≡ pos 4 *ℤ z
 four_is x y z hx hy e is = to_z-of_z w128 x hx ∙ is ∙ ap (λ t. pos 4 *ℤ t) (to_z-of_z w128 y hy ∙ e)
