@@ -1,10 +1,11 @@
 -- Numbers of moments that fit.
 use Rattle.std.proofs.Common.{◌≡◌, ◌∙◌, ap, ap₂, subst, sym, pos, ◌<ℤ◌, FitsSigned, to_z, of_z, ℕ, ◌+◌, ◌*◌, ◌^◌, ◌<◌, ◌≤◌, List, ℤ, ◌+ℤ◌, ◌*ℤ◌, ◌-ℤ◌, unsigned_abs, arith}
-use Rattle.std.proofs.lemmas.Int.{fits_signed_from_abs, fits_signed_mul, to_z-of_z}
-use mir.Syntax.{Width, w32, w64, w128}
+use Rattle.std.proofs.lemmas.Int.{fits_signed_from_abs, to_z-of_z}
+use mir.Syntax.{Width, w64, w128}
 use mir.Val.{hbits}
 use Rattle.space.specs.Ranges.{IsWithin}
 use Rattle.bern_form.specs.Sizes.{axis_limit, offset_limit}
+use Rattle.box_bisect.proofs.Reread.{back_of, product_fits, product_is, small_as, small_back}
 use Rattle.ray_runs.specs.Sizes.{part_limit, turn_limit}
 use Rattle.space.specs.Vectors.{at, dot}
 use Rattle.space.proofs.Naturals.{abs_add, abs_mul, abs_sub}
@@ -42,19 +43,7 @@ above_fits x y h k l = subst (λ z. z <ℤ (pos 4 *ℤ y)) (to_z-of_z w128 x h) 
 pub wider : (x : ℤ) → FitsSigned w64 x → FitsSigned w128 x
 wider x h = record { sfits = omega (arith, h.sfits) }
 
--- a product of numbers that fit
-pub both_back : (w : Width) (x y : ℤ) → FitsSigned w x → FitsSigned w y → to_z w (of_z w x) *ℤ to_z w (of_z w y) ≡ x *ℤ y
-both_back w x y h k = ap₂ (λ a b. a *ℤ b) (to_z-of_z w x h) (to_z-of_z w y k)
-
-pub product_fits : (w : Width) (x y : ℤ) (m n : ℕ) → FitsSigned w x → FitsSigned w y → unsigned_abs x ≤ m → unsigned_abs y ≤ n → m * n < 2 ^ hbits w
-    → FitsSigned w (to_z w (of_z w x) *ℤ to_z w (of_z w y))
-product_fits w x y m n h k p q r = subst (FitsSigned w) (sym (both_back w x y h k)) (fits_signed_mul w x y m n p q r)
-
-pub product_is : (w : Width) (x y : ℤ) (m n : ℕ) → FitsSigned w x → FitsSigned w y → unsigned_abs x ≤ m → unsigned_abs y ≤ n → m * n < 2 ^ hbits w
-    → to_z w (of_z w (to_z w (of_z w x) *ℤ to_z w (of_z w y))) ≡ x *ℤ y
-product_is w x y m n h k p q r = to_z-of_z w _ (product_fits w x y m n h k p q r) ∙ both_back w x y h k
-
--- and of numbers of 64 bits, in 128 bits
+-- a product of numbers of 64 bits, in 128 bits
 both_wider : (a b x y : ℤ) → a ≡ to_z w64 (of_z w64 x) → b ≡ to_z w64 (of_z w64 y) → FitsSigned w64 x → FitsSigned w64 y → (a ≡ x) × (b ≡ y)
 both_wider a b x y e f h k = (e ∙ to_z-of_z w64 x h, f ∙ to_z-of_z w64 y k)
 
@@ -70,27 +59,6 @@ pub wide_product_is : (a b x y : ℤ) (m n : ℕ) → a ≡ to_z w64 (of_z w64 x
 wide_product_is a b x y m n e f h k p q r =
     let z = both_wider a b x y e f h k in
     ap₂ (λ s t. to_z w128 (of_z w128 (to_z w128 (of_z w128 s) *ℤ to_z w128 (of_z w128 t)))) z.0 z.1 ∙ product_is w128 x y m n (wider x h) (wider y k) p q r
-
--- and of a natural number and a number of 32 bits, in 64 bits
-both_long : (a b : ℤ) (n : ℕ) (y : ℤ) → a ≡ pos n → b ≡ to_z w32 (of_z w32 y) → FitsSigned w32 y → to_z w64 (of_z w64 a) *ℤ to_z w64 (of_z w64 b) ≡ to_z w64 (of_z w64 (pos n)) *ℤ to_z w64 (of_z w64 y)
-both_long a b n y e f k = ap₂ (λ s t. to_z w64 (of_z w64 s) *ℤ to_z w64 (of_z w64 t)) e (f ∙ to_z-of_z w32 y k)
-
-long : (y : ℤ) → FitsSigned w32 y → FitsSigned w64 y
-long y k = record { sfits = omega (arith, k.sfits) }
-
-pub long_product_fits : (a b : ℤ) (l : ℕ) (y : ℤ) (m n : ℕ) → a ≡ pos l → b ≡ to_z w32 (of_z w32 y) → FitsSigned w32 y
-    → l ≤ m → unsigned_abs y ≤ n → m * n < 2 ^ hbits w64 → m < 2 ^ hbits w64 → FitsSigned w64 (to_z w64 (of_z w64 a) *ℤ to_z w64 (of_z w64 b))
-long_product_fits a b l y m n e f k p q r s =
-    subst (FitsSigned w64) (sym (both_long a b l y e f k)) (product_fits w64 (pos l) y m n record { sfits = omega (arith, p, s) } (long y k) p q r)
-
-pub long_product_is : (a b : ℤ) (l : ℕ) (y : ℤ) (m n : ℕ) → a ≡ pos l → b ≡ to_z w32 (of_z w32 y) → FitsSigned w32 y
-    → l ≤ m → unsigned_abs y ≤ n → m * n < 2 ^ hbits w64 → m < 2 ^ hbits w64 → to_z w64 (of_z w64 (to_z w64 (of_z w64 a) *ℤ to_z w64 (of_z w64 b))) ≡ pos l *ℤ y
-long_product_is a b l y m n e f k p q r s =
-    ap (λ z. to_z w64 (of_z w64 z)) (both_long a b l y e f k) ∙ product_is w64 (pos l) y m n record { sfits = omega (arith, p, s) } (long y k) p q r
-
--- by what a number is equal to
-pub small_as : (x y : ℤ) (n : ℕ) → x ≡ y → unsigned_abs y ≤ n → unsigned_abs x ≤ n
-small_as x y n e h = subst (λ (z : ℤ). unsigned_abs z ≤ n) (sym e) h
 
 -- limits in 64 bits and in 128 bits
 pub offset_fits : offset_limit < 2 ^ hbits w64
@@ -122,13 +90,6 @@ both_fit = omega arith
 
 pub all_fit : 9 * (turn_limit * turn_limit) < 2 ^ hbits w128
 all_fit = omega arith
-
--- a number within a limit that fits
-pub back_of : (w : Width) (z : ℤ) (n : ℕ) → n < 2 ^ hbits w → unsigned_abs z ≤ n → to_z w (of_z w z) ≡ z
-back_of w z n r h = to_z-of_z w z (fits_signed_from_abs w z (omega (arith, r, h)))
-
-pub small_back : (w : Width) (z : ℤ) (n : ℕ) → n < 2 ^ hbits w → unsigned_abs z ≤ n → unsigned_abs (to_z w (of_z w z)) ≤ n
-small_back w z n r h = small_as _ z n (back_of w z n r h) h
 
 -- a product of components, a component of a moment, a sum of two of them, and a product of two sums
 pub part_by : (r x y : ℤ) → unsigned_abs r ≤ part_limit → unsigned_abs x ≤ offset_limit → unsigned_abs y ≤ axis_limit

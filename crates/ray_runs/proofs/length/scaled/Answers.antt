@@ -1,7 +1,7 @@
 use Rattle.std.proofs.Common.{pos, ◌*ℤ◌, arith}
 use Rattle.space.proofs.Naturals.{abs_mul}
 use Rattle.bern_form.specs.Sizes.{length_limit, scale_limit}
-use Rattle.ray_runs.proofs.Fits.{long_product_fits, long_product_is, small_as}
+use Rattle.box_bisect.proofs.Reread.{long_product_fits, long_product_is, small_as}
 use Rattle.ray_runs.proofs.length.scaled.Goals as goal
 
 pub overflow_mul-result : goal.overflow_mul-result

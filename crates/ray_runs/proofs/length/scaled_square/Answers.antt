@@ -2,7 +2,7 @@ use Rattle.std.proofs.Common.{pos, ◌*ℤ◌, arith, ap, ◌∙◌}
 use Rattle.std.proofs.lemmas.Int.{to_z-of_z}
 use mir.Syntax.{w32, w64}
 use Rattle.bern_form.specs.Sizes.{length_limit}
-use Rattle.ray_runs.proofs.Fits.{product_fits, product_is}
+use Rattle.box_bisect.proofs.Reread.{product_fits, product_is}
 use Rattle.ray_runs.proofs.length.scaled_square.Goals as goal
 
 pub overflow_mul-result : goal.overflow_mul-result

@@ -2,8 +2,9 @@ use Rattle.std.proofs.Common.{◌∙◌, ◌*◌}
 use mir.Syntax.{w64}
 use Rattle.space.specs.Vectors.{at}
 use Rattle.bern_form.specs.Sizes.{axis_limit, offset_limit}
+use Rattle.box_bisect.proofs.Reread.{back_of, small_back}
 use Rattle.ray_runs.specs.Sizes.{part_limit}
-use Rattle.ray_runs.proofs.Fits.{axis_fits, back_of, height_fits, offset_fits, part_by, part_fits, small_back, three_same}
+use Rattle.ray_runs.proofs.Fits.{axis_fits, height_fits, offset_fits, part_by, part_fits, three_same}
 use Rattle.ray_runs.proofs.moments.height.Goals as goal
 
 pub part-requires : goal.part-requires

@@ -2,8 +2,9 @@ use Rattle.std.proofs.Common.{◌*◌}
 use mir.Syntax.{w64}
 use Rattle.space.specs.Vectors.{at}
 use Rattle.bern_form.specs.Sizes.{axis_limit, offset_limit}
+use Rattle.box_bisect.proofs.Reread.{small_back}
 use Rattle.ray_runs.specs.Sizes.{part_limit}
-use Rattle.ray_runs.proofs.Fits.{axis_fits, minor_by, offset_fits, parts_fit, small_back}
+use Rattle.ray_runs.proofs.Fits.{axis_fits, minor_by, offset_fits, parts_fit}
 use Rattle.ray_runs.proofs.StretchTests.{three_same}
 use Rattle.ray_runs.proofs.moments.moment.Goals as goal
 

@@ -1,8 +1,9 @@
 use Rattle.std.proofs.Common.{◌∙◌, ◌*◌}
 use mir.Syntax.{w64, w128}
 use Rattle.space.specs.Vectors.{at}
+use Rattle.box_bisect.proofs.Reread.{back_of, small_back}
 use Rattle.ray_runs.specs.Sizes.{turn_limit}
-use Rattle.ray_runs.proofs.Fits.{back_of, small_back, square_by, square_fits, squares_fit, three_same, turn_fits}
+use Rattle.ray_runs.proofs.Fits.{square_by, square_fits, squares_fit, three_same, turn_fits}
 use Rattle.ray_runs.proofs.moments.product.Goals as goal
 
 pub square-requires : goal.square-requires

@@ -1,8 +1,9 @@
 use Rattle.std.proofs.Common.{◌*◌}
 use mir.Syntax.{w64}
 use Rattle.space.specs.Vectors.{at}
+use Rattle.box_bisect.proofs.Reread.{small_back}
 use Rattle.ray_runs.specs.Sizes.{part_limit, turn_limit}
-use Rattle.ray_runs.proofs.Fits.{parts_fit, plus_by, small_back, turn_fits}
+use Rattle.ray_runs.proofs.Fits.{parts_fit, plus_by, turn_fits}
 use Rattle.ray_runs.proofs.StretchTests.{three_same}
 use Rattle.ray_runs.proofs.moments.sum.Goals as goal
 

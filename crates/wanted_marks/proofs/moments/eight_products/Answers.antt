@@ -1,8 +1,9 @@
 use Rattle.std.proofs.Common.{◌≡◌, ℤ, pos, ◌*◌, ◌*ℤ◌, FitsSigned, to_z, of_z, ap, ◌∙◌}
 use Rattle.std.proofs.lemmas.Int.{to_z-of_z}
 use mir.Syntax.{w128}
+use Rattle.box_bisect.proofs.Reread.{small_back}
 use Rattle.ray_runs.specs.Sizes.{turn_limit}
-use Rattle.ray_runs.proofs.Fits.{all_fit, small_back}
+use Rattle.ray_runs.proofs.Fits.{all_fit}
 use Rattle.ray_runs.proofs.StretchTests.{five_same}
 use Rattle.wanted_marks.proofs.moments.eight_products.Goals as goal
 

@@ -1,8 +1,9 @@
 use Rattle.std.proofs.Common.{◌≡◌, ◌*◌, arith}
 use mir.Syntax.{w128}
+use Rattle.box_bisect.proofs.Reread.{small_back}
 use Rattle.ray_runs.specs.Moments.{vector_product}
 use Rattle.ray_runs.specs.Sizes.{turn_limit}
-use Rattle.ray_runs.proofs.Fits.{all_fit, at_place, both_fit, both_within, small_back, small_within, squares_fit, squares_within}
+use Rattle.ray_runs.proofs.Fits.{all_fit, at_place, both_fit, both_within, small_within, squares_fit, squares_within}
 use Rattle.ray_runs.proofs.moments.Moments.squared.Goals as goal
 
 pub product-requires : goal.product-requires

@@ -1,9 +1,10 @@
 use Rattle.std.proofs.Common.{◌≡◌, ◌*◌, ◌+ℤ◌, arith, ap, ap₂, sym, ◌∙◌}
 use mir.Syntax.{w128}
 use Rattle.space.specs.Vectors.{at}
+use Rattle.box_bisect.proofs.Reread.{back_of, small_back}
 use Rattle.ray_runs.specs.Moments.{vector_product}
 use Rattle.ray_runs.specs.Sizes.{turn_limit}
-use Rattle.ray_runs.proofs.Fits.{all_fit, at_place, back_of, both_fit, both_within, small_back, small_within, squares_fit, squares_within, sum_fits, sum_is, sum_within, three_same}
+use Rattle.ray_runs.proofs.Fits.{all_fit, at_place, both_fit, both_within, small_within, squares_fit, squares_within, sum_fits, sum_is, sum_within, three_same}
 use Rattle.ray_runs.proofs.moments.Moments.times.Goals as goal
 
 pub product-requires : goal.product-requires
