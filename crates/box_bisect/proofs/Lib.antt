@@ -18,3 +18,4 @@ pub mod RayCounting
 pub mod RayTests
 pub mod RayHalves
 pub mod RayWhole
+pub mod Reread

@@ -1,8 +1,12 @@
 -- Numbers of moments that fit.
-use Rattle.std.proofs.Common.{◌≡◌, ◌∙◌, subst, pos, ◌<ℤ◌, FitsSigned, to_z, of_z, ℕ, ◌+◌, ◌*◌, ◌≤◌, List, ℤ, ◌+ℤ◌, ◌*ℤ◌, ◌-ℤ◌, unsigned_abs, arith}
-use Rattle.std.proofs.lemmas.Int.{to_z-of_z}
-use mir.Syntax.{w128}
+use Rattle.std.proofs.Common.{◌≡◌, ◌∙◌, ap, ap₂, subst, sym, pos, ◌<ℤ◌, FitsSigned, to_z, of_z, ℕ, ◌+◌, ◌*◌, ◌^◌, ◌<◌, ◌≤◌, List, ℤ, ◌+ℤ◌, ◌*ℤ◌, ◌-ℤ◌, unsigned_abs, arith}
+use Rattle.std.proofs.lemmas.Int.{fits_signed_from_abs, to_z-of_z}
+use mir.Syntax.{Width, w64, w128}
+use mir.Val.{hbits}
 use Rattle.space.specs.Ranges.{IsWithin}
+use Rattle.bern_form.specs.Sizes.{axis_limit, offset_limit}
+use Rattle.box_bisect.proofs.Reread.{back_of, product_fits, product_is, small_as, small_back}
+use Rattle.ray_runs.specs.Sizes.{part_limit, turn_limit}
 use Rattle.space.specs.Vectors.{at, dot}
 use Rattle.space.proofs.Naturals.{abs_add, abs_mul, abs_sub}
 
@@ -34,3 +38,102 @@ less_same a b x y e f = λ i. e i -ℤ f i
 -- a comparison of numbers that fit
 pub above_fits : (x y : ℤ) → FitsSigned w128 x → FitsSigned w128 y → to_z w128 (of_z w128 x) <ℤ (pos 4 *ℤ to_z w128 (of_z w128 y)) → x <ℤ (pos 4 *ℤ y)
 above_fits x y h k l = subst (λ z. z <ℤ (pos 4 *ℤ y)) (to_z-of_z w128 x h) (subst (λ z. to_z w128 (of_z w128 x) <ℤ (pos 4 *ℤ z)) (to_z-of_z w128 y k) l)
+
+-- a number of 64 bits in 128 bits
+pub wider : (x : ℤ) → FitsSigned w64 x → FitsSigned w128 x
+wider x h = record { sfits = omega (arith, h.sfits) }
+
+-- a product of numbers of 64 bits, in 128 bits
+both_wider : (a b x y : ℤ) → a ≡ to_z w64 (of_z w64 x) → b ≡ to_z w64 (of_z w64 y) → FitsSigned w64 x → FitsSigned w64 y → (a ≡ x) × (b ≡ y)
+both_wider a b x y e f h k = (e ∙ to_z-of_z w64 x h, f ∙ to_z-of_z w64 y k)
+
+pub wide_product_fits : (a b x y : ℤ) (m n : ℕ) → a ≡ to_z w64 (of_z w64 x) → b ≡ to_z w64 (of_z w64 y) → FitsSigned w64 x → FitsSigned w64 y
+    → unsigned_abs x ≤ m → unsigned_abs y ≤ n → m * n < 2 ^ hbits w128 → FitsSigned w128 (to_z w128 (of_z w128 a) *ℤ to_z w128 (of_z w128 b))
+wide_product_fits a b x y m n e f h k p q r =
+    let z = both_wider a b x y e f h k in
+    subst (λ (s : ℤ). FitsSigned w128 (to_z w128 (of_z w128 s) *ℤ to_z w128 (of_z w128 b))) (sym z.0)
+    (subst (λ (t : ℤ). FitsSigned w128 (to_z w128 (of_z w128 x) *ℤ to_z w128 (of_z w128 t))) (sym z.1) (product_fits w128 x y m n (wider x h) (wider y k) p q r))
+
+pub wide_product_is : (a b x y : ℤ) (m n : ℕ) → a ≡ to_z w64 (of_z w64 x) → b ≡ to_z w64 (of_z w64 y) → FitsSigned w64 x → FitsSigned w64 y
+    → unsigned_abs x ≤ m → unsigned_abs y ≤ n → m * n < 2 ^ hbits w128 → to_z w128 (of_z w128 (to_z w128 (of_z w128 a) *ℤ to_z w128 (of_z w128 b))) ≡ x *ℤ y
+wide_product_is a b x y m n e f h k p q r =
+    let z = both_wider a b x y e f h k in
+    ap₂ (λ s t. to_z w128 (of_z w128 (to_z w128 (of_z w128 s) *ℤ to_z w128 (of_z w128 t)))) z.0 z.1 ∙ product_is w128 x y m n (wider x h) (wider y k) p q r
+
+-- limits in 64 bits and in 128 bits
+pub offset_fits : offset_limit < 2 ^ hbits w64
+offset_fits = omega arith
+
+pub axis_fits : axis_limit < 2 ^ hbits w64
+axis_fits = omega arith
+
+pub part_fits : part_limit < 2 ^ hbits w64
+part_fits = omega arith
+
+pub parts_fit : 2 * part_limit < 2 ^ hbits w64
+parts_fit = omega arith
+
+pub height_fits : 3 * part_limit < 2 ^ hbits w64
+height_fits = omega arith
+
+pub turn_fits : turn_limit < 2 ^ hbits w64
+turn_fits = omega arith
+
+pub square_fits : turn_limit * turn_limit < 2 ^ hbits w128
+square_fits = omega arith
+
+pub squares_fit : 3 * (turn_limit * turn_limit) < 2 ^ hbits w128
+squares_fit = omega arith
+
+pub both_fit : 6 * (turn_limit * turn_limit) < 2 ^ hbits w128
+both_fit = omega arith
+
+pub all_fit : 9 * (turn_limit * turn_limit) < 2 ^ hbits w128
+all_fit = omega arith
+
+-- a product of components, a component of a moment, a sum of two of them, and a product of two sums
+pub part_by : (r x y : ℤ) → unsigned_abs r ≤ part_limit → unsigned_abs x ≤ offset_limit → unsigned_abs y ≤ axis_limit
+    → r ≡ to_z w64 (of_z w64 x) *ℤ to_z w64 (of_z w64 y) → to_z w64 (of_z w64 r) ≡ x *ℤ y
+part_by r x y h j k e = back_of w64 r part_limit part_fits h ∙ e ∙ ap₂ (λ a b. a *ℤ b) (back_of w64 x offset_limit offset_fits j) (back_of w64 y axis_limit axis_fits k)
+
+pub minor_by : (r p q a b : ℤ) → unsigned_abs r ≤ 2 * part_limit → unsigned_abs p ≤ offset_limit → unsigned_abs q ≤ offset_limit → unsigned_abs a ≤ axis_limit → unsigned_abs b ≤ axis_limit
+    → r ≡ to_z w64 (of_z w64 p) *ℤ to_z w64 (of_z w64 b) -ℤ to_z w64 (of_z w64 q) *ℤ to_z w64 (of_z w64 a) → to_z w64 (of_z w64 r) ≡ p *ℤ b -ℤ q *ℤ a
+minor_by r p q a b h hp hq ha hb e =
+    let p' = back_of w64 p offset_limit offset_fits hp in let q' = back_of w64 q offset_limit offset_fits hq in
+    let a' = back_of w64 a axis_limit axis_fits ha in let b' = back_of w64 b axis_limit axis_fits hb in
+    back_of w64 r (2 * part_limit) parts_fit h ∙ e ∙ (λ i. p' i *ℤ b' i -ℤ q' i *ℤ a' i)
+
+pub plus_by : (r x y : ℤ) → unsigned_abs r ≤ turn_limit → unsigned_abs x ≤ 2 * part_limit → unsigned_abs y ≤ 2 * part_limit
+    → r ≡ to_z w64 (of_z w64 x) +ℤ to_z w64 (of_z w64 y) → to_z w64 (of_z w64 r) ≡ x +ℤ y
+plus_by r x y h j k e = back_of w64 r turn_limit turn_fits h ∙ e ∙ ap₂ (λ a b. a +ℤ b) (back_of w64 x (2 * part_limit) parts_fit j) (back_of w64 y (2 * part_limit) parts_fit k)
+
+pub square_by : (r x y : ℤ) → unsigned_abs r ≤ turn_limit * turn_limit → unsigned_abs x ≤ turn_limit → unsigned_abs y ≤ turn_limit
+    → r ≡ to_z w64 (of_z w64 x) *ℤ to_z w64 (of_z w64 y) → to_z w128 (of_z w128 r) ≡ x *ℤ y
+square_by r x y h j k e = back_of w128 r (turn_limit * turn_limit) square_fits h ∙ e ∙ ap₂ (λ a b. a *ℤ b) (back_of w64 x turn_limit turn_fits j) (back_of w64 y turn_limit turn_fits k)
+
+pub small_within : (w : Width) (z : ℤ) (m n : ℕ) → n < 2 ^ hbits w → m ≤ n → unsigned_abs z ≤ m → unsigned_abs (to_z w (of_z w z)) ≤ n
+small_within w z m n r s h = small_back w z n r (omega (arith, s, h))
+
+-- what stands at a place of a list, which a number is equal to
+pub at_place : (w : Width) (r : ℤ) (l : List ℤ) (i k m : ℕ) → i ≡ k → m < 2 ^ hbits w → unsigned_abs r ≤ m → r ≡ at l k → to_z w (of_z w r) ≡ at l i
+at_place w r l i k m same fits h e = back_of w r m fits h ∙ e ∙ ap (λ j. at l j) (sym same)
+
+pub squares_within : 3 * (turn_limit * turn_limit) ≤ 9 * (turn_limit * turn_limit)
+squares_within = omega arith
+
+pub both_within : 6 * (turn_limit * turn_limit) ≤ 9 * (turn_limit * turn_limit)
+both_within = omega arith
+
+-- a sum of numbers within a limit
+module _ (w : Width) (x y : ℤ) (n : ℕ) (r : n + n < 2 ^ hbits w) (h : unsigned_abs x ≤ n) (k : unsigned_abs y ≤ n) where
+  both_summed : to_z w (of_z w x) +ℤ to_z w (of_z w y) ≡ x +ℤ y
+  both_summed = ap₂ (λ a b. a +ℤ b) (back_of w x n (omega (arith, r)) h) (back_of w y n (omega (arith, r)) k)
+
+  pub sum_fits : FitsSigned w (to_z w (of_z w x) +ℤ to_z w (of_z w y))
+  sum_fits = subst (FitsSigned w) (sym both_summed) (fits_signed_from_abs w (x +ℤ y) (omega (arith, r, two_small x y n h k)))
+
+  pub sum_is : to_z w (of_z w (to_z w (of_z w x) +ℤ to_z w (of_z w y))) ≡ x +ℤ y
+  sum_is = to_z-of_z w (to_z w (of_z w x) +ℤ to_z w (of_z w y)) sum_fits ∙ both_summed
+
+  pub sum_within : (l : ℕ) → n + n ≤ l → unsigned_abs (to_z w (of_z w (to_z w (of_z w x) +ℤ to_z w (of_z w y)))) ≤ l
+  sum_within l m = small_as _ (x +ℤ y) l sum_is (omega (arith, m, two_small x y n h k))

@@ -18,3 +18,4 @@ pub mod OnRuns
 pub mod Peaking
 pub mod Outside
 pub mod Opening
+pub mod Small

@@ -3,6 +3,7 @@ use Rattle.std.proofs.Common.{◌≡◌, ℕ, ◌*◌, ◌≤◌, ◌<◌, ◌^�
 use Rattle.std.specs.Int.{int_shr}
 use Rattle.std.proofs.lemmas.Int.{fits_signed_from_abs, ints}
 use mir.Syntax.{w64, w128}
+use mir.Val.{hbits}
 use Rattle.space.proofs.Facts.{fits128}
 use Rattle.space.proofs.Naturals.{abs_add, abs_mul}
 use Rattle.width_bisect.specs.Halved.{fourth4, middle2, middle4, second2, second4, third4}
@@ -83,6 +84,30 @@ second2_small a b m h k = let x = two_terms a b 2 m h k in small1 (pos 2 *ℤ a 
 
 pub second4_small : (a b : ℤ) (m : ℕ) → unsigned_abs a ≤ m → unsigned_abs b ≤ 4 * m → unsigned_abs (second4 a b) ≤ 4 * m
 second4_small a b m h k = let x = two_terms a b 4 m h k in small1 (pos 4 *ℤ a +ℤ b) (4 * m) (omega (arith, x))
+
+pub record Second2Fits (a b : ℤ) : Type 0 where
+  pub first : FitsSigned w64 (pos 2 *ℤ a)
+  pub whole : FitsSigned w64 (pos 2 *ℤ a +ℤ b)
+  pub second : FitsSigned w64 (second2 a b)
+
+pub second2_fits : (a b : ℤ) → unsigned_abs a ≤ height_limit → unsigned_abs b ≤ 2 * height_limit → Second2Fits a b
+second2_fits a b h k = record {
+  first = fits64 (pos 2 *ℤ a) (2 * height_limit) (abs_mul (pos 2) a 2 height_limit (omega arith) h) (omega arith);
+  whole = fits64 (pos 2 *ℤ a +ℤ b) (2 * height_limit + 2 * height_limit) (two_terms a b 2 height_limit h k) (omega arith);
+  second = fits64 (second2 a b) (2 * height_limit) (second2_small a b height_limit h k) (omega arith);
+}
+
+pub record Second4Fits (a b : ℤ) : Type 0 where
+  pub first : FitsSigned w128 (pos 4 *ℤ a)
+  pub whole : FitsSigned w128 (pos 4 *ℤ a +ℤ b)
+  pub second : FitsSigned w128 (second4 a b)
+
+pub second4_fits : (a b : ℤ) → unsigned_abs a ≤ width_limit → unsigned_abs b ≤ 4 * width_limit → Second4Fits a b
+second4_fits a b h k = record {
+  first = fits128 (pos 4 *ℤ a) (4 * width_limit) (abs_mul (pos 4) a 4 width_limit (omega arith) h) (omega arith);
+  whole = fits128 (pos 4 *ℤ a +ℤ b) (4 * width_limit + 4 * width_limit) (two_terms a b 4 width_limit h k) (omega arith);
+  second = fits128 (second4 a b) (4 * width_limit) (second4_small a b width_limit h k) (omega arith);
+}
 
 multiple_small : (k : ℕ) (a : ℤ) (m : ℕ) → unsigned_abs a ≤ m → unsigned_abs (pos k *ℤ a) ≤ k * m
 multiple_small k a m h = abs_mul (pos k) a k m (omega arith) h
@@ -187,3 +212,13 @@ middle4_fits a b c d e h k l n o = record {
   whole = fits128 ((((a +ℤ b) +ℤ c) +ℤ d) +ℤ e) (16 * width_limit) (middle4_sum a b c d e width_limit h k l n o) (omega arith);
   middle = fits128 (middle4 a b c d e) width_limit (middle4_small a b c d e width_limit h k l n o) (omega arith);
 }
+
+-- limits in 128 bits
+pub width_fits : width_limit < 2 ^ hbits w128
+width_fits = omega arith
+
+pub widths_fit : 4 * width_limit < 2 ^ hbits w128
+widths_fit = omega arith
+
+pub most_fit : 6 * width_limit < 2 ^ hbits w128
+most_fit = omega arith

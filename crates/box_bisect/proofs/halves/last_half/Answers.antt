@@ -8,8 +8,8 @@ use Rattle.box_bisect.proofs.halves.last_half.Goals as goal
 
 pub returns-clause-half : goal.returns-clause-half
 returns-clause-half c =
-    let f0 : FitsSigned w128 c.half_sum.result = search rules in
-    let f1 : FitsSigned w128 c.quarter_sum.result = search rules in
+    let f0 : FitsSigned w128 c.half_sum.result = record { sfits = c.half_sum.type_inv } in
+    let f1 : FitsSigned w128 c.quarter_sum.result = record { sfits = c.quarter_sum.type_inv } in
     simp to_z-of_z (simp (c.half_sum.ensures.value, c.quarter_sum.ensures.value, back w128 c.args.form.now.c (λ k inside. search rules)) refl)
 
 pub returns-clause-small : goal.returns-clause-small

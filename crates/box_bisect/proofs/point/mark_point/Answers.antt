@@ -1,4 +1,4 @@
-use Rattle.std.proofs.Common.{◌≡◌, FitsSigned, rules, ap, subst, sym, true, ℕ, pos, length, List, ◌+◌, ◌*◌, ◌≤◌, ◌^◌, ◌∙◌}
+use Rattle.std.proofs.Common.{◌≡◌, FitsSigned, ap, subst, sym, true, ℕ, pos, length, List, ◌+◌, ◌*◌, ◌≤◌, ◌^◌, ◌∙◌}
 use Rattle.std.proofs.lemmas.Int.{to_z-of_z}
 use mir.Syntax.{w32}
 use Rattle.space.specs.Motion.{IsSweep}
@@ -20,7 +20,7 @@ returns-then-not-in_reach-clause-value g c =
     let cutter = c.args.stacks.now.cutter in let n = c.args.stacks.now.slabs in
     let m = c.args.sweep.now in let p = c.args.point in let S = 2 ^ c.args.depth in
     let inner = c.inner-inner.result.now in let outer = c.outer-outer.result.now in
-    let fits : FitsSigned w32 c.reach-reach.result = search rules in
+    let fits : FitsSigned w32 c.reach-reach.result = record { sfits = c.reach-reach.type_inv } in
     let reach = to_z-of_z w32 c.reach-reach.result fits ∙ c.reach-reach.ensures.value in
     let found = (simp to_z-of_z at c.in_reach.ensures) ∙ ap (λ z. is_in_reach z m.from m.to p) c.reach-reach.ensures.value in
     let sweep = subst IsSweep c.sweep.view_is c.sweep.invariant in
@@ -33,7 +33,7 @@ returns-then-not-in_reach-clause-clear g c = λ clear.
     let cutter = c.args.stacks.now.cutter in let n = c.args.stacks.now.slabs in
     let m = c.args.sweep.now in let p = c.args.point in let S = 2 ^ c.args.depth in
     let inner = c.inner-inner.result.now in let outer = c.outer-outer.result.now in
-    let fits : FitsSigned w32 c.reach-reach.result = search rules in
+    let fits : FitsSigned w32 c.reach-reach.result = record { sfits = c.reach-reach.type_inv } in
     let reach = to_z-of_z w32 c.reach-reach.result fits ∙ c.reach-reach.ensures.value in
     let found = (simp to_z-of_z at c.in_reach.ensures) ∙ ap (λ z. is_in_reach z m.from m.to p) c.reach-reach.ensures.value in
     let sweep = subst IsSweep c.sweep.view_is c.sweep.invariant in
@@ -47,7 +47,7 @@ returns-clause-value g c =
     let cutter = c.args.stacks.now.cutter in let n = c.args.stacks.now.slabs in
     let m = c.args.sweep.now in let p = c.args.point in let S = 2 ^ c.args.depth in
     let inner = c.inner-inner.result.now in let outer = c.outer-outer.result.now in
-    let fits : FitsSigned w32 c.reach-reach.result = search rules in
+    let fits : FitsSigned w32 c.reach-reach.result = record { sfits = c.reach-reach.type_inv } in
     let reach = to_z-of_z w32 c.reach-reach.result fits ∙ c.reach-reach.ensures.value in
     let found = (simp to_z-of_z at c.in_reach.ensures) ∙ ap (λ z. is_in_reach z m.from m.to p) c.reach-reach.ensures.value in
     let cells = c.cells_of-scale.ensures.cells in let scale = c.cells_of-scale.result in
@@ -62,7 +62,7 @@ returns-clause-removed g c = λ removed.
     let cutter = c.args.stacks.now.cutter in let n = c.args.stacks.now.slabs in
     let m = c.args.sweep.now in let p = c.args.point in let S = 2 ^ c.args.depth in
     let inner = c.inner-inner.result.now in let outer = c.outer-outer.result.now in
-    let fits : FitsSigned w32 c.reach-reach.result = search rules in
+    let fits : FitsSigned w32 c.reach-reach.result = record { sfits = c.reach-reach.type_inv } in
     let reach = to_z-of_z w32 c.reach-reach.result fits ∙ c.reach-reach.ensures.value in
     let found = (simp to_z-of_z at c.in_reach.ensures) ∙ ap (λ z. is_in_reach z m.from m.to p) c.reach-reach.ensures.value in
     let cells = c.cells_of-scale.ensures.cells in let scale = c.cells_of-scale.result in
@@ -77,7 +77,7 @@ returns-clause-possible g c = λ removed.
     let cutter = c.args.stacks.now.cutter in let n = c.args.stacks.now.slabs in
     let m = c.args.sweep.now in let p = c.args.point in let S = 2 ^ c.args.depth in
     let inner = c.inner-inner.result.now in let outer = c.outer-outer.result.now in
-    let fits : FitsSigned w32 c.reach-reach.result = search rules in
+    let fits : FitsSigned w32 c.reach-reach.result = record { sfits = c.reach-reach.type_inv } in
     let reach = to_z-of_z w32 c.reach-reach.result fits ∙ c.reach-reach.ensures.value in
     let found = (simp to_z-of_z at c.in_reach.ensures) ∙ ap (λ z. is_in_reach z m.from m.to p) c.reach-reach.ensures.value in
     let cells = c.cells_of-scale.ensures.cells in let scale = c.cells_of-scale.result in
@@ -91,7 +91,7 @@ returns-clause-clear g c = λ clear.
     let cutter = c.args.stacks.now.cutter in let n = c.args.stacks.now.slabs in
     let m = c.args.sweep.now in let p = c.args.point in let S = 2 ^ c.args.depth in
     let inner = c.inner-inner.result.now in let outer = c.outer-outer.result.now in
-    let fits : FitsSigned w32 c.reach-reach.result = search rules in
+    let fits : FitsSigned w32 c.reach-reach.result = record { sfits = c.reach-reach.type_inv } in
     let reach = to_z-of_z w32 c.reach-reach.result fits ∙ c.reach-reach.ensures.value in
     let found = (simp to_z-of_z at c.in_reach.ensures) ∙ ap (λ z. is_in_reach z m.from m.to p) c.reach-reach.ensures.value in
     let cells = c.cells_of-scale.ensures.cells in let scale = c.cells_of-scale.result in
@@ -105,7 +105,7 @@ returns-clause-cost g c =
     let cutter = c.args.stacks.now.cutter in let n = c.args.stacks.now.slabs in
     let m = c.args.sweep.now in let p = c.args.point in let S = 2 ^ c.args.depth in
     let inner = c.inner-inner.result.now in let outer = c.outer-outer.result.now in
-    let fits : FitsSigned w32 c.reach-reach.result = search rules in
+    let fits : FitsSigned w32 c.reach-reach.result = record { sfits = c.reach-reach.type_inv } in
     let reach = to_z-of_z w32 c.reach-reach.result fits ∙ c.reach-reach.ensures.value in
     let cells = c.cells_of-scale.ensures.cells in let scale = c.cells_of-scale.result in
     let enclosed = λ (i : ℕ) (h : some_holds inner m p i scale ≡ true). subst (λ (l : List SlabSize). some_holds l m p i scale ≡ true) (sym c.outer-outer.ensures.stack) (c.inner-inner.ensures.enclosed m p i scale h) in

@@ -1,4 +1,4 @@
-use Rattle.std.proofs.Common.{◌≡◌, ℤ, pos, ◌*ℤ◌, ◌≤ℤ◌, ◌<ℤ◌, FitsSigned, arith, refl, rules, subst}
+use Rattle.std.proofs.Common.{◌≡◌, ℤ, pos, ◌*ℤ◌, ◌≤ℤ◌, ◌<ℤ◌, FitsSigned, arith, refl, subst}
 use Rattle.std.proofs.lemmas.Int.{ints, to_z-of_z}
 use mir.Syntax.{w128}
 use Rattle.ray_runs.proofs.Fits.{above_fits}
@@ -9,10 +9,10 @@ returns c = λ yes.
     let hs = c.ranges.square in let hr = c.ranges.raised in
     let limit : c.limit_of-limit.result ≡ c.args.square *ℤ c.args.raised = simp to_z-of_z at c.limit_of-limit.ensures in
     let some : pos 0 ≤ℤ c.args.raised = omega (arith, ints) in
-    let l : FitsSigned w128 c.limit_of-limit.result = search rules in
-    let x : FitsSigned w128 c.times.result = search rules in
-    let y : FitsSigned w128 c.times-2.result = search rules in
-    let z : FitsSigned w128 c.times-3.result = search rules in
+    let l : FitsSigned w128 c.limit_of-limit.result = record { sfits = c.limit_of-limit.type_inv } in
+    let x : FitsSigned w128 c.times.result = record { sfits = c.times.type_inv } in
+    let y : FitsSigned w128 c.times-2.result = record { sfits = c.times-2.type_inv } in
+    let z : FitsSigned w128 c.times-3.result = record { sfits = c.times-3.type_inv } in
     record {
       not_below = some;
       first = subst (λ (z : ℤ). (c.args.square *ℤ c.args.raised) <ℤ (pos 4 *ℤ z)) c.times.ensures.value (subst (λ (z : ℤ). z <ℤ (pos 4 *ℤ c.times.result)) limit (above_fits _ _ l x (c.if-not-is_above.ensures refl)));

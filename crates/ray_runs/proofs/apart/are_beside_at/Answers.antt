@@ -1,4 +1,4 @@
-use Rattle.std.proofs.Common.{◌≡◌, ℤ, pos, ◌*ℤ◌, ◌<ℤ◌, FitsSigned, refl, rules, ap, subst, ◌∙◌}
+use Rattle.std.proofs.Common.{◌≡◌, ℤ, pos, ◌*ℤ◌, ◌<ℤ◌, FitsSigned, refl, ap, subst, ◌∙◌}
 use Rattle.std.proofs.lemmas.Int.{to_z-of_z}
 use mir.Syntax.{w64, w128}
 use Rattle.space.specs.Vectors.{dot}
@@ -9,13 +9,13 @@ use Rattle.ray_runs.proofs.apart.are_beside_at.Goals as goal
 pub returns : goal.returns
 returns c = λ yes.
     let a = c.args.a.now in let f = c.args.square in let hs = c.ranges.square in
-    let hn : FitsSigned w64 c.height.result = search rules in
+    let hn : FitsSigned w64 c.height.result = record { sfits = c.height.type_inv } in
     let limit : c.limit_of-limit.result ≡ f *ℤ c.height.result = simp to_z-of_z at c.limit_of-limit.ensures in
     let whole : c.limit_of-limit.result ≡ f *ℤ dot a a = limit ∙ ap (λ z. f *ℤ z) c.height.ensures.value in
-    let l : FitsSigned w128 c.limit_of-limit.result = search rules in
-    let x : FitsSigned w128 c.product.result = search rules in
-    let y : FitsSigned w128 c.product-2.result = search rules in
-    let z : FitsSigned w128 c.product-3.result = search rules in
+    let l : FitsSigned w128 c.limit_of-limit.result = record { sfits = c.limit_of-limit.type_inv } in
+    let x : FitsSigned w128 c.product.result = record { sfits = c.product.type_inv } in
+    let y : FitsSigned w128 c.product-2.result = record { sfits = c.product-2.type_inv } in
+    let z : FitsSigned w128 c.product-3.result = record { sfits = c.product-3.type_inv } in
     record {
       not_below = dot_natural a;
       first = subst (λ (z : ℤ). (f *ℤ dot a a) <ℤ (pos 4 *ℤ z)) c.product.ensures.value (subst (λ (z : ℤ). z <ℤ (pos 4 *ℤ c.product.result)) whole (above_fits _ _ l x (c.if-not-is_above.ensures refl)));

@@ -1,4 +1,4 @@
-use Rattle.std.proofs.Common.{◌≡◌, true, ℕ, ◌+◌, ◌^◌, List, FitsSigned, arith, rules, sym, subst, to_z, of_z}
+use Rattle.std.proofs.Common.{◌≡◌, true, ℕ, ◌+◌, ◌^◌, List, FitsSigned, arith, sym, subst, to_z, of_z}
 use Rattle.std.proofs.lemmas.Int.{to_z-of_z}
 use mir.Syntax.{w32, w64}
 use Rattle.space.specs.Motion.{IsSweep}
@@ -26,8 +26,8 @@ returns c =
     let point = point_of a.grid.now a.ray.now in
     let end : 0 + 2 ^ a.depth ≡ S = omega (arith, cells) in
     let valid = subst IsSweep c.sweep.view_is c.sweep.invariant in
-    let most : FitsSigned w32 c.widest.result = search rules in
-    let square : FitsSigned w64 c.scaled_square-square.result = search rules in
+    let most : FitsSigned w32 c.widest.result = record { sfits = c.widest.type_inv } in
+    let square : FitsSigned w64 c.scaled_square-square.result = record { sfits = c.scaled_square-square.type_inv } in
     let squared : c.scaled_square-square.result ≡ scaled_square S c.widest.result = simp to_z-of_z at c.scaled_square-square.ensures in
     let out = but_as c.open_in.result (to_z w64 (of_z w64 c.scaled_square-square.result)) c.scaled_square-square.result m point S a.from a.to 0 S (to_z-of_z w64 c.scaled_square-square.result square)
     (subst (λ (i : ℕ). AreOutBut c.open_in.result (to_z w64 (of_z w64 c.scaled_square-square.result)) m point S a.from a.to 0 i) end c.open_in.ensures) in

@@ -8,7 +8,31 @@ use Rattle.bern_form.specs.Forms.{IsSmall}
 use Rattle.wanted_marks.specs.Lines.{coefficient_at}
 use Rattle.wanted_marks.proofs.Exceeding.{not_at_most}
 use Rattle.wanted_marks.proofs.Hulls.{over_by}
+use Rattle.wanted_marks.proofs.Small.{less_fits, product_fits, square_fits, sum_fits}
 use Rattle.wanted_marks.proofs.hull.is_above_on.Goals as goal
+
+pub width-last-requires : goal.width-last-requires
+width-last-requires c = record { place = c.requires.place; small = c.requires.last }
+
+pub overflow_mul-steps : goal.overflow_mul-steps
+overflow_mul-steps c = square_fits (c.args.m - c.args.l) c.requires.few
+
+pub overflow_mul-result : goal.overflow_mul-result
+overflow_mul-result c =
+    let square = c.from.result in let d = at c.args.line.now.second.c c.args.k in
+    let f : FitsSigned w128 d = search rules in
+    product_fits square d record { sfits = c.from.type_inv } f (subst IsSmall (ap (λ z. z *ℤ d) (sym c.from.ensures)) c.requires.bend)
+
+pub overflow_sub-result : goal.overflow_sub-result
+overflow_sub-result c = less_fits c.width-first.result c.args.limit (subst IsSmall (sym c.width-first.ensures) c.requires.first) c.requires.limit
+
+pub overflow_sub-result-2 : goal.overflow_sub-result-2
+overflow_sub-result-2 c = less_fits c.width-last.result c.args.limit (subst IsSmall (sym c.width-last.ensures) c.requires.last) c.requires.limit
+
+pub overflow_add-result : goal.overflow_add-result
+overflow_add-result c =
+    sum_fits c.width-first.result c.width-last.result c.args.limit (subst IsSmall (sym c.width-first.ensures) c.requires.first)
+    (subst IsSmall (sym c.width-last.ensures) c.requires.last) c.requires.limit
 
 pub returns : goal.returns
 returns c = λ yes x from to.

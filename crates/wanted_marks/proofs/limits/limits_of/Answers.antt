@@ -12,23 +12,23 @@ use Rattle.wanted_marks.proofs.limits.limits_of.Goals as goal
 
 pub scale2-requires : goal.scale2-requires
 scale2-requires c =
-    let square : FitsSigned w128 c.scaled_square.result = search rules in
+    let square : FitsSigned w128 c.scaled_square.result = record { sfits = c.scaled_square.type_inv } in
     small_as (ap (λ z. scaled2 z c.args.n.now.c) (to_z-of_z w128 c.scaled_square.result square)) (squared_fits c.scaled_square.result c.args.n.now.c c.scaled_square.ensures.small c.requires.n).scaled
 
 pub lift24-requires : goal.lift24-requires
 lift24-requires c =
-    let square : FitsSigned w128 c.scaled_square.result = search rules in
+    let square : FitsSigned w128 c.scaled_square.result = record { sfits = c.scaled_square.type_inv } in
     small_as (ap lifted (simp to_z-of_z at c.scale2.ensures.coefficients)) (squared_fits c.scaled_square.result c.args.n.now.c c.scaled_square.ensures.small c.requires.n).whole
 
 pub returns-clause-value : goal.returns-clause-value
 returns-clause-value c =
-    let square : FitsSigned w128 c.scaled_square.result = search rules in
+    let square : FitsSigned w128 c.scaled_square.result = record { sfits = c.scaled_square.type_inv } in
     let diameter : FitsSigned w32 c.args.diameter = c.ranges.diameter in
-    let f0 : FitsSigned w128 c.not_below_zero.result = search rules in
-    let f1 : FitsSigned w128 c.not_below_zero-2.result = search rules in
-    let f2 : FitsSigned w128 c.not_below_zero-3.result = search rules in
-    let f3 : FitsSigned w128 c.not_below_zero-4.result = search rules in
-    let f4 : FitsSigned w128 c.not_below_zero-5.result = search rules in
+    let f0 : FitsSigned w128 c.not_below_zero.result = record { sfits = c.not_below_zero.type_inv } in
+    let f1 : FitsSigned w128 c.not_below_zero-2.result = record { sfits = c.not_below_zero-2.type_inv } in
+    let f2 : FitsSigned w128 c.not_below_zero-3.result = record { sfits = c.not_below_zero-3.type_inv } in
+    let f3 : FitsSigned w128 c.not_below_zero-4.result = record { sfits = c.not_below_zero-4.type_inv } in
+    let f4 : FitsSigned w128 c.not_below_zero-5.result = record { sfits = c.not_below_zero-5.type_inv } in
     let back = back5 w128 c.lift24.result.c (omega arith) (search rules) (search rules) (search rules) (search rules) (search rules) in
     let list = c.lift24.ensures.coefficients ∙ ap lifted (simp to_z-of_z at c.scale2.ensures.coefficients ∙ ap (λ z. scaled2 z c.args.n.now.c) (simp to_z-of_z at c.scaled_square.ensures.square)) in
     simp to_z-of_z (simp (c.not_below_zero.ensures, c.not_below_zero-2.ensures, c.not_below_zero-3.ensures, c.not_below_zero-4.ensures, c.not_below_zero-5.ensures, back) (ap all_not_below_zero list))

@@ -43,11 +43,11 @@ narrow_not_below_zero-requires-5 c =
 
 pub returns : goal.returns
 returns c =
-    let f0 : FitsSigned w64 c.narrow_not_below_zero.result = search rules in
-    let f1 : FitsSigned w64 c.narrow_not_below_zero-2.result = search rules in
-    let f2 : FitsSigned w64 c.narrow_not_below_zero-3.result = search rules in
-    let f3 : FitsSigned w64 c.narrow_not_below_zero-4.result = search rules in
-    let f4 : FitsSigned w64 c.narrow_not_below_zero-5.result = search rules in
+    let f0 : FitsSigned w64 c.narrow_not_below_zero.result = record { sfits = c.narrow_not_below_zero.type_inv } in
+    let f1 : FitsSigned w64 c.narrow_not_below_zero-2.result = record { sfits = c.narrow_not_below_zero-2.type_inv } in
+    let f2 : FitsSigned w64 c.narrow_not_below_zero-3.result = record { sfits = c.narrow_not_below_zero-3.type_inv } in
+    let f3 : FitsSigned w64 c.narrow_not_below_zero-4.result = record { sfits = c.narrow_not_below_zero-4.type_inv } in
+    let f4 : FitsSigned w64 c.narrow_not_below_zero-5.result = record { sfits = c.narrow_not_below_zero-5.type_inv } in
     let back = back5 w128 c.lift24.result.c (omega arith) (search rules) (search rules) (search rules) (search rules) (search rules) in
     simp to_z-of_z
     (simp (c.narrow_not_below_zero.ensures, c.narrow_not_below_zero-2.ensures, c.narrow_not_below_zero-3.ensures, c.narrow_not_below_zero-4.ensures, c.narrow_not_below_zero-5.ensures, back)

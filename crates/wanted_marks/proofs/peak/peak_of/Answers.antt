@@ -1,4 +1,4 @@
-use Rattle.std.proofs.Common.{◌≡◌, [], ◌∷◌, unsigned_abs, FitsSigned, arith, rules}
+use Rattle.std.proofs.Common.{◌≡◌, [], ◌∷◌, unsigned_abs, FitsSigned, arith}
 use Rattle.std.proofs.lemmas.Int.{to_z-of_z}
 use mir.Syntax.{w64, w128}
 use Rattle.wanted_marks.proofs.Peaking.{peak_by}
@@ -7,7 +7,7 @@ use Rattle.wanted_marks.proofs.peak.peak_of.Goals as goal
 pub returns : goal.returns
 returns c =
     let x = c.args.first in let y = c.args.middle in let z = c.args.last in
-    let f : FitsSigned w128 c.square_of.result = search rules in
+    let f : FitsSigned w128 c.square_of.result = record { sfits = c.square_of.type_inv } in
     let a : FitsSigned w64 x = c.ranges.first in let b : FitsSigned w64 y = c.ranges.middle in let d : FitsSigned w64 z = c.ranges.last in
     let ex : c.unsigned_abs.result ≡ unsigned_abs x = simp to_z-of_z at c.unsigned_abs.ensures.value in
     let ey : c.unsigned_abs-3.result ≡ unsigned_abs y = simp to_z-of_z at c.unsigned_abs-3.ensures.value in

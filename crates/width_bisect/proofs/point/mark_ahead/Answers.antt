@@ -1,4 +1,4 @@
-use Rattle.std.proofs.Common.{◌≡◌, Bool, FitsSigned, rules, arith, true, ℕ, ◌+◌, ◌^◌, pos, refl, sym, ap, subst, ◌∙◌}
+use Rattle.std.proofs.Common.{◌≡◌, Bool, FitsSigned, arith, true, ℕ, ◌+◌, ◌^◌, pos, refl, sym, ap, subst, ◌∙◌}
 use Rattle.std.proofs.lemmas.Int.{to_z-of_z}
 use mir.Syntax.{w32}
 use Rattle.space.specs.Motion.{IsSweep}
@@ -67,7 +67,7 @@ pub returns-then-not-in_reach : goal.returns-then-not-in_reach
 returns-then-not-in_reach c =
     let a = c.args in let m = a.sweep.now in let p = a.point in let S = 2 ^ a.depth in
     let inner = c.inner-inner.result.now in let cutter = a.stacks.now.cutter in let n = a.stacks.now.slabs in let outer = outer_stack cutter n in
-    let fits : FitsSigned w32 c.reach-reach.result = search rules in
+    let fits : FitsSigned w32 c.reach-reach.result = record { sfits = c.reach-reach.type_inv } in
     let found = (simp to_z-of_z at c.in_reach.ensures) ∙ ap (λ z. is_in_reach z m.from m.to p) c.reach-reach.ensures.value in
     let sweep = subst IsSweep c.sweep.view_is c.sweep.invariant in
     answers a.asked Clear (mark_by cutter n m p S)
@@ -100,7 +100,7 @@ returns c =
     let from_stack = ap (λ l. slabs_for a.asked l (outer_stack cutter n)) (sym stack) in
     let enclosed = λ (i : ℕ) (h : some_holds inner m p i S ≡ true). c.inner-inner.ensures.enclosed m p i S h in
     let held = λ (i : ℕ) (h : some_holds inner m p i S ≡ true). encloses a.asked inner (outer_stack cutter n) slabs m p i S (c.slabs_for-slabs.ensures.stack ∙ from_stack) (enclosed i) h in
-    let fits : FitsSigned w32 c.reach-reach.result = search rules in
+    let fits : FitsSigned w32 c.reach-reach.result = record { sfits = c.reach-reach.type_inv } in
     let found = (simp to_z-of_z at c.in_reach.ensures) ∙ ap (λ z. is_in_reach z m.from m.to p) c.reach-reach.ensures.value in
     answered_on_part a.asked c.mark_of_whole.result cutter n inner slabs m p j k S (2 ^ a.depth) some part.within c.inner-inner.ensures.stack c.slabs_for-slabs.ensures.stack cells enclosed part.early part.late
     (c.mark_of_whole.ensures m p j part.forms held (sym left ∙ c.if-not-leaves_some.false))

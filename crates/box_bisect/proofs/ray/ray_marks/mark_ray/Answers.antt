@@ -1,4 +1,4 @@
-use Rattle.std.proofs.Common.{◌≡◌, true, ℕ, ◌+◌, ◌^◌, List, [], length, ℤ, pos, FitsSigned, rules, arith, refl, subst, sym, ap, ◌∙◌}
+use Rattle.std.proofs.Common.{◌≡◌, true, ℕ, ◌+◌, ◌^◌, List, [], length, ℤ, pos, FitsSigned, arith, refl, subst, sym, ap, ◌∙◌}
 use Rattle.std.proofs.lemmas.Int.{to_z-of_z}
 use mir.Syntax.{w32}
 use Rattle.space.specs.Motion.{IsSweep, Motion}
@@ -21,10 +21,10 @@ returns-then-from-to-clause-sure g c =
     let cutter = c.args.stacks.now.cutter in let k = c.args.stacks.now.slabs in let m = c.args.sweep.now in let depth = c.args.depth in let S = 2 ^ depth in
     let point = point_of c.args.grid.now c.args.ray.now in let n = points_of c.args.grid.now c.args.ray.now.family in let s = c.sweep.inside in
     let a = c.window-from.result.0 in let b = c.window-from.result.1 in
-    let fits : FitsSigned w32 c.reach.result = search rules in
+    let fits : FitsSigned w32 c.reach.result = record { sfits = c.reach.type_inv } in
     let near : AreInReach (pos (reach_of cutter)) m point n a b =
     subst (λ (x : Motion). AreInReach (pos (reach_of cutter)) x point n a b) c.sweep.view_is
-    (subst (λ (r : ℤ). AreInReach r record { from = s.from; to = s.to; axis_from = s.axis_from; axis_to = s.axis_to } point n a b) c.reach.ensures.value (simp to_z-of_z at c.window-from.ensures.exact)) in
+    (subst (λ (r : ℤ). AreInReach r record { from = s.from; to = s.to; axis_from = s.axis_from; axis_to = s.axis_to } point n a b) (to_z-of_z w32 c.reach.result fits ∙ c.reach.ensures.value) c.window-from.ensures.exact) in
     let sweep = subst IsSweep c.sweep.view_is c.sweep.invariant in
     let both = λ (p : List ℤ) (h : held_at_sample (inner_stack cutter k) m p S ≡ true). c.inner-inner.ensures.possible m p S (some_cells depth) sweep (subst (λ (l : List SlabSize). held_at_sample l m p S ≡ true) (sym c.inner-inner.ensures.stack) h) in
     let raised = raised_nowhere (inner_stack cutter k) (outer_stack cutter k) m point S 0 S a b [] c.if-from-to.true in
@@ -36,10 +36,10 @@ returns-then-from-to-clause-possible g c =
     let cutter = c.args.stacks.now.cutter in let k = c.args.stacks.now.slabs in let m = c.args.sweep.now in let depth = c.args.depth in let S = 2 ^ depth in
     let point = point_of c.args.grid.now c.args.ray.now in let n = points_of c.args.grid.now c.args.ray.now.family in let s = c.sweep.inside in
     let a = c.window-from.result.0 in let b = c.window-from.result.1 in
-    let fits : FitsSigned w32 c.reach.result = search rules in
+    let fits : FitsSigned w32 c.reach.result = record { sfits = c.reach.type_inv } in
     let near : AreInReach (pos (reach_of cutter)) m point n a b =
     subst (λ (x : Motion). AreInReach (pos (reach_of cutter)) x point n a b) c.sweep.view_is
-    (subst (λ (r : ℤ). AreInReach r record { from = s.from; to = s.to; axis_from = s.axis_from; axis_to = s.axis_to } point n a b) c.reach.ensures.value (simp to_z-of_z at c.window-from.ensures.exact)) in
+    (subst (λ (r : ℤ). AreInReach r record { from = s.from; to = s.to; axis_from = s.axis_from; axis_to = s.axis_to } point n a b) (to_z-of_z w32 c.reach.result fits ∙ c.reach.ensures.value) c.window-from.ensures.exact) in
     let sweep = subst IsSweep c.sweep.view_is c.sweep.invariant in
     let both = λ (p : List ℤ) (h : held_at_sample (inner_stack cutter k) m p S ≡ true). c.inner-inner.ensures.possible m p S (some_cells depth) sweep (subst (λ (l : List SlabSize). held_at_sample l m p S ≡ true) (sym c.inner-inner.ensures.stack) h) in
     let raised = raised_nowhere (inner_stack cutter k) (outer_stack cutter k) m point S 0 S a b [] c.if-from-to.true in
@@ -51,10 +51,10 @@ returns-then-not-is_undecided-clause-sure g c =
     let cutter = c.args.stacks.now.cutter in let k = c.args.stacks.now.slabs in let m = c.args.sweep.now in let depth = c.args.depth in let S = 2 ^ depth in
     let point = point_of c.args.grid.now c.args.ray.now in let n = points_of c.args.grid.now c.args.ray.now.family in let s = c.sweep.inside in
     let a = c.window-from.result.0 in let b = c.window-from.result.1 in
-    let fits : FitsSigned w32 c.reach.result = search rules in
+    let fits : FitsSigned w32 c.reach.result = record { sfits = c.reach.type_inv } in
     let near : AreInReach (pos (reach_of cutter)) m point n a b =
     subst (λ (x : Motion). AreInReach (pos (reach_of cutter)) x point n a b) c.sweep.view_is
-    (subst (λ (r : ℤ). AreInReach r record { from = s.from; to = s.to; axis_from = s.axis_from; axis_to = s.axis_to } point n a b) c.reach.ensures.value (simp to_z-of_z at c.window-from.ensures.exact)) in
+    (subst (λ (r : ℤ). AreInReach r record { from = s.from; to = s.to; axis_from = s.axis_from; axis_to = s.axis_to } point n a b) (to_z-of_z w32 c.reach.result fits ∙ c.reach.ensures.value) c.window-from.ensures.exact) in
     let sweep = subst IsSweep c.sweep.view_is c.sweep.invariant in
     let both = λ (p : List ℤ) (h : held_at_sample (inner_stack cutter k) m p S ≡ true). c.inner-inner.ensures.possible m p S (some_cells depth) sweep (subst (λ (l : List SlabSize). held_at_sample l m p S ≡ true) (sym c.inner-inner.ensures.stack) h) in
     let inner = c.inner-inner.result.now in let outer = c.outer-outer.result.now in let scale = c.cells_of-scale.result in
@@ -70,10 +70,10 @@ returns-then-not-is_undecided-clause-possible g c =
     let cutter = c.args.stacks.now.cutter in let k = c.args.stacks.now.slabs in let m = c.args.sweep.now in let depth = c.args.depth in let S = 2 ^ depth in
     let point = point_of c.args.grid.now c.args.ray.now in let n = points_of c.args.grid.now c.args.ray.now.family in let s = c.sweep.inside in
     let a = c.window-from.result.0 in let b = c.window-from.result.1 in
-    let fits : FitsSigned w32 c.reach.result = search rules in
+    let fits : FitsSigned w32 c.reach.result = record { sfits = c.reach.type_inv } in
     let near : AreInReach (pos (reach_of cutter)) m point n a b =
     subst (λ (x : Motion). AreInReach (pos (reach_of cutter)) x point n a b) c.sweep.view_is
-    (subst (λ (r : ℤ). AreInReach r record { from = s.from; to = s.to; axis_from = s.axis_from; axis_to = s.axis_to } point n a b) c.reach.ensures.value (simp to_z-of_z at c.window-from.ensures.exact)) in
+    (subst (λ (r : ℤ). AreInReach r record { from = s.from; to = s.to; axis_from = s.axis_from; axis_to = s.axis_to } point n a b) (to_z-of_z w32 c.reach.result fits ∙ c.reach.ensures.value) c.window-from.ensures.exact) in
     let sweep = subst IsSweep c.sweep.view_is c.sweep.invariant in
     let both = λ (p : List ℤ) (h : held_at_sample (inner_stack cutter k) m p S ≡ true). c.inner-inner.ensures.possible m p S (some_cells depth) sweep (subst (λ (l : List SlabSize). held_at_sample l m p S ≡ true) (sym c.inner-inner.ensures.stack) h) in
     let inner = c.inner-inner.result.now in let outer = c.outer-outer.result.now in let scale = c.cells_of-scale.result in
@@ -94,10 +94,10 @@ returns-clause-sure g c =
     let cutter = c.args.stacks.now.cutter in let k = c.args.stacks.now.slabs in let m = c.args.sweep.now in let depth = c.args.depth in let S = 2 ^ depth in
     let point = point_of c.args.grid.now c.args.ray.now in let n = points_of c.args.grid.now c.args.ray.now.family in let s = c.sweep.inside in
     let a = c.window-from.result.0 in let b = c.window-from.result.1 in
-    let fits : FitsSigned w32 c.reach.result = search rules in
+    let fits : FitsSigned w32 c.reach.result = record { sfits = c.reach.type_inv } in
     let near : AreInReach (pos (reach_of cutter)) m point n a b =
     subst (λ (x : Motion). AreInReach (pos (reach_of cutter)) x point n a b) c.sweep.view_is
-    (subst (λ (r : ℤ). AreInReach r record { from = s.from; to = s.to; axis_from = s.axis_from; axis_to = s.axis_to } point n a b) c.reach.ensures.value (simp to_z-of_z at c.window-from.ensures.exact)) in
+    (subst (λ (r : ℤ). AreInReach r record { from = s.from; to = s.to; axis_from = s.axis_from; axis_to = s.axis_to } point n a b) (to_z-of_z w32 c.reach.result fits ∙ c.reach.ensures.value) c.window-from.ensures.exact) in
     let sweep = subst IsSweep c.sweep.view_is c.sweep.invariant in
     let both = λ (p : List ℤ) (h : held_at_sample (inner_stack cutter k) m p S ≡ true). c.inner-inner.ensures.possible m p S (some_cells depth) sweep (subst (λ (l : List SlabSize). held_at_sample l m p S ≡ true) (sym c.inner-inner.ensures.stack) h) in
     let inner = c.inner-inner.result.now in let outer = c.outer-outer.result.now in let scale = c.cells_of-scale.result in
@@ -115,10 +115,10 @@ returns-clause-possible g c =
     let cutter = c.args.stacks.now.cutter in let k = c.args.stacks.now.slabs in let m = c.args.sweep.now in let depth = c.args.depth in let S = 2 ^ depth in
     let point = point_of c.args.grid.now c.args.ray.now in let n = points_of c.args.grid.now c.args.ray.now.family in let s = c.sweep.inside in
     let a = c.window-from.result.0 in let b = c.window-from.result.1 in
-    let fits : FitsSigned w32 c.reach.result = search rules in
+    let fits : FitsSigned w32 c.reach.result = record { sfits = c.reach.type_inv } in
     let near : AreInReach (pos (reach_of cutter)) m point n a b =
     subst (λ (x : Motion). AreInReach (pos (reach_of cutter)) x point n a b) c.sweep.view_is
-    (subst (λ (r : ℤ). AreInReach r record { from = s.from; to = s.to; axis_from = s.axis_from; axis_to = s.axis_to } point n a b) c.reach.ensures.value (simp to_z-of_z at c.window-from.ensures.exact)) in
+    (subst (λ (r : ℤ). AreInReach r record { from = s.from; to = s.to; axis_from = s.axis_from; axis_to = s.axis_to } point n a b) (to_z-of_z w32 c.reach.result fits ∙ c.reach.ensures.value) c.window-from.ensures.exact) in
     let sweep = subst IsSweep c.sweep.view_is c.sweep.invariant in
     let both = λ (p : List ℤ) (h : held_at_sample (inner_stack cutter k) m p S ≡ true). c.inner-inner.ensures.possible m p S (some_cells depth) sweep (subst (λ (l : List SlabSize). held_at_sample l m p S ≡ true) (sym c.inner-inner.ensures.stack) h) in
     let inner = c.inner-inner.result.now in let outer = c.outer-outer.result.now in let scale = c.cells_of-scale.result in
@@ -136,10 +136,10 @@ returns-in_err-sure_of-clause-cost g c = λ low high reached.
     let cutter = c.args.stacks.now.cutter in let k = c.args.stacks.now.slabs in let m = c.args.sweep.now in let depth = c.args.depth in let S = 2 ^ depth in
     let point = point_of c.args.grid.now c.args.ray.now in let n = points_of c.args.grid.now c.args.ray.now.family in let s = c.sweep.inside in
     let a = c.window-from.result.0 in let b = c.window-from.result.1 in
-    let fits : FitsSigned w32 c.reach.result = search rules in
+    let fits : FitsSigned w32 c.reach.result = record { sfits = c.reach.type_inv } in
     let near : AreInReach (pos (reach_of cutter)) m point n a b =
     subst (λ (x : Motion). AreInReach (pos (reach_of cutter)) x point n a b) c.sweep.view_is
-    (subst (λ (r : ℤ). AreInReach r record { from = s.from; to = s.to; axis_from = s.axis_from; axis_to = s.axis_to } point n a b) c.reach.ensures.value (simp to_z-of_z at c.window-from.ensures.exact)) in
+    (subst (λ (r : ℤ). AreInReach r record { from = s.from; to = s.to; axis_from = s.axis_from; axis_to = s.axis_to } point n a b) (to_z-of_z w32 c.reach.result fits ∙ c.reach.ensures.value) c.window-from.ensures.exact) in
     let outer = c.outer-outer.result.now in let scale = c.cells_of-scale.result in
     ray_cost outer (outer_stack cutter k) (pos (reach_of cutter)) m point n scale depth a b low high c.args.steps.now c.is_undecided.new.steps c.mark_children.new.steps near reached c.window-from.ensures.order c.if-from-to.false
     c.outer-outer.ensures.stack c.cells_of-scale.ensures.cells (sym c.is_undecided.ensures.left ∙ c.if-not-is_undecided.false) c.is_undecided.ensures.cost c.mark_children.ensures.cost
@@ -149,10 +149,10 @@ returns-in_err-possible_of-clause-cost g c = λ low high reached.
     let cutter = c.args.stacks.now.cutter in let k = c.args.stacks.now.slabs in let m = c.args.sweep.now in let depth = c.args.depth in let S = 2 ^ depth in
     let point = point_of c.args.grid.now c.args.ray.now in let n = points_of c.args.grid.now c.args.ray.now.family in let s = c.sweep.inside in
     let a = c.window-from.result.0 in let b = c.window-from.result.1 in
-    let fits : FitsSigned w32 c.reach.result = search rules in
+    let fits : FitsSigned w32 c.reach.result = record { sfits = c.reach.type_inv } in
     let near : AreInReach (pos (reach_of cutter)) m point n a b =
     subst (λ (x : Motion). AreInReach (pos (reach_of cutter)) x point n a b) c.sweep.view_is
-    (subst (λ (r : ℤ). AreInReach r record { from = s.from; to = s.to; axis_from = s.axis_from; axis_to = s.axis_to } point n a b) c.reach.ensures.value (simp to_z-of_z at c.window-from.ensures.exact)) in
+    (subst (λ (r : ℤ). AreInReach r record { from = s.from; to = s.to; axis_from = s.axis_from; axis_to = s.axis_to } point n a b) (to_z-of_z w32 c.reach.result fits ∙ c.reach.ensures.value) c.window-from.ensures.exact) in
     let outer = c.outer-outer.result.now in let scale = c.cells_of-scale.result in
     ray_cost outer (outer_stack cutter k) (pos (reach_of cutter)) m point n scale depth a b low high c.args.steps.now c.is_undecided.new.steps c.mark_children.new.steps near reached c.window-from.ensures.order c.if-from-to.false
     c.outer-outer.ensures.stack c.cells_of-scale.ensures.cells (sym c.is_undecided.ensures.left ∙ c.if-not-is_undecided.false) c.is_undecided.ensures.cost c.mark_children.ensures.cost
@@ -162,10 +162,10 @@ returns-clause-cost g c = λ low high reached.
     let cutter = c.args.stacks.now.cutter in let k = c.args.stacks.now.slabs in let m = c.args.sweep.now in let depth = c.args.depth in let S = 2 ^ depth in
     let point = point_of c.args.grid.now c.args.ray.now in let n = points_of c.args.grid.now c.args.ray.now.family in let s = c.sweep.inside in
     let a = c.window-from.result.0 in let b = c.window-from.result.1 in
-    let fits : FitsSigned w32 c.reach.result = search rules in
+    let fits : FitsSigned w32 c.reach.result = record { sfits = c.reach.type_inv } in
     let near : AreInReach (pos (reach_of cutter)) m point n a b =
     subst (λ (x : Motion). AreInReach (pos (reach_of cutter)) x point n a b) c.sweep.view_is
-    (subst (λ (r : ℤ). AreInReach r record { from = s.from; to = s.to; axis_from = s.axis_from; axis_to = s.axis_to } point n a b) c.reach.ensures.value (simp to_z-of_z at c.window-from.ensures.exact)) in
+    (subst (λ (r : ℤ). AreInReach r record { from = s.from; to = s.to; axis_from = s.axis_from; axis_to = s.axis_to } point n a b) (to_z-of_z w32 c.reach.result fits ∙ c.reach.ensures.value) c.window-from.ensures.exact) in
     let outer = c.outer-outer.result.now in let scale = c.cells_of-scale.result in
     ray_cost outer (outer_stack cutter k) (pos (reach_of cutter)) m point n scale depth a b low high c.args.steps.now c.is_undecided.new.steps c.mark_children.new.steps near reached c.window-from.ensures.order c.if-from-to.false
     c.outer-outer.ensures.stack c.cells_of-scale.ensures.cells (sym c.is_undecided.ensures.left ∙ c.if-not-is_undecided.false) c.is_undecided.ensures.cost c.mark_children.ensures.cost

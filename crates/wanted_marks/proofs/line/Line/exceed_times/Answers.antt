@@ -19,7 +19,7 @@ returns-then-not-is_above c =
     let below : k < 5 = omega arith in
     let factor = c.ranges.factor in
     let limit : FitsSigned w64 (at c.args.limits.now k) = search rules in
-    let whole : FitsSigned w128 c.product-in-loop-k.result = search rules in
+    let whole : FitsSigned w128 c.product-in-loop-k.result = record { sfits = c.product-in-loop-k.type_inv } in
     let is = simp to_z-of_z at c.product-in-loop-k.ensures in
     let here = ap (λ z. int_lt z (coefficient_at s k l)) (sym is) ∙ sym (simp to_z-of_z at c.is_above.ensures) ∙ c.if-not-is_above.true in
     sym (one_not_more (quadratics s.constant.c s.first.c s.second.c l) (scaled4 f c.args.limits.now) k below
@@ -31,7 +31,7 @@ returns-then-last-product c =
     let s = c.args.self.now in let l = pos c.args.l in let f = c.args.factor in
     let factor = c.ranges.factor in let last = c.ranges.last in
     let limit : FitsSigned w64 (at c.args.limits.now 4) = search rules in
-    let whole : FitsSigned w128 c.product.result = search rules in
+    let whole : FitsSigned w128 c.product.result = record { sfits = c.product.type_inv } in
     let is = simp to_z-of_z at c.product.ensures in
     sym (one_at_most (quadratics s.constant.c s.first.c s.second.c l) (scaled4 f c.args.limits.now) 4 (omega arith)
     (ap (λ z. int_le z (f *ℤ at c.args.limits.now 4)) (sym c.requires.last) ∙ ap (int_le c.args.last) (sym is) ∙ (simp to_z-of_z at c.if-last-product.true)))
@@ -44,7 +44,7 @@ loop-k-preserved c = λ i below.
     let s = c.args.self.now in let k = c.loop-k.k in let f = c.args.factor in
     let factor = c.ranges.factor in
     let limit : FitsSigned w64 (at c.args.limits.now k) = search rules in
-    let whole : FitsSigned w128 c.product-in-loop-k.result = search rules in
+    let whole : FitsSigned w128 c.product-in-loop-k.result = record { sfits = c.product-in-loop-k.type_inv } in
     let is = simp to_z-of_z at c.product-in-loop-k.ensures in
     let here = ap (λ z. int_lt z (coefficient_at s k (pos c.args.l))) (sym is) ∙ sym (simp to_z-of_z at c.is_above.ensures) ∙ c.if-not-is_above.false in
     let done : int_lt (f *ℤ at c.args.limits.now i) (coefficient_at s i (pos c.args.l)) ≡ true =
@@ -57,7 +57,7 @@ returns c =
     let s = c.args.self.now in let l = pos c.args.l in let f = c.args.factor in
     let factor = c.ranges.factor in let last = c.ranges.last in
     let limit : FitsSigned w64 (at c.args.limits.now 4) = search rules in
-    let whole : FitsSigned w128 c.product.result = search rules in
+    let whole : FitsSigned w128 c.product.result = record { sfits = c.product.type_inv } in
     let is = simp to_z-of_z at c.product.ensures in
     let here = ap (λ z. int_le z (f *ℤ at c.args.limits.now 4)) (sym c.requires.last) ∙ ap (int_le c.args.last) (sym is) ∙ (simp to_z-of_z at c.if-last-product.false) in
     sym (all_more (quadratics s.constant.c s.first.c s.second.c l) (scaled4 f c.args.limits.now)

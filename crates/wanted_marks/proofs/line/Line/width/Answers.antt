@@ -18,5 +18,5 @@ returns c =
     let f0 : FitsSigned w128 (at s.constant.c k) = search rules in
     let f1 : FitsSigned w128 (at s.first.c k) = search rules in
     let f2 : FitsSigned w128 (at s.second.c k) = search rules in
-    let f : FitsSigned w128 c.quadratic.result = search rules in
+    let f : FitsSigned w128 c.quadratic.result = record { sfits = c.quadratic.type_inv } in
     to_z-of_z w128 c.quadratic.result f ∙ (simp to_z-of_z at c.quadratic.ensures)

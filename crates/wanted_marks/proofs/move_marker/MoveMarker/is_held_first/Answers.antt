@@ -1,4 +1,4 @@
-use Rattle.std.proofs.Common.{ℕ, ◌≡◌, ◌*ℤ◌, ◌^◌, pos, true, FitsSigned, of_z, to_z, rules, ap, subst, sym, ◌∙◌}
+use Rattle.std.proofs.Common.{ℕ, ◌≡◌, ◌*ℤ◌, ◌^◌, pos, true, FitsSigned, of_z, to_z, ap, subst, sym, ◌∙◌}
 use Rattle.std.proofs.lemmas.Int.{to_z-of_z}
 use mir.Syntax.{w64, w128}
 use Rattle.space.specs.Motion.{axis_at, offset_at}
@@ -15,9 +15,9 @@ pub returns : goal.returns
 returns c = λ yes p forms.
     let s = c.self.inside in let v = c.args.self.now in let S = 2 ^ v.depth in let slabs = c.inner.result.now in
     let ready = subst (IsReadyMove s.ready.now) c.self.view_is c.self.invariant in
-    let f0 : FitsSigned w64 c.first_height.result = search rules in
-    let f1 : FitsSigned w64 c.first_square.result = search rules in
-    let f2 : FitsSigned w128 c.first_width.result = search rules in
+    let f0 : FitsSigned w64 c.first_height.result = record { sfits = c.first_height.type_inv } in
+    let f1 : FitsSigned w64 c.first_square.result = record { sfits = c.first_square.type_inv } in
+    let f2 : FitsSigned w128 c.first_width.result = record { sfits = c.first_width.type_inv } in
     let w = spread (offset_at v.motion p (pos 0) (pos S)) (axis_at v.motion (pos 0) (pos S)) in
     let width : c.first_width.result ≡ pos 4 *ℤ w = c.first_width.ensures ∙ ap (λ l. at l 0) forms.width ∙ first_width_is v.motion p S in
     let stack = c.inner.ensures.stack ∙ ap (λ (y : MoveOf). inner_stack y.cutter y.slabs) c.self.view_is in

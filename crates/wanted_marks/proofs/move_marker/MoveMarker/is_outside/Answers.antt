@@ -20,7 +20,7 @@ pub returns-then-reached-eq0 : goal.returns-then-reached-eq0
 returns-then-reached-eq0 c = λ yes p forms.
     let s = c.self.inside in let v = c.args.self.now in let line = c.args.line.now in let l = pos c.args.l in
     let ready = subst (IsReadyMove s.ready.now) c.self.view_is c.self.invariant in
-    let f : FitsSigned w128 c.peak.result = search rules in let g : FitsSigned w64 s.ready.now.turn.least = search rules in
+    let f : FitsSigned w128 c.peak.result = record { sfits = c.peak.type_inv } in let g : FitsSigned w64 s.ready.now.turn.least = search rules in
     let stack = c.outer-outer.ensures.stack ∙ ap (λ (y : MoveOf). outer_stack y.cutter y.slabs) c.self.view_is in
     outside_by v p s.ready.now.scale c.reached-reached.result c.outer-outer.result.now (heights_at line l) s.ready.now.turn.n.c (width_at line l) c.peak.result s.ready.now.turn.least stack ready.scale_is forms.height
     (ready.turn.n_is ∙ ap (λ k. n_between v.motion 0 k k) ready.scale_is) forms.width (ready.both p) ready.outer_rising c.peak.ensures s.ready.now.turn.least_is
@@ -31,10 +31,10 @@ returns c = λ yes p forms.
     let s = c.self.inside in let v = c.args.self.now in let line = c.args.line.now in let l = pos c.args.l in
     let ready = subst (IsReadyMove s.ready.now) c.self.view_is c.self.invariant in
     let outer = c.outer-outer.result.now in let n = s.ready.now.turn.n.c in let W = width_at line l in let x = c.index-outer-reached.result in let d = c.diameter_of.result in
-    let f : FitsSigned w128 c.peak.result = search rules in let g : FitsSigned w64 s.ready.now.turn.least = search rules in
+    let f : FitsSigned w128 c.peak.result = record { sfits = c.peak.type_inv } in let g : FitsSigned w64 s.ready.now.turn.least = search rules in
     let stack = c.outer-outer.ensures.stack ∙ ap (λ (y : MoveOf). outer_stack y.cutter y.slabs) c.self.view_is in
     let fits : FitsSigned w32 d = search rules in
-    let square : FitsSigned w64 c.scaled_square-factor.result = search rules in
+    let square : FitsSigned w64 c.scaled_square-factor.result = record { sfits = c.scaled_square-factor.type_inv } in
     let factor : c.scaled_square-factor.result ≡ scaled_square s.ready.now.scale d = simp to_z-of_z at c.scaled_square-factor.ensures in
     let limits : scaled4 c.scaled_square-factor.result s.ready.now.turn.raised ≡ all_not_below_zero (squared (pos s.ready.now.scale) d n) =
     ap₂ scaled4 factor s.ready.now.turn.raised_is ∙ limits_are s.ready.now.scale d n c.diameter_of.ensures.not_negative in

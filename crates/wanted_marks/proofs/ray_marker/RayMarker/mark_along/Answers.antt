@@ -25,3 +25,12 @@ returns-then-is_held_last-clause-held c =
         near = same_near c.is_held_last.new.near.bounds c.self.inside.mover.now r.sweep here c.is_held_last.ensures.near;
       };
     }
+
+pub returns-then-is_apart-clause-near : goal.returns-then-is_apart-clause-near
+returns-then-is_apart-clause-near c = c.requires.near
+
+pub returns-then-is_held_last-clause-near : goal.returns-then-is_held_last-clause-near
+returns-then-is_held_last-clause-near c = same_near c.is_held_last.new.near.bounds c.self.inside.mover.now c.args.self.now.sweep (ap (λ x. x.sweep) c.self.view_is) c.is_held_last.ensures.near
+
+pub returns-clause-near : goal.returns-clause-near
+returns-clause-near c = same_near c.is_held_last.new.near.bounds c.self.inside.mover.now c.args.self.now.sweep (ap (λ x. x.sweep) c.self.view_is) c.is_held_last.ensures.near

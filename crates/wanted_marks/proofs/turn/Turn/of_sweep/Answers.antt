@@ -1,4 +1,4 @@
-use Rattle.std.proofs.Common.{◌*◌, FitsSigned, rules, subst, sym}
+use Rattle.std.proofs.Common.{◌*◌, FitsSigned, subst, sym}
 use Rattle.std.proofs.lemmas.Int.{to_z-of_z}
 use mir.Syntax.{w64}
 use Rattle.space.specs.Motion.{Motion}
@@ -29,7 +29,7 @@ invariant_of-result c =
       last_within = last.ensures.small;
       n_small = subst (IsBounded2 (3 * (axis_limit * axis_limit))) (sym c.scalar_product_on_cell-n.ensures)
           (cross_bounded first.result last.result first.result last.result axis_limit axis_limit first.ensures.small last.ensures.small first.ensures.small last.ensures.small);
-      least_is = let f : FitsSigned w64 c.least_of-least.result = search rules in subst (λ z. IsLeast z c.scalar_product_on_cell-n.result.c) (sym (to_z-of_z w64 c.least_of-least.result f)) c.least_of-least.ensures;
+      least_is = let f : FitsSigned w64 c.least_of-least.result = record { sfits = c.least_of-least.type_inv } in subst (λ z. IsLeast z c.scalar_product_on_cell-n.result.c) (sym (to_z-of_z w64 c.least_of-least.result f)) c.least_of-least.ensures;
       raised_is = c.raised_of-raised.ensures;
     }
 

@@ -10,7 +10,7 @@ overflow_mul-result c =
     let u = c.args.self.now.u in let small = c.args.self.now.u_small in
     let f = height_fits (at u 0) (at u 1) (at u 2) small.first small.middle small.last in
     let a : FitsSigned w64 (at u 0) = search rules in let b : FitsSigned w64 (at u 1) = search rules in
-    let p : FitsSigned w128 c.product-2.result = search rules in
+    let p : FitsSigned w128 c.product-2.result = record { sfits = c.product-2.type_inv } in
     simp to_z-of_z (simp (simp to_z-of_z at c.product-2.ensures) f.second)
 
 pub overflow_mul-result-2 : goal.overflow_mul-result-2
@@ -18,7 +18,7 @@ overflow_mul-result-2 c =
     let u = c.args.self.now.u in let small = c.args.self.now.u_small in
     let f = height_fits (at u 0) (at u 1) (at u 2) small.first small.middle small.last in
     let a : FitsSigned w64 (at u 0) = search rules in let d : FitsSigned w64 (at u 2) = search rules in
-    let p : FitsSigned w128 c.product-3.result = search rules in
+    let p : FitsSigned w128 c.product-3.result = record { sfits = c.product-3.type_inv } in
     simp to_z-of_z (simp (simp to_z-of_z at c.product-3.ensures) f.ends)
 
 pub overflow_add-result : goal.overflow_add-result
@@ -26,7 +26,7 @@ overflow_add-result c =
     let u = c.args.self.now.u in let small = c.args.self.now.u_small in
     let f = height_fits (at u 0) (at u 1) (at u 2) small.first small.middle small.last in
     let a : FitsSigned w64 (at u 0) = search rules in let b : FitsSigned w64 (at u 1) = search rules in let d : FitsSigned w64 (at u 2) = search rules in
-    let p : FitsSigned w128 c.product-3.result = search rules in let q : FitsSigned w128 c.product-4.result = search rules in
+    let p : FitsSigned w128 c.product-3.result = record { sfits = c.product-3.type_inv } in let q : FitsSigned w128 c.product-4.result = record { sfits = c.product-4.type_inv } in
     let ends = f.ends in
     simp to_z-of_z (simp (simp to_z-of_z at c.product-3.ensures, simp to_z-of_z at c.product-4.ensures) (simp to_z-of_z f.middle))
 
@@ -35,7 +35,7 @@ overflow_mul-result-3 c =
     let u = c.args.self.now.u in let small = c.args.self.now.u_small in
     let f = height_fits (at u 0) (at u 1) (at u 2) small.first small.middle small.last in
     let b : FitsSigned w64 (at u 1) = search rules in let d : FitsSigned w64 (at u 2) = search rules in
-    let p : FitsSigned w128 c.product-5.result = search rules in
+    let p : FitsSigned w128 c.product-5.result = record { sfits = c.product-5.type_inv } in
     simp to_z-of_z (simp (simp to_z-of_z at c.product-5.ensures) f.fourth)
 
 pub returns : goal.returns
@@ -43,9 +43,9 @@ returns c =
     let u = c.args.self.now.u in let small = c.args.self.now.u_small in
     let f = height_fits (at u 0) (at u 1) (at u 2) small.first small.middle small.last in
     let a : FitsSigned w64 (at u 0) = search rules in let b : FitsSigned w64 (at u 1) = search rules in let d : FitsSigned w64 (at u 2) = search rules in
-    let p1 : FitsSigned w128 c.product.result = search rules in let p2 : FitsSigned w128 c.product-2.result = search rules in
-    let p3 : FitsSigned w128 c.product-3.result = search rules in let p4 : FitsSigned w128 c.product-4.result = search rules in
-    let p5 : FitsSigned w128 c.product-5.result = search rules in let p6 : FitsSigned w128 c.product-6.result = search rules in
+    let p1 : FitsSigned w128 c.product.result = record { sfits = c.product.type_inv } in let p2 : FitsSigned w128 c.product-2.result = record { sfits = c.product-2.type_inv } in
+    let p3 : FitsSigned w128 c.product-3.result = record { sfits = c.product-3.type_inv } in let p4 : FitsSigned w128 c.product-4.result = record { sfits = c.product-4.type_inv } in
+    let p5 : FitsSigned w128 c.product-5.result = record { sfits = c.product-5.type_inv } in let p6 : FitsSigned w128 c.product-6.result = record { sfits = c.product-6.type_inv } in
     let second = f.second in let ends = f.ends in let middle = f.middle in let fourth = f.fourth in
     simp to_z-of_z
     (simp (simp to_z-of_z at c.product.ensures, simp to_z-of_z at c.product-2.ensures, simp to_z-of_z at c.product-3.ensures, simp to_z-of_z at c.product-4.ensures, simp to_z-of_z at c.product-5.ensures, simp to_z-of_z at c.product-6.ensures)

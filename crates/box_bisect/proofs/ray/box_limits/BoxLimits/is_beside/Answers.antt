@@ -1,4 +1,4 @@
-use Rattle.std.proofs.Common.{FitsSigned, rules, ap, ◌∙◌}
+use Rattle.std.proofs.Common.{FitsSigned, ap, ◌∙◌}
 use Rattle.std.proofs.lemmas.Int.{to_z-of_z}
 use mir.Syntax.{w128}
 use Rattle.bern_form.specs.Grids.{rows_positive}
@@ -8,6 +8,6 @@ use Rattle.box_bisect.proofs.ray.box_limits.BoxLimits.is_beside.Goals as goal
 pub returns : goal.returns
 returns c =
     let k = c.args.self.now in let q = k.width in let range = c.ranges.diameter in
-    let square : FitsSigned w128 c.scaled_square.result = search rules in
+    let square : FitsSigned w128 c.scaled_square.result = record { sfits = c.scaled_square.type_inv } in
     c.all_positive.ensures.exact
     ∙ ap rows_positive ((simp to_z-of_z at c.less.ensures) ∙ ap (λ z. grid_less k.raised.c z q.first.c q.middle.c q.last.c) (simp to_z-of_z at c.scaled_square.ensures.square))
