@@ -4,5 +4,6 @@ pub mod Walking
 pub mod Trimming
 pub mod Leaving
 pub mod Between
+pub mod Bits
 pub mod Turning
 pub mod Holding

@@ -46,3 +46,8 @@ stacks_within moves slabs stacks places number place next has lt read_place read
     let is = has.each number next lt (slice_get_read moves (length moves) number next refl lt read_next) in
     let there : place ≡ slice_index places number = read_place ∙ get_or_default_zero places number place (omega (arith, lt, many)) in
     subst (λ k. k < length stacks) (sym there) is.within
+
+-- the move at a number
+pub named_is : (plan : PlanOf) (moves : List JobMove) (number : ℕ) (move next : JobMove) → moves ≡ plan.moves → next ≡ get_or moves number next → HasNumber plan number move → next ≡ move
+named_is plan moves number move next em read_next named =
+    read_next ∙ get_or_from_slice_get moves number move next (ap (λ (xs : List JobMove). slice_get xs number) em ∙ named)

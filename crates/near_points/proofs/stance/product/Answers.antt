@@ -1,18 +1,22 @@
-use Rattle.std.proofs.Common.{◌≤◌, ◌*◌, ◌*ℤ◌, ℤ, unsigned_abs, FitsSigned, arith, rules, subst, sym}
-use Rattle.std.proofs.lemmas.Int.{to_z-of_z, fits_signed_from_abs}
+use Rattle.std.proofs.Common.{◌≤◌, ◌*◌, ℤ, FitsSigned, unsigned_abs, arith, subst, sym}
 use mir.Syntax.{w64}
 use Rattle.space.specs.Vectors.{at}
 use Rattle.space.proofs.Naturals.{abs_mul}
 use Rattle.sweep_boxes.specs.Limits.{side_limit}
+use Rattle.near_points.proofs.Bits.{as_bits, times_fits, times_passed}
 use Rattle.near_points.proofs.stance.product.Goals as goal
+
+pub overflow_mul-result : goal.overflow_mul-result
+overflow_mul-result c =
+    let x = at c.args.p.now c.args.i in let y = at c.args.a.now c.args.j in
+    subst (FitsSigned w64) (sym (times_passed side_limit side_limit x y (omega arith) (omega arith) c.requires.p c.requires.a))
+    (times_fits side_limit side_limit x y (omega arith) c.requires.p c.requires.a)
 
 pub returns-clause-value : goal.returns-clause-value
 returns-clause-value c =
-    let p : FitsSigned w64 (at c.args.p.now c.args.i) = search rules in
-    let a : FitsSigned w64 (at c.args.a.now c.args.j) = search rules in
-    let s = abs_mul (at c.args.p.now c.args.i) (at c.args.a.now c.args.j) side_limit side_limit c.requires.p c.requires.a in
-    let f : FitsSigned w64 (at c.args.p.now c.args.i *ℤ at c.args.a.now c.args.j) = fits_signed_from_abs w64 _ (omega arith) in
-    simp to_z-of_z
+    let x = at c.args.p.now c.args.i in let y = at c.args.a.now c.args.j in
+    as_bits w64 _ _ (times_passed side_limit side_limit x y (omega arith) (omega arith) c.requires.p c.requires.a)
+    (times_fits side_limit side_limit x y (omega arith) c.requires.p c.requires.a)
 
 pub returns-clause-small : goal.returns-clause-small
 returns-clause-small c =

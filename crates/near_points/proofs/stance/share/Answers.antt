@@ -1,18 +1,22 @@
-use Rattle.std.proofs.Common.{◌≤◌, ◌*◌, ◌*ℤ◌, ℤ, unsigned_abs, FitsSigned, arith, rules, subst, sym}
-use Rattle.std.proofs.lemmas.Int.{to_z-of_z, fits_signed_from_abs}
+use Rattle.std.proofs.Common.{◌≤◌, ◌*◌, ℤ, FitsSigned, unsigned_abs, arith, subst, sym}
 use mir.Syntax.{w64}
 use Rattle.space.specs.Vectors.{at}
 use Rattle.space.proofs.Naturals.{abs_mul}
 use Rattle.sweep_boxes.specs.Limits.{aim_limit, side_limit}
+use Rattle.near_points.proofs.Bits.{as_bits, times_fits, times_passed}
 use Rattle.near_points.proofs.stance.share.Goals as goal
+
+pub overflow_mul-result : goal.overflow_mul-result
+overflow_mul-result c =
+    let x = at c.args.side.now c.args.i in let y = c.args.part in
+    subst (FitsSigned w64) (sym (times_passed aim_limit (2 * (side_limit * side_limit)) x y (omega arith) (omega arith) c.requires.side c.requires.part))
+    (times_fits aim_limit (2 * (side_limit * side_limit)) x y (omega arith) c.requires.side c.requires.part)
 
 pub returns-clause-value : goal.returns-clause-value
 returns-clause-value c =
-    let p : FitsSigned w64 (at c.args.side.now c.args.i) = search rules in
-    let a = c.ranges.part in
-    let s = abs_mul (at c.args.side.now c.args.i) c.args.part aim_limit (2 * (side_limit * side_limit)) c.requires.side c.requires.part in
-    let f : FitsSigned w64 (at c.args.side.now c.args.i *ℤ c.args.part) = fits_signed_from_abs w64 _ (omega arith) in
-    simp to_z-of_z
+    let x = at c.args.side.now c.args.i in let y = c.args.part in
+    as_bits w64 _ _ (times_passed aim_limit (2 * (side_limit * side_limit)) x y (omega arith) (omega arith) c.requires.side c.requires.part)
+    (times_fits aim_limit (2 * (side_limit * side_limit)) x y (omega arith) c.requires.side c.requires.part)
 
 pub returns-clause-small : goal.returns-clause-small
 returns-clause-small c =

@@ -1,50 +1,44 @@
-use Rattle.std.proofs.Common.{◌≡◌, ◌≤◌, ◌+ℤ◌, ◌*ℤ◌, unsigned_abs, FitsSigned, arith, rules, ap, ◌∙◌}
-use Rattle.std.proofs.lemmas.Int.{ints, to_z-of_z}
+use Rattle.std.proofs.Common.{◌≡◌, ◌*◌, ◌≤◌, ◌+ℤ◌, ◌*ℤ◌, ℤ, FitsSigned, to_z, of_z, unsigned_abs, arith, subst, sym, ap, ◌∙◌}
+use Rattle.std.proofs.lemmas.Int.{to_z-of_z}
 use mir.Syntax.{w64}
-use borrow.Author.Differences.{abs_is}
 use Rattle.space.specs.Vectors.{at}
+use Rattle.sweep_boxes.specs.Limits.{aim_limit, side_limit}
 use Rattle.near_points.specs.Limits.{tilt_limit}
-use Rattle.near_points.proofs.Growing.{three_by}
+use Rattle.near_points.proofs.Bits.{as_bits, pair_sum, small_fits, sum_fits, triple_fits, triple_sum}
+use Rattle.near_points.proofs.Growing.{three_by, three_small}
 use Rattle.near_points.proofs.stance.tilt.Goals as goal
 
+share_is : (d r p m : ℤ) → unsigned_abs r ≤ 2 * (side_limit * side_limit) → p ≡ d *ℤ to_z w64 (of_z w64 r) → r ≡ m → p ≡ d *ℤ m
+share_is d r p m h e f = e ∙ ap (λ w. d *ℤ w) (to_z-of_z w64 r (small_fits (2 * (side_limit * side_limit)) r (omega arith) h) ∙ f)
+
 pub overflow_add-result : goal.overflow_add-result
-overflow_add-result c = omega (arith, ints, c.share-along.ensures.small, c.share-second.ensures.small, abs_is c.share-along.result, abs_is c.share-second.result)
+overflow_add-result c =
+    let p = c.share-along in let q = c.share-second in
+    subst (FitsSigned w64) (sym (pair_sum (aim_limit * (2 * (side_limit * side_limit))) p.result q.result (omega arith) p.ensures.small q.ensures.small))
+    (sum_fits (aim_limit * (2 * (side_limit * side_limit))) p.result q.result (omega arith) p.ensures.small q.ensures.small)
 
 pub overflow_add-result-2 : goal.overflow_add-result-2
 overflow_add-result-2 c =
-    let p = c.share-along.result in let q = c.share-second.result in let r = c.share-third.result in
-    let f : FitsSigned w64 p = search rules in
-    let g : FitsSigned w64 q = search rules in
-    let h : FitsSigned w64 r = search rules in
-    let two : FitsSigned w64 (p +ℤ q) = omega (arith, ints, c.share-along.ensures.small, c.share-second.ensures.small, abs_is p, abs_is q) in
-    let all : FitsSigned w64 ((p +ℤ q) +ℤ r) = omega (arith, ints, c.share-along.ensures.small, c.share-second.ensures.small, c.share-third.ensures.small, abs_is p, abs_is q, abs_is r) in
-    simp to_z-of_z all
+    let p = c.share-along in let q = c.share-second in let r = c.share-third in
+    subst (FitsSigned w64) (sym (triple_sum (aim_limit * (2 * (side_limit * side_limit))) p.result q.result r.result (omega arith) p.ensures.small q.ensures.small r.ensures.small))
+    (triple_fits (aim_limit * (2 * (side_limit * side_limit))) p.result q.result r.result (omega arith) p.ensures.small q.ensures.small r.ensures.small)
+
+sum_is : (c : goal.After-share-third) → to_z w64 (of_z w64 (to_z w64 (of_z w64 (to_z w64 (of_z w64 c.share-along.result) +ℤ to_z w64 (of_z w64 c.share-second.result))) +ℤ to_z w64 (of_z w64 c.share-third.result)))
+    ≡ (c.share-along.result +ℤ c.share-second.result) +ℤ c.share-third.result
+sum_is c =
+    let p = c.share-along in let q = c.share-second in let r = c.share-third in
+    as_bits w64 _ _ (triple_sum (aim_limit * (2 * (side_limit * side_limit))) p.result q.result r.result (omega arith) p.ensures.small q.ensures.small r.ensures.small)
+    (triple_fits (aim_limit * (2 * (side_limit * side_limit))) p.result q.result r.result (omega arith) p.ensures.small q.ensures.small r.ensures.small)
 
 pub returns-clause-value : goal.returns-clause-value
 returns-clause-value c =
-    let d = c.args.side.now in let p = c.share-along.result in let q = c.share-second.result in let r = c.share-third.result in
-    let fx : FitsSigned w64 c.minor.result = search rules in
-    let fy : FitsSigned w64 c.minor-2.result = search rules in
-    let fz : FitsSigned w64 c.minor-3.result = search rules in
-    let f : FitsSigned w64 p = search rules in
-    let g : FitsSigned w64 q = search rules in
-    let h : FitsSigned w64 r = search rules in
-    let x : p ≡ at d 0 *ℤ c.minor.result = simp to_z-of_z at c.share-along.ensures.value in
-    let y : q ≡ at d 1 *ℤ c.minor-2.result = simp to_z-of_z at c.share-second.ensures.value in
-    let z : r ≡ at d 2 *ℤ c.minor-3.result = simp to_z-of_z at c.share-third.ensures.value in
-    let two : FitsSigned w64 (p +ℤ q) = omega (arith, ints, c.share-along.ensures.small, c.share-second.ensures.small, abs_is p, abs_is q) in
-    let all : FitsSigned w64 ((p +ℤ q) +ℤ r) = omega (arith, ints, c.share-along.ensures.small, c.share-second.ensures.small, c.share-third.ensures.small, abs_is p, abs_is q, abs_is r) in
-    simp to_z-of_z
-    (three_by p q r _ _ _ (x ∙ ap (λ w. at d 0 *ℤ w) c.minor.ensures.value) (y ∙ ap (λ w. at d 1 *ℤ w) c.minor-2.ensures.value) (z ∙ ap (λ w. at d 2 *ℤ w) c.minor-3.ensures.value))
+    let d = c.args.side.now in let p = c.share-along in let q = c.share-second in let r = c.share-third in
+    sum_is c
+    ∙ three_by p.result q.result r.result _ _ _ (share_is (at d 0) c.minor.result p.result _ c.minor.ensures.small p.ensures.value c.minor.ensures.value)
+    (share_is (at d 1) c.minor-2.result q.result _ c.minor-2.ensures.small q.ensures.value c.minor-2.ensures.value)
+    (share_is (at d 2) c.minor-3.result r.result _ c.minor-3.ensures.small r.ensures.value c.minor-3.ensures.value)
 
 pub returns-clause-small : goal.returns-clause-small
 returns-clause-small c =
-    let p = c.share-along.result in let q = c.share-second.result in let r = c.share-third.result in
-    let f : FitsSigned w64 p = search rules in
-    let g : FitsSigned w64 q = search rules in
-    let h : FitsSigned w64 r = search rules in
-    let two : FitsSigned w64 (p +ℤ q) = omega (arith, ints, c.share-along.ensures.small, c.share-second.ensures.small, abs_is p, abs_is q) in
-    let all : FitsSigned w64 ((p +ℤ q) +ℤ r) = omega (arith, ints, c.share-along.ensures.small, c.share-second.ensures.small, c.share-third.ensures.small, abs_is p, abs_is q, abs_is r) in
-    let small : unsigned_abs ((p +ℤ q) +ℤ r) ≤ tilt_limit =
-    omega (arith, ints, c.share-along.ensures.small, c.share-second.ensures.small, c.share-third.ensures.small, abs_is p, abs_is q, abs_is r, abs_is ((p +ℤ q) +ℤ r)) in
-    simp to_z-of_z small
+    let p = c.share-along in let q = c.share-second in let r = c.share-third in
+    subst (λ (z : ℤ). unsigned_abs z ≤ tilt_limit) (sym (sum_is c)) (three_small p.result q.result r.result (aim_limit * (2 * (side_limit * side_limit))) p.ensures.small q.ensures.small r.ensures.small)

@@ -1,81 +1,64 @@
-use Rattle.std.proofs.Common.{◌≡◌, ◌≤◌, ◌+ℤ◌, ◌*ℤ◌, ℤ, pos, unsigned_abs, FitsSigned, rules, subst, sym, ◌∙◌}
-use Rattle.std.proofs.lemmas.Int.{to_z-of_z}
-use mir.Syntax.{w64}
+use Rattle.std.proofs.Common.{pos}
 use Rattle.near_points.specs.Limits.{moment_limit, tilt_limit}
+use Rattle.near_points.proofs.Bits.{moment_fits, moved_gives, moved_may, moved_small, small_passed, tilt_fits}
 use Rattle.near_points.proofs.stance.Stance.moved.Goals as goal
 
-pub invariant_of-result-clause-along_small : goal.invariant_of-result-clause-along_small
-invariant_of-result-clause-along_small c =
-    let s = c.args.self.now in let t = c.args.by.now in let z = c.moved.result in
-    let fs : FitsSigned w64 s.along = search rules in
-    let ft : FitsSigned w64 t.along = search rules in
-    let fr : FitsSigned w64 z = search rules in
-    let e : z ≡ s.along +ℤ pos c.args.j *ℤ t.along = simp to_z-of_z at c.moved.ensures in
-    subst (λ (y : ℤ). unsigned_abs y ≤ moment_limit) (sym (to_z-of_z w64 z fr ∙ e)) c.requires.along
+pub moved-requires-clause-from : goal.moved-requires-clause-from
+moved-requires-clause-from c = let s = c.args.self.now in small_passed moment_limit s.along moment_fits s.along_small
 
-pub invariant_of-result-clause-second_small : goal.invariant_of-result-clause-second_small
-invariant_of-result-clause-second_small c =
-    let s = c.args.self.now in let t = c.args.by.now in let z = c.moved-2.result in
-    let fs : FitsSigned w64 s.second = search rules in
-    let ft : FitsSigned w64 t.second = search rules in
-    let fr : FitsSigned w64 z = search rules in
-    let e : z ≡ s.second +ℤ pos c.args.j *ℤ t.second = simp to_z-of_z at c.moved-2.ensures in
-    subst (λ (y : ℤ). unsigned_abs y ≤ moment_limit) (sym (to_z-of_z w64 z fr ∙ e)) c.requires.second
+pub moved-requires-clause-to : goal.moved-requires-clause-to
+moved-requires-clause-to c =
+    let s = c.args.self.now in let t = c.args.by.now in
+    moved_may moment_limit s.along t.along (pos c.args.j) moment_fits s.along_small t.along_small c.requires.along
 
-pub invariant_of-result-clause-third_small : goal.invariant_of-result-clause-third_small
-invariant_of-result-clause-third_small c =
-    let s = c.args.self.now in let t = c.args.by.now in let z = c.moved-3.result in
-    let fs : FitsSigned w64 s.third = search rules in
-    let ft : FitsSigned w64 t.third = search rules in
-    let fr : FitsSigned w64 z = search rules in
-    let e : z ≡ s.third +ℤ pos c.args.j *ℤ t.third = simp to_z-of_z at c.moved-3.ensures in
-    subst (λ (y : ℤ). unsigned_abs y ≤ moment_limit) (sym (to_z-of_z w64 z fr ∙ e)) c.requires.third
+pub moved-requires-2-clause-from : goal.moved-requires-2-clause-from
+moved-requires-2-clause-from c = let s = c.args.self.now in small_passed moment_limit s.second moment_fits s.second_small
 
-pub invariant_of-result-clause-side_small : goal.invariant_of-result-clause-side_small
-invariant_of-result-clause-side_small c =
-    let s = c.args.self.now in let t = c.args.by.now in let z = c.tilted.result in
-    let fs : FitsSigned w64 s.side = search rules in
-    let ft : FitsSigned w64 t.side = search rules in
-    let fr : FitsSigned w64 z = search rules in
-    let e : z ≡ s.side +ℤ pos c.args.j *ℤ t.side = simp to_z-of_z at c.tilted.ensures in
-    subst (λ (y : ℤ). unsigned_abs y ≤ tilt_limit) (sym (to_z-of_z w64 z fr ∙ e)) c.requires.side
+pub moved-requires-2-clause-to : goal.moved-requires-2-clause-to
+moved-requires-2-clause-to c =
+    let s = c.args.self.now in let t = c.args.by.now in
+    moved_may moment_limit s.second t.second (pos c.args.j) moment_fits s.second_small t.second_small c.requires.second
 
-pub invariant_of-result-clause-height_small : goal.invariant_of-result-clause-height_small
-invariant_of-result-clause-height_small c =
-    let s = c.args.self.now in let t = c.args.by.now in let z = c.moved-4.result in
-    let fs : FitsSigned w64 s.height = search rules in
-    let ft : FitsSigned w64 t.height = search rules in
-    let fr : FitsSigned w64 z = search rules in
-    let e : z ≡ s.height +ℤ pos c.args.j *ℤ t.height = simp to_z-of_z at c.moved-4.ensures in
-    subst (λ (y : ℤ). unsigned_abs y ≤ moment_limit) (sym (to_z-of_z w64 z fr ∙ e)) c.requires.height
+pub moved-requires-3-clause-from : goal.moved-requires-3-clause-from
+moved-requires-3-clause-from c = let s = c.args.self.now in small_passed moment_limit s.third moment_fits s.third_small
+
+pub moved-requires-3-clause-to : goal.moved-requires-3-clause-to
+moved-requires-3-clause-to c =
+    let s = c.args.self.now in let t = c.args.by.now in
+    moved_may moment_limit s.third t.third (pos c.args.j) moment_fits s.third_small t.third_small c.requires.third
+
+pub tilted-requires-clause-from : goal.tilted-requires-clause-from
+tilted-requires-clause-from c = let s = c.args.self.now in small_passed tilt_limit s.side tilt_fits s.side_small
+
+pub tilted-requires-clause-to : goal.tilted-requires-clause-to
+tilted-requires-clause-to c =
+    let s = c.args.self.now in let t = c.args.by.now in
+    moved_may tilt_limit s.side t.side (pos c.args.j) tilt_fits s.side_small t.side_small c.requires.side
+
+pub moved-requires-4-clause-from : goal.moved-requires-4-clause-from
+moved-requires-4-clause-from c = let s = c.args.self.now in small_passed moment_limit s.height moment_fits s.height_small
+
+pub moved-requires-4-clause-to : goal.moved-requires-4-clause-to
+moved-requires-4-clause-to c =
+    let s = c.args.self.now in let t = c.args.by.now in
+    moved_may moment_limit s.height t.height (pos c.args.j) moment_fits s.height_small t.height_small c.requires.height
+
+pub invariant_of-result : goal.invariant_of-result
+invariant_of-result c =
+    let s = c.args.self.now in let t = c.args.by.now in let j = pos c.args.j in let fits = c.requires in record {
+      along_small = moved_small moment_limit c.moved.result s.along t.along j moment_fits s.along_small t.along_small fits.along c.moved.ensures;
+      second_small = moved_small moment_limit c.moved-2.result s.second t.second j moment_fits s.second_small t.second_small fits.second c.moved-2.ensures;
+      third_small = moved_small moment_limit c.moved-3.result s.third t.third j moment_fits s.third_small t.third_small fits.third c.moved-3.ensures;
+      side_small = moved_small tilt_limit c.tilted.result s.side t.side j tilt_fits s.side_small t.side_small fits.side c.tilted.ensures;
+      height_small = moved_small moment_limit c.moved-4.result s.height t.height j moment_fits s.height_small t.height_small fits.height c.moved-4.ensures;
+    }
 
 pub returns : goal.returns
 returns c =
-    let s = c.args.self.now in let t = c.args.by.now in
-    let f0 : FitsSigned w64 s.along = search rules in
-    let g0 : FitsSigned w64 t.along = search rules in
-    let h0 : FitsSigned w64 c.moved.result = search rules in
-    let e0 : c.moved.result ≡ s.along +ℤ pos c.args.j *ℤ t.along = simp to_z-of_z at c.moved.ensures in
-    let f1 : FitsSigned w64 s.second = search rules in
-    let g1 : FitsSigned w64 t.second = search rules in
-    let h1 : FitsSigned w64 c.moved-2.result = search rules in
-    let e1 : c.moved-2.result ≡ s.second +ℤ pos c.args.j *ℤ t.second = simp to_z-of_z at c.moved-2.ensures in
-    let f2 : FitsSigned w64 s.third = search rules in
-    let g2 : FitsSigned w64 t.third = search rules in
-    let h2 : FitsSigned w64 c.moved-3.result = search rules in
-    let e2 : c.moved-3.result ≡ s.third +ℤ pos c.args.j *ℤ t.third = simp to_z-of_z at c.moved-3.ensures in
-    let f3 : FitsSigned w64 s.side = search rules in
-    let g3 : FitsSigned w64 t.side = search rules in
-    let h3 : FitsSigned w64 c.tilted.result = search rules in
-    let e3 : c.tilted.result ≡ s.side +ℤ pos c.args.j *ℤ t.side = simp to_z-of_z at c.tilted.ensures in
-    let f4 : FitsSigned w64 s.height = search rules in
-    let g4 : FitsSigned w64 t.height = search rules in
-    let h4 : FitsSigned w64 c.moved-4.result = search rules in
-    let e4 : c.moved-4.result ≡ s.height +ℤ pos c.args.j *ℤ t.height = simp to_z-of_z at c.moved-4.ensures in
-    record {
-      along = to_z-of_z w64 c.moved.result h0 ∙ e0;
-      second = to_z-of_z w64 c.moved-2.result h1 ∙ e1;
-      third = to_z-of_z w64 c.moved-3.result h2 ∙ e2;
-      side = to_z-of_z w64 c.tilted.result h3 ∙ e3;
-      height = to_z-of_z w64 c.moved-4.result h4 ∙ e4;
+    let s = c.args.self.now in let t = c.args.by.now in let j = pos c.args.j in let fits = c.requires in record {
+      along = moved_gives moment_limit c.moved.result s.along t.along j moment_fits s.along_small t.along_small fits.along c.moved.ensures;
+      second = moved_gives moment_limit c.moved-2.result s.second t.second j moment_fits s.second_small t.second_small fits.second c.moved-2.ensures;
+      third = moved_gives moment_limit c.moved-3.result s.third t.third j moment_fits s.third_small t.third_small fits.third c.moved-3.ensures;
+      side = moved_gives tilt_limit c.tilted.result s.side t.side j tilt_fits s.side_small t.side_small fits.side c.tilted.ensures;
+      height = moved_gives moment_limit c.moved-4.result s.height t.height j moment_fits s.height_small t.height_small fits.height c.moved-4.ensures;
     }

@@ -1,29 +1,51 @@
-use Rattle.std.proofs.Common.{◌≡◌, ◌≤◌, ◌*◌, ◌+ℤ◌, ◌*ℤ◌, ℤ, unsigned_abs, FitsSigned, arith, rules, subst, sym}
-use Rattle.std.proofs.lemmas.Int.{ints, to_z-of_z}
-use mir.Syntax.{w64, w128}
-use borrow.Author.Differences.{abs_is}
+use Rattle.std.proofs.Common.{◌≡◌, ◌*◌, ◌≤◌, ◌+ℤ◌, ℤ, FitsSigned, to_z, of_z, unsigned_abs, subst, sym}
+use mir.Syntax.{w128}
 use Rattle.near_points.specs.Limits.{moment_limit}
-use Rattle.near_points.proofs.Growing.{three_by, width_small}
+use Rattle.near_points.specs.Lines.{width_of}
+use Rattle.near_points.proofs.Bits.{as_bits, pair_fits, pair_passed, small_passed, moment_fits, width_passed, width_wide}
+use Rattle.near_points.proofs.Growing.{width_small}
 use Rattle.near_points.proofs.stance.Stance.width.Goals as goal
 
+passed : (c : goal.After-wide_product-third)
+    → to_z w128 (of_z w128 (to_z w128 (of_z w128 c.wide_product-along.result) +ℤ to_z w128 (of_z w128 c.wide_product-second.result)))
+    +ℤ to_z w128 (of_z w128 c.wide_product-third.result)
+    ≡ width_of c.args.self.now
+passed c =
+    let s = c.args.self.now in let x = c.wide_product-along in let y = c.wide_product-second in let z = c.wide_product-third in
+    width_passed x.result y.result z.result s.along s.second s.third s.along_small s.second_small s.third_small x.ensures.value y.ensures.value z.ensures.value
+
+wide : (c : goal.After-wide_product-third) → FitsSigned w128 (width_of c.args.self.now)
+wide c = let s = c.args.self.now in width_wide s.along s.second s.third s.along_small s.second_small s.third_small
+
+pub wide_product-along-requires-clause-a : goal.wide_product-along-requires-clause-a
+wide_product-along-requires-clause-a c = let s = c.args.self.now in small_passed moment_limit s.along moment_fits s.along_small
+
+pub wide_product-along-requires-clause-b : goal.wide_product-along-requires-clause-b
+wide_product-along-requires-clause-b c = let s = c.args.self.now in small_passed moment_limit s.along moment_fits s.along_small
+
+pub wide_product-second-requires-clause-a : goal.wide_product-second-requires-clause-a
+wide_product-second-requires-clause-a c = let s = c.args.self.now in small_passed moment_limit s.second moment_fits s.second_small
+
+pub wide_product-second-requires-clause-b : goal.wide_product-second-requires-clause-b
+wide_product-second-requires-clause-b c = let s = c.args.self.now in small_passed moment_limit s.second moment_fits s.second_small
+
+pub wide_product-third-requires-clause-a : goal.wide_product-third-requires-clause-a
+wide_product-third-requires-clause-a c = let s = c.args.self.now in small_passed moment_limit s.third moment_fits s.third_small
+
+pub wide_product-third-requires-clause-b : goal.wide_product-third-requires-clause-b
+wide_product-third-requires-clause-b c = let s = c.args.self.now in small_passed moment_limit s.third moment_fits s.third_small
+
+pub overflow_add-result : goal.overflow_add-result
+overflow_add-result c =
+    let s = c.args.self.now in let x = c.wide_product-along in let y = c.wide_product-second in
+    let e = pair_passed x.result y.result s.along s.along s.second s.second s.along_small s.along_small s.second_small s.second_small x.ensures.value y.ensures.value in
+    subst (FitsSigned w128) (sym e) (pair_fits s.along s.along s.second s.second s.along_small s.along_small s.second_small s.second_small)
+
 pub overflow_add-result-2 : goal.overflow_add-result-2
-overflow_add-result-2 c = omega (arith, ints, abs_is c.wide_product-along.result, abs_is c.wide_product-second.result, abs_is c.wide_product-third.result)
+overflow_add-result-2 c = subst (FitsSigned w128) (sym (passed c)) (wide c)
 
 pub returns-clause-value : goal.returns-clause-value
-returns-clause-value c =
-    let s = c.args.self.now in let x = c.wide_product-along in let y = c.wide_product-second in let z = c.wide_product-third in
-    let fa : FitsSigned w64 s.along = search rules in
-    let fb : FitsSigned w64 s.second = search rules in
-    let fc : FitsSigned w64 s.third = search rules in
-    let f : FitsSigned w128 x.result = search rules in
-    let g : FitsSigned w128 y.result = search rules in
-    let h : FitsSigned w128 z.result = search rules in
-    let two : FitsSigned w128 (x.result +ℤ y.result) = omega (arith, ints, abs_is x.result, abs_is y.result) in
-    let all : FitsSigned w128 ((x.result +ℤ y.result) +ℤ z.result) = omega (arith, ints, abs_is x.result, abs_is y.result, abs_is z.result) in
-    let ex : x.result ≡ s.along *ℤ s.along = simp to_z-of_z at x.ensures.value in
-    let ey : y.result ≡ s.second *ℤ s.second = simp to_z-of_z at y.ensures.value in
-    let ez : z.result ≡ s.third *ℤ s.third = simp to_z-of_z at z.ensures.value in
-    simp to_z-of_z (three_by x.result y.result z.result _ _ _ ex ey ez)
+returns-clause-value c = as_bits w128 _ (width_of c.args.self.now) (passed c) (wide c)
 
 pub returns-clause-small : goal.returns-clause-small
 returns-clause-small c =

@@ -3,6 +3,7 @@ use Rattle.std.proofs.lemmas.Int.{ints, to_z-of_z}
 use mir.Syntax.{w64, w128}
 use borrow.Author.Differences.{abs_is}
 use Rattle.near_points.specs.Limits.{moment_limit}
+use Rattle.near_points.proofs.Bits.{moment_fits, small_passed}
 use Rattle.near_points.proofs.Growing.{slope_small, twice_by}
 use Rattle.near_points.proofs.step.Step.slope.Goals as goal
 
@@ -31,3 +32,15 @@ pub returns-clause-small : goal.returns-clause-small
 returns-clause-small c =
     let s = c.args.from.now in let t = c.args.self.now in
     subst (λ (z : ℤ). unsigned_abs z ≤ 4 * (moment_limit * moment_limit)) (sym (returns-clause-value c)) (slope_small s.second s.third t.second t.third s.second_small s.third_small t.second_small t.third_small)
+
+pub wide_product-second-requires-clause-a : goal.wide_product-second-requires-clause-a
+wide_product-second-requires-clause-a c = let s = c.args.from.now in small_passed moment_limit s.second moment_fits s.second_small
+
+pub wide_product-second-requires-clause-b : goal.wide_product-second-requires-clause-b
+wide_product-second-requires-clause-b c = let t = c.args.self.now in small_passed moment_limit t.second moment_fits t.second_small
+
+pub wide_product-third-requires-clause-a : goal.wide_product-third-requires-clause-a
+wide_product-third-requires-clause-a c = let s = c.args.from.now in small_passed moment_limit s.third moment_fits s.third_small
+
+pub wide_product-third-requires-clause-b : goal.wide_product-third-requires-clause-b
+wide_product-third-requires-clause-b c = let t = c.args.self.now in small_passed moment_limit t.third moment_fits t.third_small

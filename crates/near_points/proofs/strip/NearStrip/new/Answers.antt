@@ -6,10 +6,12 @@ use Rattle.space.specs.Ranges.{IsWithin}
 use Rattle.sweep_boxes.specs.Limits.{aim_limit}
 use Rattle.ray_grid.specs.Lattice.{point_at}
 use Rattle.ray_grid.specs.Ranges.{IsGrid}
+use Rattle.sweep_boxes.specs.Limits.{side_limit}
 use Rattle.near_points.specs.Ready.{offset_of}
 use Rattle.near_points.specs.declared.stance.Stance.{Stance}
 use Rattle.near_points.specs.Stances.{IsStance}
 use Rattle.near_points.specs.Turned.{turned, way_across, way_along}
+use Rattle.near_points.proofs.Bits.{small_passed}
 use Rattle.near_points.proofs.Turning.{has_first, step_by, turned_within}
 use Rattle.near_points.proofs.strip.NearStrip.new.Goals as goal
 
@@ -70,3 +72,45 @@ invariant_of-result c =
           (stance_by c.of_offset-along.result (ap way_along step) axis side along);
       hold_is = c.of_cylinder.ensures;
     }
+
+pub offset_from-offset-requires-clause-scale : goal.offset_from-offset-requires-clause-scale
+offset_from-offset-requires-clause-scale c = c.args.cylinder.now.scaled.1
+
+pub offset_from-offset-requires-clause-tip : goal.offset_from-offset-requires-clause-tip
+offset_from-offset-requires-clause-tip c = c.args.cylinder.now.tip_within
+
+pub turned-axis-requires : goal.turned-axis-requires
+turned-axis-requires c = c.args.cylinder.now.axis_within
+
+pub scaled-requires-clause-scale : goal.scaled-requires-clause-scale
+scaled-requires-clause-scale c = c.args.cylinder.now.scaled.1
+
+pub way_across-across-requires : goal.way_across-across-requires
+way_across-across-requires c = small_passed side_limit c.scaled.result (omega arith) (omega (arith, c.scaled.ensures.small))
+
+pub turned-side-requires : goal.turned-side-requires
+turned-side-requires c = let w = c.args.cylinder.now.side_within in (omega (arith, w.0), omega (arith, w.1), omega (arith, w.2))
+
+pub scaled-requires-2-clause-scale : goal.scaled-requires-2-clause-scale
+scaled-requires-2-clause-scale c = c.args.cylinder.now.scaled.1
+
+pub of_offset-along-requires-clause-v : goal.of_offset-along-requires-clause-v
+of_offset-along-requires-clause-v c = (small_passed side_limit c.scaled-2.result (omega arith) (omega (arith, c.scaled-2.ensures.small)), omega arith, omega arith)
+
+pub of_offset-along-requires-clause-a : goal.of_offset-along-requires-clause-a
+of_offset-along-requires-clause-a c = c.turned-axis.ensures.small
+
+pub turned-requires : goal.turned-requires
+turned-requires c = c.offset_from-offset.ensures.small
+
+pub of_offset-requires-clause-v : goal.of_offset-requires-clause-v
+of_offset-requires-clause-v c = c.turned.ensures.small
+
+pub of_offset-requires-clause-a : goal.of_offset-requires-clause-a
+of_offset-requires-clause-a c = c.turned-axis.ensures.small
+
+pub of_offset-requires-2-clause-v : goal.of_offset-requires-2-clause-v
+of_offset-requires-2-clause-v c = c.way_across-across.ensures.small
+
+pub of_offset-requires-2-clause-a : goal.of_offset-requires-2-clause-a
+of_offset-requires-2-clause-a c = c.turned-axis.ensures.small
