@@ -32,9 +32,22 @@ pub(crate) fn owned_files(
     Ok(owned)
 }
 
+/// What is said of the first call that doesn't give what is due, or nothing where each does.
+pub(crate) fn first_wrong<S: Shelf>(shelf: &mut S, calls: &[Call]) -> &'static str
+    requires { (n : List ℕ) → S.allows shelf.old n }
+{
+    for call in calls {
+        if !gives(shelf, call) {
+            return call.about;
+        }
+    }
+    ""
+}
+
 /// Whether the call gives what is due, no bytes where it opens.
 pub(crate) fn gives<S: Shelf>(shelf: &mut S, call: &Call) -> bool
     requires { (n : List ℕ) → S.allows shelf.old n }
+    ensures { (n : List ℕ) → S.allows shelf.new n }
 {
     let mut buffer = [0u8; 4];
     let got = match call.name {

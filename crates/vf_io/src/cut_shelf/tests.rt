@@ -6,6 +6,7 @@ use std::test::Fail;
 /// What the reads of a file of seven bytes give, by pieces of so many bytes, and where a call fails.
 #[derive(Clone, Copy)]
 struct Reads {
+    about: &'static str,
     piece: u32,
     failing: u64,
     due: [Result<&'static str, Failed>; 5],
@@ -13,31 +14,37 @@ struct Reads {
 
 const READS: [Reads; 6] = [
     Reads {
+        about: "pieces of 1",
         piece: 1,
         failing: 99,
         due: [Ok("G"), Ok("O"), Ok("T"), Ok("O"), Ok("/")],
     },
     Reads {
+        about: "pieces of 2",
         piece: 2,
         failing: 99,
         due: [Ok("GO"), Ok("TO"), Ok("/1"), Ok(","), Ok("")],
     },
     Reads {
+        about: "pieces of 7",
         piece: 7,
         failing: 99,
         due: [Ok("GOTO"), Ok("/1,"), Ok(""), Ok(""), Ok("")],
     },
     Reads {
+        about: "pieces of 2, call 1 fails",
         piece: 2,
         failing: 1,
         due: [Err(Failed), Ok(""), Ok(""), Ok(""), Ok("")],
     },
     Reads {
+        about: "pieces of 2, call 3 fails",
         piece: 2,
         failing: 3,
         due: [Ok("GO"), Ok("TO"), Err(Failed), Ok(""), Ok("")],
     },
     Reads {
+        about: "pieces of u32::MAX, call 5 fails",
         piece: u32::MAX,
         failing: 5,
         due: [Ok("GOTO"), Ok("/1,"), Ok(""), Ok(""), Err(Failed)],
@@ -65,17 +72,17 @@ fn are_read(alloc: Global, reads: &Reads) -> Result<bool, Fail> {
     Ok(are_due)
 }
 
+/// Whether a file can be opened that isn't there.
+fn has_absent(alloc: Global) -> Result<bool, Fail> {
+    let mut shelf = shelf_of(alloc, 9, 2)?;
+    Ok(shelf.open("absent").is_ok())
+}
+
 #[test]
 fn reads_no_more_than_a_piece(rt: HostRuntime) -> Result<(), Fail> {
     for reads in &READS {
-        assert!(rt;
-            are_read(rt.alloc(), reads)?,
-            "pieces of {}, call {} fails",
-            reads.piece,
-            reads.failing
-        );
+        assert!(rt; are_read(rt.alloc(), reads)?, "{}", reads.about);
     }
-    let mut shelf = shelf_of(rt.alloc(), 9, 2)?;
-    assert!(rt; shelf.open("absent").is_err(), "an absent name");
+    assert!(rt; !has_absent(rt.alloc())?, "an absent name");
     Ok(())
 }

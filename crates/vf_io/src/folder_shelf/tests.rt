@@ -1,5 +1,5 @@
 use super::*;
-use crate::calls::{Call, gives};
+use crate::calls::{Call, first_wrong};
 
 /// Each call in order.
 const CALLS: [Call; 6] = [
@@ -38,8 +38,6 @@ const CALLS: [Call; 6] = [
 #[test]
 fn fails_where_no_file_is(rt: HostRuntime) {
     let mut shelf = FolderShelf::new(&rt);
-    for call in &CALLS {
-        assert!(rt; gives(&mut shelf, call), "{}", call.about);
-    }
+    assert_eq!(rt; first_wrong(&mut shelf, &CALLS), "");
     assert_eq!(rt; shelf.faults, 2);
 }

@@ -1,5 +1,5 @@
 use super::*;
-use crate::calls::{Call, FILES, gives, owned_files};
+use crate::calls::{Call, FILES, first_wrong, owned_files};
 use std::test::Fail;
 
 /// Each call in order.
@@ -70,8 +70,6 @@ const CALLS: [Call; 12] = [
 fn takes_a_file_in_pieces(rt: HostRuntime) -> Result<(), Fail> {
     let files = owned_files(rt.alloc(), &FILES)?;
     let mut shelf = MemShelf::new(files, [5].to_vec(rt.alloc())?);
-    for call in &CALLS {
-        assert!(rt; gives(&mut shelf, call), "{}", call.about);
-    }
+    assert_eq!(rt; first_wrong(&mut shelf, &CALLS), "");
     Ok(())
 }

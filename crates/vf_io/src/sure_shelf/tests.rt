@@ -1,5 +1,5 @@
 use super::*;
-use crate::calls::{Call, FILES, gives, owned_files};
+use crate::calls::{Call, FILES, first_wrong, owned_files};
 use std::test::Fail;
 
 /// Each call in order.
@@ -64,8 +64,6 @@ const CALLS: [Call; 11] = [
 #[test]
 fn no_call_fails(rt: HostRuntime) -> Result<(), Fail> {
     let mut shelf = SureShelf::new(owned_files(rt.alloc(), &FILES)?);
-    for call in &CALLS {
-        assert!(rt; gives(&mut shelf, call), "{}", call.about);
-    }
+    assert_eq!(rt; first_wrong(&mut shelf, &CALLS), "");
     Ok(())
 }
