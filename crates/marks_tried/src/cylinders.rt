@@ -76,44 +76,70 @@ pub fn held(cylinder: &BoundingCylinder, family: Family, i: u32, j: u32) -> Opti
     Some(strip.near(j, 0, lowest_bits(points)))
 }
 
+/// A ray by its family, i and j, and the points of it that are held.
+type Held = (Family, u32, u32, u64);
+
+/// The first of the rays whose held points aren't these, where there is one.
+fn first_other(cylinder: &BoundingCylinder, rays: &[Held]) -> Option<usize> {
+    for (number, (family, i, j, points)) in rays.iter().enumerate() {
+        if held(cylinder, *family, *i, *j) != Some(*points) {
+            return Some(number);
+        }
+    }
+    None
+}
+
+/// From 1 mm to 3 mm along x, the points on the border included.
+const WIDE: [Held; 9] = [
+    (Family::X, 1, 0, 0b111_1100),
+    (Family::X, 1, 1, 0b111_1100),
+    (Family::X, 2, 0, 0b001_0000),
+    (Family::X, 3, 0, 0),
+    (Family::Y, 2, 0, 0b001_1111),
+    (Family::Y, 3, 0, 0b000_0100),
+    (Family::Y, 4, 0, 0),
+    (Family::Z, 2, 1, 0b111),
+    (Family::Z, 4, 1, 0),
+];
+
+/// A little less wide and less high.
+const NARROW: [Held; 4] = [
+    (Family::X, 1, 0, 0b011_1000),
+    (Family::X, 1, 1, 0),
+    (Family::X, 2, 0, 0),
+    (Family::Z, 2, 1, 0b011),
+];
+
 /// Upright: a point at the distance r from the axis has a moment of 4 r, and one at the height z a height of 4 z.
 #[test]
 fn an_upright_cylinder(rt: HostRuntime) {
     let wide = cylinder([0, 0, 2], 0, 4_000, 4_000);
-    // From 1 mm to 3 mm along x, the points on the border included.
-    assert_eq!(rt; held(&wide, Family::X, 1, 0), Some(0b111_1100));
-    assert_eq!(rt; held(&wide, Family::X, 1, 1), Some(0b111_1100));
-    assert_eq!(rt; held(&wide, Family::X, 2, 0), Some(0b001_0000));
-    assert_eq!(rt; held(&wide, Family::X, 3, 0), Some(0));
-    assert_eq!(rt; held(&wide, Family::Y, 2, 0), Some(0b001_1111));
-    assert_eq!(rt; held(&wide, Family::Y, 3, 0), Some(0b000_0100));
-    assert_eq!(rt; held(&wide, Family::Y, 4, 0), Some(0));
-    assert_eq!(rt; held(&wide, Family::Z, 2, 1), Some(0b111));
-    assert_eq!(rt; held(&wide, Family::Z, 4, 1), Some(0));
-    // A little less wide and less high.
+    assert_eq!(rt; first_other(&wide, &WIDE), None);
     let narrow = cylinder([0, 0, 2], 0, 3_999, 3_999);
-    assert_eq!(rt; held(&narrow, Family::X, 1, 0), Some(0b011_1000));
-    assert_eq!(rt; held(&narrow, Family::X, 1, 1), Some(0));
-    assert_eq!(rt; held(&narrow, Family::X, 2, 0), Some(0));
-    assert_eq!(rt; held(&narrow, Family::Z, 2, 1), Some(0b011));
+    assert_eq!(rt; first_other(&narrow, &NARROW), None);
 }
+
+const TILTED: [Held; 2] = [(Family::X, 1, 0, 0b111_1000), (Family::X, 1, 1, 0b001_0000)];
 
 /// Half way between x and z: on the ray along x at the height z, the moment is 4 |x - 2 mm - z|, and the height 4 (x - 2 mm + z).
 #[test]
 fn a_tilted_cylinder(rt: HostRuntime) {
     let tilted = cylinder([2, 0, 2], -2_000, 4_000, 4_000);
-    assert_eq!(rt; held(&tilted, Family::X, 1, 0), Some(0b111_1000));
-    assert_eq!(rt; held(&tilted, Family::X, 1, 1), Some(0b001_0000));
+    assert_eq!(rt; first_other(&tilted, &TILTED), None);
 }
+
+const FLAT: [Held; 3] = [
+    (Family::X, 1, 0, 0b011_1000),
+    (Family::Y, 2, 0, 0b001_1111),
+    (Family::Y, 3, 0, 0),
+];
+
+const FLATTER: [Held; 1] = [(Family::X, 1, 0, 0b001_0000)];
 
 /// Of the upright cylinder the part no further than half a millimetre along x from its axis: a point at the distance x from it has 4 x
 /// of its moment along y.
 #[test]
 fn a_cylinder_between_planes(rt: HostRuntime) {
-    let flat = flat_cylinder(2_000);
-    assert_eq!(rt; held(&flat, Family::X, 1, 0), Some(0b011_1000));
-    assert_eq!(rt; held(&flat, Family::Y, 2, 0), Some(0b001_1111));
-    assert_eq!(rt; held(&flat, Family::Y, 3, 0), Some(0));
-    let flatter = flat_cylinder(1_999);
-    assert_eq!(rt; held(&flatter, Family::X, 1, 0), Some(0b001_0000));
+    assert_eq!(rt; first_other(&flat_cylinder(2_000), &FLAT), None);
+    assert_eq!(rt; first_other(&flat_cylinder(1_999), &FLATTER), None);
 }

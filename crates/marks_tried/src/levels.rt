@@ -8,6 +8,9 @@ use sweep_boxes::{BoundingCylinder, Level};
 /// A height, and of the points below it the longest moment and how far to a side they may be.
 type Below = (i64, u32, u32);
 
+/// A lower and an upper level, and the points of a ray that stay.
+type Levels = (Below, Below, u64);
+
 /// One that no point is below.
 const NONE: Below = (-4_000, 0, 0);
 
@@ -46,9 +49,23 @@ fn cylinder(axis: [i64; 3], lower: Below, upper: Below) -> BoundingCylinder
     }
 }
 
+/// The first of the levels by which other points of the ray stay, where there is one.
+fn first_other(axis: [i64; 3], ray: (Family, u32, u32), rows: &[Levels]) -> Option<usize>
+    requires { IsWithin side_limit axis }
+{
+    let (family, i, j) = ray;
+    for (number, (lower, upper, points)) in rows.iter().enumerate() {
+        let leveled = cylinder(axis, *lower, *upper);
+        if held(&leveled, family, i, j) != Some(*points) {
+            return Some(number);
+        }
+    }
+    None
+}
+
 /// Levels of the upright cylinder, and the points that stay of the ray along x in the plane of its axis. From 1 mm to 3 mm they have
 /// the height 0, and the moments 4,000, 2,000, 0, 2,000, and 4,000, all of it along the side.
-const LEVEL_RAY: [(Below, Below, u64); 6] = [
+const LEVEL_RAY: [Levels; 6] = [
     // Just below the height: the outermost are left out.
     (NONE, (1, 2_000, 4_000), 0b011_1000),
     (NONE, (1, 1_999, 4_000), 0b001_0000),
@@ -62,7 +79,7 @@ const LEVEL_RAY: [(Below, Below, u64); 6] = [
 ];
 
 /// The same of the ray along z at the distance of 1 mm from the axis: the heights are 0, 2,000 and 4,000, and the moment is 4,000.
-const UPRIGHT_RAY: [(Below, Below, u64); 4] = [
+const UPRIGHT_RAY: [Levels; 4] = [
     (NONE, (2_000, 3_999, 4_000), 0b110),
     (NONE, (2_001, 3_999, 4_000), 0b100),
     // The lower level leaves out the first, and the second is within the upper.
@@ -73,27 +90,14 @@ const UPRIGHT_RAY: [(Below, Below, u64); 4] = [
 
 #[test]
 fn levels_of_an_upright_cylinder(rt: HostRuntime) {
-    for (lower, upper, want) in LEVEL_RAY {
-        let upright = cylinder([0, 0, 2], lower, upper);
-        assert_eq!(rt;
-            held(&upright, Family::X, 1, 0),
-            Some(want),
-            "{lower:?} {upper:?}"
-        );
-    }
-    for (lower, upper, want) in UPRIGHT_RAY {
-        let upright = cylinder([0, 0, 2], lower, upper);
-        assert_eq!(rt;
-            held(&upright, Family::Z, 3, 1),
-            Some(want),
-            "{lower:?} {upper:?}"
-        );
-    }
+    let upright = [0, 0, 2];
+    assert_eq!(rt; first_other(upright, (Family::X, 1, 0), &LEVEL_RAY), None);
+    assert_eq!(rt; first_other(upright, (Family::Z, 3, 1), &UPRIGHT_RAY), None);
 }
 
 /// Levels of the cylinder that is tilted to x, and the points that stay of the ray along x in the plane of its axis. From 1 mm to 3 mm
 /// they have the heights -4,000, -2,000, 0, 2,000 and 4,000, and the moments 4,000, 2,000, 0, 2,000 and 4,000.
-const RISING: [(Below, Below, u64); 6] = [
+const RISING: [Levels; 6] = [
     // The first just below the height.
     (NONE, (-3_999, 3_999, 4_000), 0b111_1000),
     // The second just at it, and just below it.
@@ -108,7 +112,7 @@ const RISING: [(Below, Below, u64); 6] = [
 ];
 
 /// The same of the cylinder that is tilted against x: the heights go down.
-const FALLING: [(Below, Below, u64); 3] = [
+const FALLING: [Levels; 3] = [
     (NONE, (-3_999, 3_999, 4_000), 0b011_1100),
     ((-3_999, 3_999, 0), (1, 1_999, 4_000), 0b001_1100),
     (NONE, (3_000, 1_000, 4_000), 0b001_1100),
@@ -116,20 +120,7 @@ const FALLING: [(Below, Below, u64); 3] = [
 
 #[test]
 fn levels_of_a_tilted_cylinder(rt: HostRuntime) {
-    for (lower, upper, want) in RISING {
-        let tilted = cylinder([2, 0, 2], lower, upper);
-        assert_eq!(rt;
-            held(&tilted, Family::X, 1, 0),
-            Some(want),
-            "{lower:?} {upper:?}"
-        );
-    }
-    for (lower, upper, want) in FALLING {
-        let tilted = cylinder([-2, 0, 2], lower, upper);
-        assert_eq!(rt;
-            held(&tilted, Family::X, 1, 0),
-            Some(want),
-            "{lower:?} {upper:?}"
-        );
-    }
+    let ray = (Family::X, 1, 0);
+    assert_eq!(rt; first_other([2, 0, 2], ray, &RISING), None);
+    assert_eq!(rt; first_other([-2, 0, 2], ray, &FALLING), None);
 }

@@ -131,35 +131,66 @@ fn strip_window(plan: &Plan, number: u32, strip: u32) -> Option<(u32, u32)> {
     }
 }
 
+/// Whether the plan has 24 strips, four moves and five edits, and these are in their places.
+fn has_its_moves(plan: &Plan) -> bool {
+    plan.grid().strips() == 24
+        && plan.moves() == 4
+        && plan.edits() == 5
+        && edit(plan, 0) == Some(Edit::Apply(0))
+        && edit(plan, 3) == Some(Edit::Redo)
+        && edit(plan, 5).is_none()
+        && is_rapid(plan, 0) == Some(false)
+        && is_rapid(plan, 1) == Some(true)
+}
+
 #[test]
 fn what_a_plan_has(rt: HostRuntime) -> Result<(), Fail> {
-    let plan = plan(rt.alloc())?;
-    assert_eq!(rt; plan.grid().strips(), 24);
-    assert_eq!(rt; plan.moves(), 4);
-    assert_eq!(rt; plan.edits(), 5);
-    assert_eq!(rt; edit(&plan, 0), Some(Edit::Apply(0)));
-    assert_eq!(rt; edit(&plan, 3), Some(Edit::Redo));
-    assert_eq!(rt; edit(&plan, 5), None);
-    assert_eq!(rt; is_rapid(&plan, 0), Some(false));
-    assert_eq!(rt; is_rapid(&plan, 1), Some(true));
+    assert!(rt; has_its_moves(&plan(rt.alloc())?));
     Ok(())
+}
+
+/// Where a move is possible: on a ray, on all rays of a family, in a strip.
+#[derive(Clone, Copy)]
+enum Place {
+    Ray(Family, u32),
+    Rays(Family),
+    Strip(u32),
+}
+
+/// Moves, and their windows.
+const WINDOWS: [(u32, Place, Option<(u32, u32)>); 11] = [
+    (0, Place::Ray(Family::X, 0), Some((0, 4))),
+    (0, Place::Ray(Family::X, 7), Some((0, 0))),
+    (1, Place::Ray(Family::X, 3), Some((13, 16))),
+    (2, Place::Ray(Family::X, 7), Some((0, 16))),
+    (2, Place::Rays(Family::X), None),
+    (3, Place::Rays(Family::X), Some((0, 3))),
+    (3, Place::Rays(Family::Y), Some((12, 16))),
+    (0, Place::Strip(0), Some((0, 1))),
+    (0, Place::Strip(5), Some((0, 0))),
+    (2, Place::Strip(8), Some((0, 0))),
+    (2, Place::Strip(15), Some((0, 2))),
+];
+
+/// The first of the windows that isn't the plan's, where there is one.
+fn first_other(plan: &Plan) -> Option<usize> {
+    for (row, (number, place, due)) in WINDOWS.iter().enumerate() {
+        let window = match *place {
+            Place::Ray(family, i) => ray_window(plan, *number, family, i),
+            Place::Rays(family) => common_window(plan, *number, family),
+            Place::Strip(strip) => strip_window(plan, *number, strip),
+        };
+        if window != *due {
+            return Some(row);
+        }
+    }
+    None
 }
 
 /// The rays along x stand behind the 8 strips of those along z: strip 8 has y = 0, and strip 15 has y = 7 mm. Only the short move has
 /// one box.
 #[test]
 fn where_moves_are_possible(rt: HostRuntime) -> Result<(), Fail> {
-    let plan = plan(rt.alloc())?;
-    assert_eq!(rt; ray_window(&plan, 0, Family::X, 0), Some((0, 4)));
-    assert_eq!(rt; ray_window(&plan, 0, Family::X, 7), Some((0, 0)));
-    assert_eq!(rt; ray_window(&plan, 1, Family::X, 3), Some((13, 16)));
-    assert_eq!(rt; ray_window(&plan, 2, Family::X, 7), Some((0, 16)));
-    assert_eq!(rt; common_window(&plan, 2, Family::X), None);
-    assert_eq!(rt; common_window(&plan, 3, Family::X), Some((0, 3)));
-    assert_eq!(rt; common_window(&plan, 3, Family::Y), Some((12, 16)));
-    assert_eq!(rt; strip_window(&plan, 0, 0), Some((0, 1)));
-    assert_eq!(rt; strip_window(&plan, 0, 5), Some((0, 0)));
-    assert_eq!(rt; strip_window(&plan, 2, 8), Some((0, 0)));
-    assert_eq!(rt; strip_window(&plan, 2, 15), Some((0, 2)));
+    assert_eq!(rt; first_other(&plan(rt.alloc())?), None);
     Ok(())
 }

@@ -22,7 +22,9 @@ const MOVE: Sweep = Sweep {
 };
 
 /// Points of rays, by the node and from one to another, whether a run of them is found, and whether they are found to be clear.
-const ROWS: [(u32, u32, u32, bool, bool); 5] = [
+type Row = (u32, u32, u32, bool, bool);
+
+const ROWS: [Row; 5] = [
     (0, 0, 59, true, false),
     (1, 0, 19, false, true),
     // The ends are farther apart than the ray is off the axis, so that their test says nothing.
@@ -31,12 +33,49 @@ const ROWS: [(u32, u32, u32, bool, bool); 5] = [
     (3, 20, 59, false, true),
 ];
 
+/// Whether a point has this mark by itself.
+fn has_mark(stacks: &Stacks, ray: &Ray, l: u32, mark: Mark) -> bool {
+    let grid = GRID;
+    let sweep = MOVE;
+    grid.has_point(ray, l) && mark_point_uncounted(&sweep, stacks, grid.point(ray, l), 10) == mark
+}
+
+/// Whether the points from one to another have this mark by themselves.
+fn have_mark(stacks: &Stacks, ray: &Ray, from: u32, to: u32, mark: Mark) -> bool {
+    for l in from..to {
+        if !has_mark(stacks, ray, l, mark) {
+            return false;
+        }
+    }
+    has_mark(stacks, ray, to, mark)
+}
+
+/// Whether a run and clear words are found as the row says, and their points have these marks by themselves.
+fn is_found(stacks: &Stacks, row: &Row) -> bool {
+    let grid = GRID;
+    let sweep = MOVE;
+    let (i, from, to, has_run, is_clear) = *row;
+    let ray = Ray {
+        family: Family::X,
+        i,
+        j: 0,
+    };
+    if to < from || !grid.has_point(&ray, to) {
+        return false;
+    }
+    let run = sure_run(&sweep, stacks, 10, &grid, &ray, from, to);
+    let clear = open_stretch(&sweep, stacks, 10, &grid, &ray, from, to).is_none();
+    let is_sure = match run {
+        Some(run) => has_run && have_mark(stacks, &ray, run.first, run.last, Mark::Removed),
+        None => !has_run,
+    };
+    is_sure && clear == is_clear && (!clear || have_mark(stacks, &ray, from, to, Mark::Clear))
+}
+
 /// The points of a run and of clear words have these marks by themselves; a run is found on the ray along the way, and the ones beside
 /// it are clear.
 #[test]
 fn runs_and_clear_words(rt: HostRuntime) -> Result<(), Fail> {
-    let grid = GRID;
-    let sweep = MOVE;
     let cutter = Cutter {
         d: 2_000,
         r: 1_000,
@@ -44,30 +83,8 @@ fn runs_and_clear_words(rt: HostRuntime) -> Result<(), Fail> {
         flank: 0,
     };
     let stacks = Stacks::new(rt.alloc(), cutter, 16)?;
-    for (i, from, to, want_run, want_clear) in ROWS {
-        assert!(rt; from <= to);
-        let ray = Ray {
-            family: Family::X,
-            i,
-            j: 0,
-        };
-        assert!(rt; grid.has_point(&ray, to), "ray {i}");
-        let run = sure_run(&sweep, &stacks, 10, &grid, &ray, from, to);
-        assert_eq!(rt; run.is_some(), want_run, "run on ray {i}");
-        let clear = open_stretch(&sweep, &stacks, 10, &grid, &ray, from, to).is_none();
-        assert_eq!(rt; clear, want_clear, "clear ray {i}");
-        for l in from..to + 1 {
-            assert!(rt; grid.has_point(&ray, l), "point {l}");
-            let mark = mark_point_uncounted(&sweep, &stacks, grid.point(&ray, l), 10);
-            if clear {
-                assert_eq!(rt; mark, Mark::Clear, "point {l} of ray {i}");
-            }
-            if let Some(run) = run {
-                if run.first <= l && l <= run.last {
-                    assert_eq!(rt; mark, Mark::Removed, "point {l} of ray {i}");
-                }
-            }
-        }
+    for (number, row) in ROWS.iter().enumerate() {
+        assert!(rt; is_found(&stacks, row), "row {number}");
     }
     Ok(())
 }

@@ -2,7 +2,6 @@ use axis_cells::{Mark, Sweep};
 use box_bisect::mark_point_uncounted;
 use cutter_slabs::{Cutter, Stacks};
 use ray_grid::{Family, Grid, Ray};
-use std::process::Abort;
 use std::test::Fail;
 use vf_spans::bits::{has_bit, lowest_bits};
 use wanted_marks::{MoveMarker, ReadyMove, WordMarks};
@@ -18,6 +17,27 @@ const GRID: Grid = Grid {
 /// The depth of the samples and cells.
 const DEPTH: u32 = 4;
 
+/// Whether the marks tell of a point what the plain body does, which asks that point alone.
+fn is_plain(sweep: &Sweep, stacks: &Stacks, ray: &Ray, l: u32, marks: &WordMarks) -> bool {
+    let grid = GRID;
+    if l >= 64 || !grid.has_point(ray, l) {
+        return true;
+    }
+    let plain = mark_point_uncounted(sweep, stacks, grid.point(ray, l), DEPTH);
+    has_bit(marks.sure, l) == (plain == Mark::Removed)
+        && has_bit(marks.possible, l) == (plain != Mark::Clear)
+}
+
+/// Whether the marks tell that of all points of the ray.
+fn are_plain(sweep: &Sweep, stacks: &Stacks, ray: &Ray, marks: &WordMarks) -> bool {
+    for l in 0..64 {
+        if !is_plain(sweep, stacks, ray, l, marks) {
+            return false;
+        }
+    }
+    true
+}
+
 /// The marks of all points of a ray, where the lattice has it and its points are one word.
 fn marks_of<'x>(mover: &'x MoveMarker<'x>, grid: &'x Grid, ray: Ray) -> Option<WordMarks> {
     let points = grid.points(ray.family);
@@ -28,25 +48,28 @@ fn marks_of<'x>(mover: &'x MoveMarker<'x>, grid: &'x Grid, ray: Ray) -> Option<W
     Some(marker.mark(0, lowest_bits(points), 0))
 }
 
-/// Whether the marks tell of a point what the plain body does, which asks that point alone.
-fn is_plain(
-    sweep: &Sweep,
-    stacks: &Stacks,
-    grid: &Grid,
-    ray: &Ray,
-    l: u32,
-    marks: &WordMarks,
-) -> bool {
-    if l >= 64 || !grid.has_point(ray, l) {
-        return true;
+/// A ray, and which of its points are sure and possible.
+type Marked = (Family, u32, u32, u64, u64);
+
+/// Whether a ray has these marks.
+fn is_marked(sweep: &Sweep, stacks: &Stacks, marked: &Marked) -> bool {
+    let grid = GRID;
+    let (family, i, j, sure, possible) = *marked;
+    let ray = Ray { family, i, j };
+    let ready = ReadyMove::new(sweep, stacks, DEPTH, &grid);
+    let mover = MoveMarker::of_ready(sweep, stacks, DEPTH, &ready);
+    match marks_of(&mover, &grid, ray) {
+        Some(marks) => {
+            marks.sure == sure
+                && marks.possible == possible
+                && are_plain(sweep, stacks, &ray, &marks)
+        }
+        None => false,
     }
-    let plain = mark_point_uncounted(sweep, stacks, grid.point(ray, l), DEPTH);
-    has_bit(marks.sure, l) == (plain == Mark::Removed)
-        && has_bit(marks.possible, l) == (plain != Mark::Clear)
 }
 
 /// Rays by the ball below, and which of their points are sure and possible.
-const WORDS: [(Family, u32, u32, u64, u64); 3] = [
+const WORDS: [Marked; 3] = [
     (Family::Z, 7, 2, 0xffff_fff8, 0xffff_fffc),
     (Family::Z, 5, 4, 0xffff_fff8, 0xffff_fffc),
     (Family::X, 2, 1, 0x7fff_ffff, 0x3_ffff_ffff),
@@ -70,25 +93,9 @@ fn rays_by_a_ball(rt: HostRuntime) -> Result<(), Fail> {
         axis_from: [0, 0, 100_000],
         axis_to: [0, 0, 100_000],
     };
-    let grid = GRID;
     let stacks = Stacks::new(rt.alloc(), ball, 8)?;
-    let ready = ReadyMove::new(&sweep, &stacks, DEPTH, &grid);
-    let mover = MoveMarker::of_ready(&sweep, &stacks, DEPTH, &ready);
-    for (family, i, j, sure, possible) in WORDS {
-        let ray = Ray { family, i, j };
-        match marks_of(&mover, &grid, ray) {
-            None => assert_eq!(rt; i, 99, "a ray of the lattice"),
-            Some(marks) => {
-                assert_eq!(rt; marks.sure, sure, "sure points of ray {i} {j}");
-                assert_eq!(rt; marks.possible, possible, "possible points of ray {i} {j}");
-                for l in 0..64 {
-                    assert!(rt;
-                        is_plain(&sweep, &stacks, &grid, &ray, l, &marks),
-                        "point {l} of ray {i} {j}"
-                    );
-                }
-            }
-        }
+    for (number, marked) in WORDS.iter().enumerate() {
+        assert!(rt; is_marked(&sweep, &stacks, marked), "row {number}");
     }
     Ok(())
 }

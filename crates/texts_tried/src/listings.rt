@@ -3,6 +3,7 @@ use cl_moves::{CutterText, Move, Moves, Program};
 use report_text::{list_text, point_text};
 use std::alloc::Global;
 use std::test::Fail;
+use vf_io::NoMemory;
 
 /// The height and the flank of a cutter, or none, with a mark for a move of it.
 const MOVES: [(Option<(Option<i32>, u32)>, Option<Mark>); 5] = [
@@ -42,7 +43,7 @@ fn cutter_of(h: Option<i32>, flank: u32) -> CutterText {
 }
 
 /// A program with a move of each cutter, every second one in rapid traverse, and the marks.
-fn program(alloc: Global) -> Result<(Program, Vec<Option<Mark>>), Fail> {
+fn program(alloc: Global) -> Result<(Program, Vec<Option<Mark>>), NoMemory> {
     let mut moves = Moves::new(alloc);
     let mut marks = Vec::new(alloc);
     for (number, (sizes, mark)) in MOVES.iter().enumerate() {
@@ -64,13 +65,30 @@ fn program(alloc: Global) -> Result<(Program, Vec<Option<Mark>>), Fail> {
     Ok((Program { moves, passed: 6 }, marks))
 }
 
+/// The listing of the program.
+fn listing(alloc: Global) -> Result<Vec<u8>, NoMemory> {
+    let (program, _marks) = program(alloc)?;
+    list_text(alloc, &program)
+}
+
+/// The text of its marks, of which there is one a move.
+fn marking(alloc: Global) -> Result<Vec<u8>, NoMemory> {
+    let (program, marks) = program(alloc)?;
+    if marks.len() != program.moves.len() {
+        return Ok(Vec::new(alloc));
+    }
+    point_text(alloc, &program, &marks)
+}
+
 #[test]
 fn lists_and_marks_moves(rt: HostRuntime) -> Result<(), Fail> {
-    let (program, marks) = program(rt.alloc())?;
-    let listing = list_text(rt.alloc(), &program)?;
-    assert_eq!(rt; listing.as_slice(), LISTING.as_bytes(), "listing");
-    assert!(rt; marks.len() == program.moves.len());
-    let marking = point_text(rt.alloc(), &program, &marks)?;
-    assert_eq!(rt; marking.as_slice(), MARKING.as_bytes(), "marks");
+    assert!(rt;
+        listing(rt.alloc())?.as_slice() == LISTING.as_bytes(),
+        "listing"
+    );
+    assert!(rt;
+        marking(rt.alloc())?.as_slice() == MARKING.as_bytes(),
+        "marks"
+    );
     Ok(())
 }

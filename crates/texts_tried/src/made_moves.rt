@@ -1,10 +1,15 @@
 use cl_moves::Move;
 use made_program::made_program;
+use std::alloc::Global;
 use std::test::Fail;
+use vf_io::NoMemory;
+
+/// A number, and where its first move and its last one end.
+type Row = (u32, [i32; 5], [i32; 5]);
 
 /// A number, and where its first move and its last one end: the tip, and the axis along x and along y. The rows were reckoned
 /// apart, by the rule alone.
-const ROWS: [(u32, [i32; 5], [i32; 5]); 7] = [
+const ROWS: [Row; 7] = [
     (
         0,
         [0, 1_467, 3_987, 5_733, -12_886],
@@ -49,20 +54,27 @@ fn end_of(made: &Move) -> [i32; 5] {
     [x, y, z, along_x, along_y]
 }
 
+/// Whether the moves are those of a made program, and its first and last one end there.
+fn are_made(moves: &[Move], first: &[i32; 5], last: &[i32; 5]) -> bool {
+    moves.len() == 24
+        && end_of(&moves[0]) == *first
+        && end_of(&moves[23]) == *last
+        && moves[0].from == [0, 0, 20_000]
+        && moves[23].from == moves[22].to
+        && moves[23].line == 24
+}
+
+/// Whether the program of a number is the one that is due, and passes nothing over.
+fn is_made(alloc: Global, row: &Row) -> Result<bool, NoMemory> {
+    let (number, first, last) = row;
+    let program = made_program(alloc, *number)?;
+    Ok(are_made(program.moves.as_slice(), first, last) && program.passed == 0)
+}
+
 #[test]
 fn made_programs(rt: HostRuntime) -> Result<(), Fail> {
-    for (number, first, last) in ROWS {
-        let Ok(program) = made_program(rt.alloc(), number) else {
-            return Err(Fail::from("no memory for the program"));
-        };
-        let moves = program.moves.as_slice();
-        assert_eq!(rt; moves.len(), 24, "the moves of {number}");
-        assert_eq!(rt; end_of(&moves[0]), first, "the first move of {number}");
-        assert_eq!(rt; end_of(&moves[23]), last, "the last move of {number}");
-        assert_eq!(rt; moves[0].from, [0, 0, 20_000], "the start of {number}");
-        assert_eq!(rt; moves[23].from, moves[22].to, "the last start of {number}");
-        assert_eq!(rt; moves[23].line, 24, "the last line of {number}");
-        assert_eq!(rt; program.passed, 0, "what was passed over of {number}");
+    for row in &ROWS {
+        assert!(rt; is_made(rt.alloc(), row)?, "the program of {}", row.0);
     }
     Ok(())
 }

@@ -4,165 +4,169 @@ use report_text::{Fault, Input, refusal_text};
 use setup_keys::{KeyName, SetupFault};
 use std::alloc::Global;
 use std::test::Fail;
+use vf_io::NoMemory;
 
-/// Refusals, and what is told of them.
+/// Refusals, and the line that tells of each.
 const REFUSALS: [(Fault, &str); 30] = [
     (
         Fault::Cl(ClFault {
             line: 12,
             why: ClWhy::LineLong,
         }),
-        "cl line 12: LineLong",
+        "refused: cl line 12: LineLong\n",
     ),
     (
         Fault::Cl(ClFault {
             line: 12,
             why: ClWhy::DanglingDollar,
         }),
-        "cl line 12: DanglingDollar",
+        "refused: cl line 12: DanglingDollar\n",
     ),
     (
         Fault::Cl(ClFault {
             line: 12,
             why: ClWhy::BadByte,
         }),
-        "cl line 12: BadByte",
+        "refused: cl line 12: BadByte\n",
     ),
     (
         Fault::Cl(ClFault {
             line: 12,
             why: ClWhy::Unsupported(Word::Circle),
         }),
-        "cl line 12: Unsupported CIRCLE",
+        "refused: cl line 12: Unsupported CIRCLE\n",
     ),
     (
         Fault::Cl(ClFault {
             line: 12,
             why: ClWhy::Unsupported(Word::Tlaxis),
         }),
-        "cl line 12: Unsupported TLAXIS",
+        "refused: cl line 12: Unsupported TLAXIS\n",
     ),
     (
         Fault::Cl(ClFault {
             line: 12,
             why: ClWhy::ParamCount,
         }),
-        "cl line 12: ParamCount",
+        "refused: cl line 12: ParamCount\n",
     ),
     (
         Fault::Cl(ClFault {
             line: 12,
             why: ClWhy::ParamWord,
         }),
-        "cl line 12: ParamWord",
+        "refused: cl line 12: ParamWord\n",
     ),
     (
         Fault::Cl(ClFault {
             line: 12,
             why: ClWhy::NumberSyntax,
         }),
-        "cl line 12: NumberSyntax",
+        "refused: cl line 12: NumberSyntax\n",
     ),
     (
         Fault::Cl(ClFault {
             line: 12,
             why: ClWhy::NumberRange,
         }),
-        "cl line 12: NumberRange",
+        "refused: cl line 12: NumberRange\n",
     ),
     (
         Fault::Cl(ClFault {
             line: 12,
             why: ClWhy::CutterShape,
         }),
-        "cl line 12: CutterShape",
+        "refused: cl line 12: CutterShape\n",
     ),
     (
         Fault::Cl(ClFault {
             line: 12,
             why: ClWhy::AxisZero,
         }),
-        "cl line 12: AxisZero",
+        "refused: cl line 12: AxisZero\n",
     ),
     (
         Fault::Cl(ClFault {
             line: 12,
             why: ClWhy::NoPosition,
         }),
-        "cl line 12: NoPosition",
+        "refused: cl line 12: NoPosition\n",
     ),
     (
         Fault::Cl(ClFault {
             line: 12,
             why: ClWhy::AxisFlip,
         }),
-        "cl line 12: AxisFlip",
+        "refused: cl line 12: AxisFlip\n",
     ),
     (
         Fault::Cl(ClFault {
             line: 12,
             why: ClWhy::TooManyMoves,
         }),
-        "cl line 12: TooManyMoves",
+        "refused: cl line 12: TooManyMoves\n",
     ),
-    (Fault::Setup(SetupFault::SetupSyntax), "setup: SetupSyntax"),
+    (
+        Fault::Setup(SetupFault::SetupSyntax),
+        "refused: setup: SetupSyntax\n",
+    ),
     (
         Fault::Setup(SetupFault::SetupKey(KeyName::Setup)),
-        "setup setup: SetupKey",
+        "refused: setup setup: SetupKey\n",
     ),
     (
         Fault::Setup(SetupFault::SetupKey(KeyName::GridPitch)),
-        "setup grid.pitch: SetupKey",
+        "refused: setup grid.pitch: SetupKey\n",
     ),
     (
         Fault::Setup(SetupFault::SetupRange(KeyName::GridPitch, 0)),
-        "setup grid.pitch: SetupRange 0",
+        "refused: setup grid.pitch: SetupRange 0\n",
     ),
     (
         Fault::Setup(SetupFault::SetupRange(KeyName::StockBox, -9_223_372_036_854_775_808)),
-        "setup stock.box: SetupRange -9223372036854775808",
+        "refused: setup stock.box: SetupRange -9223372036854775808\n",
     ),
     (
         Fault::Script(ScriptFault {
             line: 2,
             why: ScriptWhy::ScriptSyntax,
         }),
-        "script line 2: ScriptSyntax",
+        "refused: script line 2: ScriptSyntax\n",
     ),
     (
         Fault::Script(ScriptFault {
             line: 2,
             why: ScriptWhy::ScriptRange,
         }),
-        "script line 2: ScriptRange",
+        "refused: script line 2: ScriptRange\n",
     ),
     (
         Fault::Script(ScriptFault {
             line: 2,
             why: ScriptWhy::UndoDepth { asked: 3, left: 2 },
         }),
-        "script line 2: UndoDepth 3 2",
+        "refused: script line 2: UndoDepth 3 2\n",
     ),
     (
         Fault::Script(ScriptFault {
             line: 2,
             why: ScriptWhy::TooManyEdits,
         }),
-        "script line 2: TooManyEdits",
+        "refused: script line 2: TooManyEdits\n",
     ),
     (
         Fault::Script(ScriptFault {
             line: 2,
             why: ScriptWhy::TooManyQueries,
         }),
-        "script line 2: TooManyQueries",
+        "refused: script line 2: TooManyQueries\n",
     ),
     (
         Fault::Script(ScriptFault {
             line: 2,
             why: ScriptWhy::RedoDepth { asked: 1, left: 0 },
         }),
-        "script line 2: RedoDepth 1 0",
+        "refused: script line 2: RedoDepth 1 0\n",
     ),
     (
         Fault::Script(ScriptFault {
@@ -172,28 +176,26 @@ const REFUSALS: [(Fault, &str); 30] = [
                 left: 100_000,
             },
         }),
-        "script line 2: RedoDepth 999999999 100000",
+        "refused: script line 2: RedoDepth 999999999 100000\n",
     ),
-    (Fault::TooLong(Input::Cl), "cl: TooLong"),
-    (Fault::TooLong(Input::Setup), "setup: TooLong"),
-    (Fault::TooLong(Input::Script), "script: TooLong"),
+    (Fault::TooLong(Input::Cl), "refused: cl: TooLong\n"),
+    (Fault::TooLong(Input::Setup), "refused: setup: TooLong\n"),
+    (Fault::TooLong(Input::Script), "refused: script: TooLong\n"),
     (
         Fault::CutterHeight(4_294_967_295),
-        "cl line 4294967295: CutterHeight",
+        "refused: cl line 4294967295: CutterHeight\n",
     ),
 ];
 
-/// Whether the line of a refusal tells this of it.
-fn tells(alloc: Global, fault: &Fault, told: &str) -> Result<bool, Fail> {
-    let due = format!(in alloc; "refused: {told}\n")?;
-    let text = refusal_text(alloc, fault)?;
-    Ok(text.as_slice() == due.as_bytes())
+/// Whether the line of a refusal is this one.
+fn is_told(alloc: Global, fault: &Fault, line: &str) -> Result<bool, NoMemory> {
+    Ok(refusal_text(alloc, fault)?.as_slice() == line.as_bytes())
 }
 
 #[test]
 fn refuses_with_one_line(rt: HostRuntime) -> Result<(), Fail> {
-    for (fault, told) in REFUSALS {
-        assert!(rt; tells(rt.alloc(), &fault, told)?, "{told}");
+    for (fault, line) in &REFUSALS {
+        assert!(rt; is_told(rt.alloc(), fault, line)?, "{line}");
     }
     Ok(())
 }

@@ -4,6 +4,7 @@ use ray_grid::{Family, Ray};
 use report_text::{report_text, selftest_text};
 use std::alloc::Global;
 use std::test::Fail;
+use vf_io::NoMemory;
 
 /// What was found of a move: its number, its line, whether it is rapid, and its counts in the order of its line.
 type FoundRow = (u32, u32, bool, [u64; 8]);
@@ -78,7 +79,7 @@ fn answer(told: &Told) -> (Ask, Answer) {
 }
 
 /// The facts of a job.
-fn facts(alloc: Global, job: &Job) -> Result<Facts, Fail> {
+fn facts(alloc: Global, job: &Job) -> Result<Facts, NoMemory> {
     let mut left = Vec::new(alloc);
     for row in job.left {
         left.push(found(row))?;
@@ -232,43 +233,59 @@ const JOBS: [Job; 7] = [
     },
 ];
 
+/// Whether the report of the job is the one that is due.
+fn is_reported(alloc: Global, job: &Job) -> Result<bool, NoMemory> {
+    let facts = facts(alloc, job)?;
+    Ok(facts.is_answered() && report_text(alloc, &facts)?.as_slice() == job.due.as_bytes())
+}
+
 #[test]
 fn reports_jobs(rt: HostRuntime) -> Result<(), Fail> {
     for job in &JOBS {
-        let facts = facts(rt.alloc(), job)?;
-        assert!(rt; facts.is_answered());
-        let text = report_text(rt.alloc(), &facts)?;
-        assert_eq!(rt; text.as_slice(), job.due.as_bytes(), "{}", job.due);
+        assert!(rt; is_reported(rt.alloc(), job)?, "{}", job.due);
     }
     Ok(())
 }
 
+/// The number of a made job, its points that are removed and those that may be, and its text.
+const MADE: [(u32, u64, u64, bool, &str); 2] = [
+    (
+        1,
+        2748,
+        2970,
+        true,
+        "clverify selftest 1\ntotal removed 2748 possible 2970 of 8712\nverdict clean\n",
+    ),
+    (
+        5260,
+        3461,
+        3636,
+        false,
+        "clverify selftest 5260\ntotal removed 3461 possible 3636 of 8712\nverdict findings\n",
+    ),
+];
+
+/// The text of a made job, whether it is clean or not.
+fn made_text(
+    alloc: Global,
+    number: u32,
+    removed: u64,
+    possible: u64,
+    clean: bool,
+) -> Result<Vec<u8>, NoMemory> {
+    let totals = Totals {
+        removed,
+        possible,
+        of: 8712,
+    };
+    selftest_text(alloc, number, &totals, clean)
+}
+
 #[test]
 fn tells_of_made_jobs(rt: HostRuntime) -> Result<(), Fail> {
-    let rows = [
-        (
-            1,
-            2748,
-            2970,
-            true,
-            "clverify selftest 1\ntotal removed 2748 possible 2970 of 8712\nverdict clean\n",
-        ),
-        (
-            5260,
-            3461,
-            3636,
-            false,
-            "clverify selftest 5260\ntotal removed 3461 possible 3636 of 8712\nverdict findings\n",
-        ),
-    ];
-    for (number, removed, possible, clean, due) in rows {
-        let totals = Totals {
-            removed,
-            possible,
-            of: 8712,
-        };
-        let text = selftest_text(rt.alloc(), number, &totals, clean)?;
-        assert_eq!(rt; text.as_slice(), due.as_bytes(), "{due}");
+    for (number, removed, possible, clean, due) in &MADE {
+        let text = made_text(rt.alloc(), *number, *removed, *possible, *clean)?;
+        assert!(rt; text.as_slice() == due.as_bytes(), "{due}");
     }
     Ok(())
 }

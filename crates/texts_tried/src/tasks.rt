@@ -1,11 +1,11 @@
-use job_inputs::{ReadyTask, Stopped, made_inputs, make_ready, read_moves, read_task};
+use job_inputs::{Stopped, made_inputs, make_ready, read_moves, read_task};
 use report_text::refusal_text;
 use std::alloc::Global;
 use std::test::Fail;
 use vf_io::{MemShelf, NoMemory};
 
 /// Files as they are handed over.
-fn owned_files(alloc: Global, named: &[(&str, &[u8])]) -> Result<Vec<(String, Vec<u8>)>, Fail> {
+fn owned_files(alloc: Global, named: &[(&str, &[u8])]) -> Result<Vec<(String, Vec<u8>)>, NoMemory> {
     let mut owned = Vec::new(alloc);
     for (name, bytes) in named {
         owned.push((
@@ -16,13 +16,17 @@ fn owned_files(alloc: Global, named: &[(&str, &[u8])]) -> Result<Vec<(String, Ve
     Ok(owned)
 }
 
-/// The line of what stops a command.
-fn told(alloc: Global, stopped: Stopped) -> Result<Vec<u8>, Fail> {
+/// The line of what stops a command: none where the file isn't read, or no memory is found.
+fn told(alloc: Global, stopped: Stopped) -> Result<Vec<u8>, NoMemory> {
     match stopped {
-        Stopped::Refused(fault) => Ok(refusal_text(alloc, &fault)?),
-        Stopped::ReadFault => Err(Fail::from("the file is read")),
-        Stopped::NoMemory => Err(Fail::from("memory is found")),
+        Stopped::Refused(fault) => refusal_text(alloc, &fault),
+        _ => Ok(Vec::new(alloc)),
     }
+}
+
+/// A shelf of these files.
+fn shelf_of(alloc: Global, named: &[(&str, &[u8])]) -> Result<MemShelf, NoMemory> {
+    Ok(MemShelf::new(owned_files(alloc, named)?, Vec::new(alloc)))
 }
 
 /// Programs that are cut off, and how many moves and records that are passed over are left of each.
@@ -35,16 +39,19 @@ const CUT_OFF: [(&[u8], usize, u32); 6] = [
     (b"CUTTER/2,0\r\nFROM/0,1,1\r\nGOTO/2,1,1\r\nFINI\r\n", 1, 0),
 ];
 
+/// Whether the program is read, and has so many moves and passes so many records over.
+fn is_read(alloc: Global, text: &[u8], moves: usize, passed: u32) -> Result<bool, NoMemory> {
+    let mut shelf = shelf_of(alloc, &[("A", text)])?;
+    match read_moves(alloc, "A", &mut shelf) {
+        Ok(program) => Ok(program.moves.len() == moves && program.passed == passed),
+        Err(_) => Ok(false),
+    }
+}
+
 #[test]
 fn programs_that_are_cut_off(rt: HostRuntime) -> Result<(), Fail> {
-    for (text, moves, passed) in CUT_OFF {
-        let files = owned_files(rt.alloc(), &[("A", text)])?;
-        let mut shelf = MemShelf::new(files, Vec::new(rt.alloc()));
-        let Ok(program) = read_moves(rt.alloc(), "A", &mut shelf) else {
-            return Err(Fail::from("the program is read"));
-        };
-        assert_eq!(rt; program.moves.len(), moves, "the moves of {text:?}");
-        assert_eq!(rt; program.passed, passed, "what {text:?} passes over");
+    for (text, moves, passed) in &CUT_OFF {
+        assert!(rt; is_read(rt.alloc(), text, *moves, *passed)?, "{text:?}");
     }
     Ok(())
 }
@@ -63,16 +70,19 @@ const DAMAGED: [(&[u8], &str); 7] = [
     (b"GOTO/1,2,$\n", "refused: cl line 1: DanglingDollar\n"),
 ];
 
+/// Whether the program is refused with this line.
+fn is_damaged(alloc: Global, text: &[u8], line: &str) -> Result<bool, NoMemory> {
+    let mut shelf = shelf_of(alloc, &[("A", text)])?;
+    match read_moves(alloc, "A", &mut shelf) {
+        Ok(_program) => Ok(false),
+        Err(stopped) => Ok(told(alloc, stopped)?.as_slice() == line.as_bytes()),
+    }
+}
+
 #[test]
 fn programs_that_are_damaged(rt: HostRuntime) -> Result<(), Fail> {
-    for (text, line) in DAMAGED {
-        let files = owned_files(rt.alloc(), &[("A", text)])?;
-        let mut shelf = MemShelf::new(files, Vec::new(rt.alloc()));
-        let Err(stopped) = read_moves(rt.alloc(), "A", &mut shelf) else {
-            return Err(Fail::from("the program is refused"));
-        };
-        let refusal = told(rt.alloc(), stopped)?;
-        assert_eq!(rt; refusal.as_slice(), line.as_bytes(), "the line of {text:?}");
+    for (text, line) in &DAMAGED {
+        assert!(rt; is_damaged(rt.alloc(), text, line)?, "{text:?}");
     }
     Ok(())
 }
@@ -104,80 +114,105 @@ height = 5000\n\
 [[stock]]\n\
 box = [0, 0, 0, 2500, 2500, 1500]\n";
 
-/// The task of these files, made ready, or the line of what they are refused with.
-fn ready_or_told(
+/// Whether the files are refused with this line.
+fn are_refused(
     alloc: Global,
     files: &[(&str, &[u8])],
     script: Option<&str>,
-) -> Result<Result<ReadyTask, Vec<u8>>, Fail> {
-    let mut shelf = MemShelf::new(owned_files(alloc, files)?, Vec::new(alloc));
+    line: &str,
+) -> Result<bool, NoMemory> {
+    let mut shelf = shelf_of(alloc, files)?;
     match read_task(alloc, "A", "S", script, &mut shelf) {
-        Ok(inputs) => Ok(Ok(make_ready(alloc, inputs)?)),
-        Err(stopped) => Ok(Err(told(alloc, stopped)?)),
+        Ok(_inputs) => Ok(false),
+        Err(stopped) => Ok(told(alloc, stopped)?.as_slice() == line.as_bytes()),
     }
 }
 
-/// The line that these files are refused with.
-fn line_of(alloc: Global, files: &[(&str, &[u8])], script: Option<&str>) -> Result<Vec<u8>, Fail> {
-    match ready_or_told(alloc, files, script)? {
-        Ok(_ready) => Err(Fail::from("the files are refused")),
-        Err(line) => Ok(line),
-    }
+/// A task, with a script of two edits and a query.
+const TASK: [(&str, &[u8]); 3] = [
+    ("A", FLAT),
+    ("S", STOCK),
+    ("F", b"run 1 1\ncount\nundo 1\n"),
+];
+
+/// Whether the task with this script is made ready, with one move and so many edits and queries.
+fn is_ready(
+    alloc: Global,
+    script: Option<&str>,
+    edits: u32,
+    queries: usize,
+) -> Result<bool, NoMemory> {
+    let mut shelf = shelf_of(alloc, &TASK)?;
+    let Ok(inputs) = read_task(alloc, "A", "S", script, &mut shelf) else {
+        return Ok(false);
+    };
+    let ready = make_ready(alloc, inputs)?;
+    Ok(ready.plan.moves() == 1 && ready.plan.edits() == edits && ready.queries.len() == queries)
+}
+
+/// The moves of a made task that is made ready.
+fn made_moves(alloc: Global) -> Result<u32, NoMemory> {
+    let made = make_ready(alloc, made_inputs(alloc, 1)?)?;
+    Ok(made.plan.moves())
 }
 
 #[test]
 fn tasks_are_made_ready(rt: HostRuntime) -> Result<(), Fail> {
     let alloc = rt.alloc();
-    let files: [(&str, &[u8]); 3] = [
-        ("A", FLAT),
-        ("S", STOCK),
-        ("F", b"run 1 1\ncount\nundo 1\n"),
-    ];
-    for (script, edits, queries) in [(None, 1, 0), (Some("F"), 2, 1)] {
-        let Ok(ready) = ready_or_told(alloc, &files, script)? else {
-            return Err(Fail::from("the files are a task"));
-        };
-        assert_eq!(rt; ready.plan.moves(), 1, "the moves with {script:?}");
-        assert_eq!(rt; ready.plan.edits(), edits, "the edits with {script:?}");
-        assert_eq!(rt; ready.queries.len(), queries, "the queries with {script:?}");
-    }
-    let Ok(inputs) = made_inputs(alloc, 1) else {
-        return Err(Fail::from("memory is found"));
-    };
-    let made = make_ready(alloc, inputs)?;
-    assert_eq!(rt; made.plan.moves(), 24, "the moves of a made task");
+    assert!(rt; is_ready(alloc, None, 1, 0)?, "a task without a script");
+    assert!(rt; is_ready(alloc, Some("F"), 2, 1)?, "a task with a script");
+    assert_eq!(rt; made_moves(alloc)?, 24);
     Ok(())
 }
 
-/// A text of so many blanks.
-fn blanks(alloc: Global, count: usize) -> Result<String, NoMemory> {
-    Ok(" ".repeat(alloc, count)?)
+/// Whether the program with this setup is refused with this line.
+fn is_refused(alloc: Global, setup: &[u8], line: &str) -> Result<bool, NoMemory> {
+    are_refused(alloc, &[("A", FLAT), ("S", setup)], None, line)
 }
 
-/// The setup with another text in place of one.
-fn stock_with(alloc: Global, text: &str, other: &str) -> Result<String, Fail> {
-    Ok(std::str::from_utf8(STOCK)?.replace(alloc, text, other)?)
+/// Whether the program is refused with this line where another text stands in place of one in the setup.
+fn is_refused_with(alloc: Global, text: &str, other: &str, line: &str) -> Result<bool, NoMemory> {
+    let Ok(stock) = std::str::from_utf8(STOCK) else {
+        return Ok(false);
+    };
+    let setup = stock.replace(alloc, text, other)?;
+    is_refused(alloc, setup.as_bytes(), line)
 }
+
+/// Whether the program with so many blanks for a setup is refused with this line.
+fn are_blanks_refused(alloc: Global, count: usize, line: &str) -> Result<bool, NoMemory> {
+    let setup = " ".repeat(alloc, count)?;
+    is_refused(alloc, setup.as_bytes(), line)
+}
+
+/// What stands in place of a text in the setup, and the line that the files are refused with.
+const SETUPS: [(&str, &str, &str); 2] = [
+    (
+        "[3, 3, 2]",
+        "[3, 3, 401]",
+        "refused: setup grid.counts: SetupRange 401\n",
+    ),
+    (
+        "1500]\n",
+        "1500]\nspeed = 1\n",
+        "refused: setup stock: SetupKey\n",
+    ),
+];
 
 #[test]
 fn setups_that_are_damaged(rt: HostRuntime) -> Result<(), Fail> {
     let alloc = rt.alloc();
-    let high = stock_with(alloc, "[3, 3, 2]", "[3, 3, 401]")?;
-    let keyed = stock_with(alloc, "1500]\n", "1500]\nspeed = 1\n")?;
-    let blank = blanks(alloc, 1_048_577)?;
-    let rows: [(&[u8], &str); 4] = [
-        (b"\xff", "refused: setup: SetupSyntax\n"),
-        (
-            high.as_bytes(),
-            "refused: setup grid.counts: SetupRange 401\n",
-        ),
-        (keyed.as_bytes(), "refused: setup stock: SetupKey\n"),
-        (blank.as_bytes(), "refused: setup: TooLong\n"),
-    ];
-    for (setup, text) in rows {
-        let line = line_of(alloc, &[("A", FLAT), ("S", setup)], None)?;
-        assert_eq!(rt; line.as_slice(), text.as_bytes(), "the line of {text}");
+    assert!(rt;
+        is_refused(alloc, b"\xff", "refused: setup: SetupSyntax\n")?,
+        "no text"
+    );
+    for (text, other, line) in &SETUPS {
+        assert!(rt; is_refused_with(alloc, text, other, line)?, "{other}");
     }
+    assert!(rt;
+        are_blanks_refused(alloc, 1_048_577, "refused: setup: TooLong\n")?,
+        "too long"
+    );
     Ok(())
 }
 
@@ -207,12 +242,22 @@ const SCRIPTS: [(&[u8], &[u8], &str); 6] = [
     (LOW, b"go\n", "refused: cl line 3: CutterHeight\n"),
 ];
 
+/// Whether the program with this script is refused with this line.
+fn is_script_refused<'x>(
+    alloc: Global,
+    program: &'x [u8],
+    script: &'x [u8],
+    line: &str,
+) -> Result<bool, NoMemory> {
+    let files = [("A", program), ("S", STOCK), ("F", script)];
+    are_refused(alloc, &files, Some("F"), line)
+}
+
 #[test]
 fn scripts_that_are_damaged(rt: HostRuntime) -> Result<(), Fail> {
-    for (program, script, text) in SCRIPTS {
-        let files = [("A", program), ("S", STOCK), ("F", script)];
-        let line = line_of(rt.alloc(), &files, Some("F"))?;
-        assert_eq!(rt; line.as_slice(), text.as_bytes(), "the line of {text}");
+    let alloc = rt.alloc();
+    for (program, script, line) in &SCRIPTS {
+        assert!(rt; is_script_refused(alloc, program, script, line)?, "{line}");
     }
     Ok(())
 }
@@ -220,11 +265,7 @@ fn scripts_that_are_damaged(rt: HostRuntime) -> Result<(), Fail> {
 /// Where the program is refused no setup is looked for.
 #[test]
 fn a_program_is_refused_without_a_setup(rt: HostRuntime) -> Result<(), Fail> {
-    let files: [(&str, &[u8]); 1] = [("A", b"GOTO/")];
-    let line = line_of(rt.alloc(), &files, None)?;
-    assert_eq!(rt;
-        line.as_slice(),
-        b"refused: cl line 1: ParamCount\n".as_slice()
-    );
+    let line = "refused: cl line 1: ParamCount\n";
+    assert!(rt; are_refused(rt.alloc(), &[("A", b"GOTO/")], None, line)?);
     Ok(())
 }

@@ -12,6 +12,7 @@ use std::sync::Wait;
 use std::test::Fail;
 use std::thread;
 use std::thread::Threads;
+use strip_journal::Strip;
 use strip_turns::{Board, Pass, Turned};
 use vf_io::NoMemory;
 
@@ -91,45 +92,68 @@ fn asked<R: Wait>(
     Ok(answers)
 }
 
-/// The log of both has no bytes, so what `claim` gave is looked at in its place.
-#[test]
-fn tickets_of_two_threads(rt: HostRuntime) -> Result<(), Fail> {
-    let alloc = rt.alloc();
-    let (board, mut pass) = board(alloc)?;
-    let mut other = board.split(&mut pass);
-    let (one, two) = drawn_by_two(&rt, &board, &mut pass, &mut other);
-    board.merge(&mut pass, other);
-
+/// Whether the tickets of both are 0 to 199, each once.
+fn are_all(alloc: Global, one: &[u64; 100], two: &[u64; 100]) -> Result<bool, NoMemory> {
     let mut tickets = Vec::from_slice(alloc, one.as_slice())?;
     tickets.extend_from_slice(two.as_slice())?;
     tickets.sort()?;
-    assert_eq!(rt; tickets.len(), 200);
     for (k, ticket) in tickets.iter().enumerate() {
-        assert_eq!(rt; *ticket, k as u64);
+        if *ticket != k as u64 {
+            return Ok(false);
+        }
     }
-    for strip in &board.close(alloc, pass)? {
-        assert_eq!(rt; strip.done(), 0);
+    Ok(tickets.len() == 200)
+}
+
+/// Whether no strip was turned.
+fn are_fresh(strips: &[Strip]) -> bool {
+    for strip in strips {
+        if strip.done() != 0 {
+            return false;
+        }
     }
+    true
+}
+
+/// Whether two threads draw all tickets on a board, and turn none of its strips.
+fn is_drawn<R: Threads + Sync>(rt: &R, alloc: Global) -> Result<bool, NoMemory> {
+    let (board, mut pass) = board(alloc)?;
+    let mut other = board.split(&mut pass);
+    let (one, two) = drawn_by_two(rt, &board, &mut pass, &mut other);
+    board.merge(&mut pass, other);
+    let strips = board.close(alloc, pass)?;
+    Ok(are_all(alloc, &one, &two)? && are_fresh(&strips))
+}
+
+/// The log of both has no bytes, so what `claim` gave is looked at in its place.
+#[test]
+fn tickets_of_two_threads(rt: HostRuntime) -> Result<(), Fail> {
+    assert!(rt; is_drawn(&rt, rt.alloc())?);
     Ok(())
 }
 
-/// Strip 0 is ahead of all queries but the last two, and the others come to each.
-#[test]
-fn what_one_pass_is_told(rt: HostRuntime) -> Result<(), Fail> {
-    let alloc = rt.alloc();
+/// Whether one pass draws the first tickets, takes a strip to the end of its edits, and is told the answers that are due.
+fn is_told<R: Wait>(rt: &R, alloc: Global) -> Result<bool, NoMemory> {
     let (board, mut pass) = board(alloc)?;
     let tickets = [
         board.claim(&mut pass),
         board.claim(&mut pass),
         board.claim(&mut pass),
     ];
-    assert_eq!(rt; tickets, [0, 1, 2]);
-    let there = Turned::Moved { from: 0, to: 5 };
-    assert_eq!(rt; board.turn(&mut pass, 0), there);
-
+    let turned = board.turn(&mut pass, 0);
     let queries = queries(alloc, board.plan())?;
-    let told = asked(&rt, alloc, &board, &mut pass, &queries)?;
-    assert_eq!(rt; told.as_slice(), answers().as_slice());
-    board.finish(&rt, &mut pass)?;
+    let told = asked(rt, alloc, &board, &mut pass, &queries)?;
+    board.finish(rt, &mut pass)?;
+    Ok(
+        tickets == [0, 1, 2]
+            && turned == Turned::Moved { from: 0, to: 5 }
+            && told.as_slice() == answers().as_slice(),
+    )
+}
+
+/// Strip 0 is ahead of all queries but the last two, and the others come to each.
+#[test]
+fn what_one_pass_is_told(rt: HostRuntime) -> Result<(), Fail> {
+    assert!(rt; is_told(&rt, rt.alloc())?);
     Ok(())
 }

@@ -80,33 +80,49 @@ fn removed(states: &[PointState]) -> usize {
     count
 }
 
+/// Whether strips that were taken to a newer version tell of this one what these states are.
+fn are_told(
+    alloc: Global,
+    plan: &Plan,
+    newest: u32,
+    version: u32,
+    states: &[PointState],
+) -> Result<bool, NoMemory>
+    requires order { version ≤ newest }
+    requires within { newest ≤ length plan.now.edits }
+{
+    Ok(states_at(alloc, plan, newest, version)?.as_slice() == states)
+}
+
+/// Whether so many of the 108 points are removed at a version, and newer strips tell of it what strips tell that stand there.
+fn is_told(alloc: Global, plan: &Plan, version: u32, due: usize) -> Result<bool, NoMemory>
+    requires edits { length plan.now.edits ≡ 10 }
+    requires within { version ≤ 10 }
+{
+    let fresh = states_at(alloc, plan, version, version)?;
+    if fresh.len() != 108 || removed(&fresh) != due {
+        return Ok(false);
+    }
+    if version <= 5 && !are_told(alloc, plan, 5, version, &fresh)? {
+        return Ok(false);
+    }
+    are_told(alloc, plan, 10, version, &fresh)
+}
+
+/// The first version that isn't told as it was, where there is one.
+fn first_other(alloc: Global) -> Result<Option<u32>, NoMemory> {
+    let plan = plan(alloc, more_edits(alloc)?)?;
+    for version in 0..11 {
+        if !is_told(alloc, &plan, version, REMOVED[version as usize])? {
+            return Ok(Some(version));
+        }
+    }
+    Ok(None)
+}
+
 /// Strips tell of each version what strips told that stood there, before it was dropped and after.
 #[test]
 fn each_version_is_told_as_it_was(rt: HostRuntime) -> Result<(), Fail> {
-    let alloc = rt.alloc();
-    let plan = plan(alloc, more_edits(alloc)?)?;
-    for version in 0..11 {
-        let fresh = states_at(alloc, &plan, version, version)?;
-        assert_eq!(rt; fresh.len(), 108, "version {version}");
-        assert_eq!(rt;
-            removed(&fresh),
-            REMOVED[version as usize],
-            "version {version}"
-        );
-        let late = states_at(alloc, &plan, 10, version)?;
-        assert_eq!(rt;
-            late.as_slice(),
-            fresh.as_slice(),
-            "version {version} seen from 10"
-        );
-        if version <= 5 {
-            let between = states_at(alloc, &plan, 5, version)?;
-            assert_eq!(rt;
-                between.as_slice(),
-                fresh.as_slice(),
-                "version {version} seen from 5"
-            );
-        }
-    }
+    assert_eq!(rt; first_other(rt.alloc())?, None);
     Ok(())
 }

@@ -2,6 +2,8 @@
 #![tactic(auto)]
 
 mod answers;
+#[cfg(test)]
+mod calls;
 mod cut_shelf;
 mod folder_shelf;
 mod memory_shelf;

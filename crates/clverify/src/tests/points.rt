@@ -1,4 +1,4 @@
-use super::{USAGE, answer};
+use super::{USAGE, is_answered};
 use std::test::Fail;
 
 /// The longest move that there is, with the largest cutter.
@@ -27,44 +27,53 @@ moves 5\n";
 /// A ball cutter that is less high than its corner radius, on two moves.
 const LOW: &[u8] = b"CUTTER/4,2,0,2,0,0,1\nFROM/0,0,0\nGOTO/1,0,0\nGOTO/2,0,0\n";
 
+/// A file, the words of a call, the code and the text.
+const POINTS: [(&[u8], &[&str], u8, &str); 5] = [
+    (
+        CUTTERS,
+        &["point", "a.cls", "2", "0", "1", "--depth", "0"],
+        0,
+        CUTTERS_MARKED,
+    ),
+    (
+        LOW,
+        &["point", "a.cls", "0", "0", "0", "--depth", "0"],
+        3,
+        "refused: cl line 3: CutterHeight\n",
+    ),
+    (
+        b"FROM/0,0,0\nGOTO/1,x,2\n",
+        &["point", "a.cls", "0", "0", "0", "--depth", "0"],
+        3,
+        "refused: cl line 2: NumberSyntax\n",
+    ),
+    (
+        LARGEST,
+        &["point", "a.cls", "0", "0", "0", "--depth", "11"],
+        2,
+        USAGE,
+    ),
+    (
+        b"",
+        &["point", "b.cls", "0", "0", "0", "--depth", "0"],
+        4,
+        "",
+    ),
+];
+
 #[test]
 fn marks_each_move_or_refuses(rt: HostRuntime) -> Result<(), Fail> {
-    let rows: [(&[u8], &[&str], u8, &str); 5] = [
-        (
-            CUTTERS,
-            &["point", "a.cls", "2", "0", "1", "--depth", "0"],
-            0,
-            CUTTERS_MARKED,
-        ),
-        (
-            LOW,
-            &["point", "a.cls", "0", "0", "0", "--depth", "0"],
-            3,
-            "refused: cl line 3: CutterHeight\n",
-        ),
-        (
-            b"FROM/0,0,0\nGOTO/1,x,2\n",
-            &["point", "a.cls", "0", "0", "0", "--depth", "0"],
-            3,
-            "refused: cl line 2: NumberSyntax\n",
-        ),
-        (
-            LARGEST,
-            &["point", "a.cls", "0", "0", "0", "--depth", "11"],
-            2,
-            USAGE,
-        ),
-        (
-            b"",
-            &["point", "b.cls", "0", "0", "0", "--depth", "0"],
-            4,
-            "",
-        ),
-    ];
-    for (file, words, code, text) in rows {
-        let (status, written) = answer(&rt, rt.alloc(), words, file, &[], &[])?;
-        assert_eq!(rt; status.code(), code, "the code of {text}");
-        assert_eq!(rt; written.as_slice(), text.as_bytes(), "the text of {text}");
+    for (file, words, code, text) in &POINTS {
+        let is_due = is_answered(
+            &rt,
+            rt.alloc(),
+            words,
+            &[("a.cls", file)],
+            &[],
+            &[],
+            (*code, text),
+        )?;
+        assert!(rt; is_due, "the text of {text}");
     }
     Ok(())
 }

@@ -1,5 +1,9 @@
-use super::{CLEAN, FLAT, STOCK, USAGE, answer_over, part_setup, stock_with};
+use super::{CLEAN, FLAT, STOCK, USAGE, is_answered, part_setup, stock_with};
+use std::alloc::Global;
+use std::sync::Wait;
 use std::test::Fail;
+use std::thread::Threads;
+use vf_io::NoMemory;
 
 /// What is due to the setup, up to its second line.
 const TWO_LINES: &str = "clverify 1\nmoves 1 left 1 passed 0\n";
@@ -41,34 +45,46 @@ const REPORTS: [(&[&str], &[u64], u8, &str); 5] = [
     (&["verify", "A", "S"], &[2], 5, TWO_LINES),
 ];
 
-#[test]
-fn tasks_are_reported(rt: HostRuntime) -> Result<(), Fail> {
-    let part = part_setup(rt.alloc())?;
+/// Whether the task of these words is answered so, where the puts with these numbers fail.
+fn is_reported<R: Threads + Wait + Sync>(
+    rt: &R,
+    alloc: Global,
+    words: &[&str],
+    writes: &[u64],
+    due: (u8, &str),
+) -> Result<bool, NoMemory> {
+    let part = part_setup(alloc)?;
     let files: [(&str, &[u8]); 4] = [
         ("A", FLAT),
         ("S", STOCK),
         ("P", part.as_bytes()),
         ("F", b"run 1 1\ncount\nundo 1\n"),
     ];
-    for (words, writes, code, text) in REPORTS {
-        let (status, written) = answer_over(&rt, rt.alloc(), words, &files, &[], writes)?;
-        assert_eq!(rt; status.code(), code, "the code of {words:?}");
-        assert_eq!(rt;
-            written.as_slice(),
-            text.as_bytes(),
-            "the text of {words:?}"
+    is_answered(rt, alloc, words, &files, &[], writes, due)
+}
+
+#[test]
+fn tasks_are_reported(rt: HostRuntime) -> Result<(), Fail> {
+    for (words, writes, code, text) in &REPORTS {
+        assert!(rt;
+            is_reported(&rt, rt.alloc(), words, writes, (*code, text))?,
+            "{words:?}"
         );
     }
     Ok(())
 }
 
+/// The words of a made task, the code and the text.
+const MADE: [(&[&str], u8, &str); 2] = [
+    (&["selftest", "1"], 0, SELFTEST_1),
+    (&["selftest", "5260"], 1, SELFTEST_5260),
+];
+
 #[test]
 fn made_tasks_are_summed_up(rt: HostRuntime) -> Result<(), Fail> {
-    for (number, code, text) in [("1", 0, SELFTEST_1), ("5260", 1, SELFTEST_5260)] {
-        let words = ["selftest", number];
-        let (status, written) = answer_over(&rt, rt.alloc(), &words, &[], &[], &[])?;
-        assert_eq!(rt; status.code(), code, "the code of {number}");
-        assert_eq!(rt; written.as_slice(), text.as_bytes(), "the text of {number}");
+    for (words, code, text) in &MADE {
+        let is_due = is_answered(&rt, rt.alloc(), words, &[], &[], &[], (*code, text))?;
+        assert!(rt; is_due, "{words:?}");
     }
     Ok(())
 }
@@ -89,22 +105,29 @@ const REFUSALS: [(&[&str], u8, &str); 4] = [
     ),
 ];
 
-#[test]
-fn faults_are_told_in_place_of_a_report(rt: HostRuntime) -> Result<(), Fail> {
-    let no_pitch = stock_with(rt.alloc(), "pitch = 1000\n", "")?;
+/// Whether the task of these words is refused so.
+fn is_refused<R: Threads + Wait + Sync>(
+    rt: &R,
+    alloc: Global,
+    words: &[&str],
+    due: (u8, &str),
+) -> Result<bool, NoMemory> {
+    let no_pitch = stock_with(alloc, "pitch = 1000\n", "")?;
     let files: [(&str, &[u8]); 4] = [
         ("A", FLAT),
         ("S", STOCK),
         ("N", no_pitch.as_bytes()),
         ("G", b"go\n"),
     ];
-    for (words, code, text) in REFUSALS {
-        let (status, written) = answer_over(&rt, rt.alloc(), words, &files, &[], &[])?;
-        assert_eq!(rt; status.code(), code, "the code of {words:?}");
-        assert_eq!(rt;
-            written.as_slice(),
-            text.as_bytes(),
-            "the text of {words:?}"
+    is_answered(rt, alloc, words, &files, &[], &[], due)
+}
+
+#[test]
+fn faults_are_told_in_place_of_a_report(rt: HostRuntime) -> Result<(), Fail> {
+    for (words, code, text) in &REFUSALS {
+        assert!(rt;
+            is_refused(&rt, rt.alloc(), words, (*code, text))?,
+            "{words:?}"
         );
     }
     Ok(())

@@ -1,6 +1,10 @@
 use super::{FLAT, STOCK, owned_files, owned_words, part_setup};
 use crate::verdict::verdict_of;
+use std::alloc::Global;
+use std::sync::Wait;
 use std::test::Fail;
+use std::thread::Threads;
+use vf_io::NoMemory;
 
 /// The words of a call, and the code of its verdict.
 const ROWS: [(&[&str], u8); 6] = [
@@ -12,15 +16,27 @@ const ROWS: [(&[&str], u8); 6] = [
     (&["verify", "A", "absent"], 3),
 ];
 
+/// Whether the verdict on these words has this code.
+fn is_verdict<R: Threads + Wait + Sync>(
+    rt: &R,
+    alloc: Global,
+    words: &[&str],
+    code: u8,
+) -> Result<bool, NoMemory> {
+    let part = part_setup(alloc)?;
+    let named = [("A", FLAT), ("S", STOCK), ("P", part.as_bytes())];
+    let files = owned_files(alloc, &named)?;
+    let words = owned_words(alloc, words)?;
+    Ok(verdict_of(rt, alloc, &words, files).code() == code)
+}
+
 #[test]
 fn verdicts_without_a_fault(rt: HostRuntime) -> Result<(), Fail> {
-    let part = part_setup(rt.alloc())?;
-    let named = [("A", FLAT), ("S", STOCK), ("P", part.as_bytes())];
-    for (words, code) in ROWS {
-        let files = owned_files(rt.alloc(), &named)?;
-        let words = owned_words(rt.alloc(), words)?;
-        let status = verdict_of(&rt, rt.alloc(), &words, files);
-        assert_eq!(rt; status.code(), code, "the code of {words:?}");
+    for (words, code) in &ROWS {
+        assert!(rt;
+            is_verdict(&rt, rt.alloc(), words, *code)?,
+            "the code of {words:?}"
+        );
     }
     Ok(())
 }

@@ -1,21 +1,18 @@
-use super::{USAGE, answer};
+use super::{USAGE, is_answered};
 use crate::arguments::read_words;
 use crate::commands::read_command;
-use crate::status::Status;
 use std::alloc::Global;
 use std::env::{Env, FillError};
 use std::test::Fail;
+use vf_io::NoMemory;
 
 /// Whether these words, parted by blanks, are a command.
-fn is_command(alloc: Global, words: &str) -> Result<bool, Fail> {
+fn is_command(alloc: Global, words: &str) -> Result<bool, NoMemory> {
     let mut texts = Vec::new(alloc);
     for word in words.split(' ') {
         texts.push(String::from_str(alloc, word)?)?;
     }
-    let Ok(command) = read_command(alloc, &texts) else {
-        return Err(Fail::from("no memory for the words"));
-    };
-    Ok(command.is_some())
+    Ok(read_command(alloc, &texts)?.is_some())
 }
 
 /// Words that are a command.
@@ -75,10 +72,15 @@ const NO_COMMANDS: [&str; 33] = [
 
 #[test]
 fn words_of_commands(rt: HostRuntime) -> Result<(), Fail> {
-    for words in COMMANDS {
+    for words in &COMMANDS {
         assert!(rt; is_command(rt.alloc(), words)?, "the words {words:?}");
     }
-    for words in NO_COMMANDS {
+    Ok(())
+}
+
+#[test]
+fn words_of_no_command(rt: HostRuntime) -> Result<(), Fail> {
+    for words in &NO_COMMANDS {
         assert!(rt; !is_command(rt.alloc(), words)?, "the words {words:?}");
     }
     Ok(())
@@ -86,9 +88,16 @@ fn words_of_commands(rt: HostRuntime) -> Result<(), Fail> {
 
 #[test]
 fn other_words_get_the_usage_line(rt: HostRuntime) -> Result<(), Fail> {
-    let (status, written) = answer(&rt, rt.alloc(), &["list"], b"", &[0], &[])?;
-    assert_eq!(rt; status, Status::Usage, "words that are no command");
-    assert_eq!(rt; written.as_slice(), USAGE.as_bytes(), "the usage line");
+    let is_due = is_answered(
+        &rt,
+        rt.alloc(),
+        &["list"],
+        &[("a.cls", b"")],
+        &[0],
+        &[],
+        (2, USAGE),
+    )?;
+    assert!(rt; is_due, "words that are no command");
     Ok(())
 }
 
@@ -122,24 +131,25 @@ impl Env for Called<'_> {
     }
 }
 
+/// Whether the words behind this path are the one that is due, or none.
+fn is_read<'x>(
+    alloc: Global,
+    path: &'x [u8],
+    word: &'x [u8],
+    due: Option<&str>,
+) -> Result<bool, NoMemory> {
+    let words = read_words(alloc, &Called { path, word })?;
+    Ok(match (words.as_slice(), due) {
+        ([read], Some(due)) => read.as_str() == due,
+        (read, due) => read.is_empty() && due.is_none(),
+    })
+}
+
 #[test]
 fn a_program_may_be_called_by_any_path(rt: HostRuntime) -> Result<(), Fail> {
-    let by_bytes = Called {
-        path: b"tools/\xff/clverify",
-        word: b"list",
-    };
-    let Ok(words) = read_words(rt.alloc(), &by_bytes) else {
-        return Err(Fail::from("no memory for the words"));
-    };
-    assert_eq!(rt; words.len(), 1, "the words behind a path that is no text");
-    assert_eq!(rt; words[0].as_str(), "list", "the word behind it");
-    let no_text = Called {
-        path: b"clverify",
-        word: b"\xff",
-    };
-    let Ok(words) = read_words(rt.alloc(), &no_text) else {
-        return Err(Fail::from("no memory for the words"));
-    };
-    assert_eq!(rt; words.len(), 0, "a word that is no text");
+    let by_bytes = is_read(rt.alloc(), b"tools/\xff/clverify", b"list", Some("list"))?;
+    assert!(rt; by_bytes, "the word behind a path that is no text");
+    let no_text = is_read(rt.alloc(), b"clverify", b"\xff", None)?;
+    assert!(rt; no_text, "a word that is no text");
     Ok(())
 }

@@ -1,60 +1,75 @@
 use super::*;
-use std::alloc::Global;
+use crate::calls::{Call, FILES, first_wrong, owned_files};
 use std::test::Fail;
 
-/// Each call in order: the name that is opened, or none for a read, and the bytes that are due.
-const CALLS: [(&str, Option<&str>, Result<&str, Failed>); 12] = [
-    ("no file is open at first", None, Ok("")),
-    ("call 1 opens the first of a name", Some("part"), Ok("")),
-    ("its front", None, Ok("FROM")),
-    ("its middle", None, Ok("/0,0")),
-    ("another in place of the open one", Some("last"), Ok("")),
-    ("call 5 fails by its number", None, Err(Failed)),
-    ("closed by the failure", None, Ok("")),
-    ("open again", Some("last"), Ok("")),
-    ("from its first byte", None, Ok("FINI")),
-    ("at its end", None, Ok("")),
-    ("an absent name", Some("absent"), Err(Failed)),
-    ("closed by the absent name", None, Ok("")),
+/// Each call in order.
+const CALLS: [Call; 12] = [
+    Call {
+        about: "no file is open at first",
+        name: None,
+        due: Ok(""),
+    },
+    Call {
+        about: "call 1 opens the first of a name",
+        name: Some("part"),
+        due: Ok(""),
+    },
+    Call {
+        about: "its front",
+        name: None,
+        due: Ok("FROM"),
+    },
+    Call {
+        about: "its middle",
+        name: None,
+        due: Ok("/0,0"),
+    },
+    Call {
+        about: "another in place of the open one",
+        name: Some("last"),
+        due: Ok(""),
+    },
+    Call {
+        about: "call 5 fails by its number",
+        name: None,
+        due: Err(Failed),
+    },
+    Call {
+        about: "closed by the failure",
+        name: None,
+        due: Ok(""),
+    },
+    Call {
+        about: "open again",
+        name: Some("last"),
+        due: Ok(""),
+    },
+    Call {
+        about: "from its first byte",
+        name: None,
+        due: Ok("FINI"),
+    },
+    Call {
+        about: "at its end",
+        name: None,
+        due: Ok(""),
+    },
+    Call {
+        about: "an absent name",
+        name: Some("absent"),
+        due: Err(Failed),
+    },
+    Call {
+        about: "closed by the absent name",
+        name: None,
+        due: Ok(""),
+    },
 ];
-
-/// A shelf of these files, of whose calls one fails.
-fn shelf_of(alloc: Global, files: &[(&str, &[u8])], failing: u64) -> Result<MemShelf, Fail> {
-    let mut shelved = Vec::new(alloc);
-    for (name, bytes) in files {
-        shelved.push((name.to_string(alloc)?, bytes.to_vec(alloc)?))?;
-    }
-    Ok(MemShelf::new(shelved, [failing].to_vec(alloc)?))
-}
-
-/// The bytes that a call gave: none for one that opens.
-fn call<'a>(
-    shelf: &mut MemShelf,
-    name: Option<&str>,
-    buffer: &'a mut [u8; 4],
-) -> Result<&'a [u8], Failed> {
-    let count = match name {
-        Some(name) => shelf.open(name).map(|_| 0)?,
-        None => shelf.next(buffer)?,
-    };
-    Ok(buffer.get(..count).unwrap_or(&[]))
-}
 
 #[test]
 fn takes_a_file_in_pieces(rt: HostRuntime) -> Result<(), Fail> {
-    let files: [(&str, &[u8]); 3] = [
-        ("part", b"FROM/0,0,1"),
-        ("part", b"FINI"),
-        ("last", b"FINI"),
-    ];
-    let mut shelf = shelf_of(rt.alloc(), &files, 5)?;
-    let mut buffer = [0u8; 4];
-    for (about, name, want) in CALLS {
-        assert_eq!(rt;
-            call(&mut shelf, name, &mut buffer),
-            want.map(|text| text.as_bytes()),
-            "{about}"
-        );
-    }
+    let files = owned_files(rt.alloc(), &FILES)?;
+    let mut shelf = MemShelf::new(files, [5].to_vec(rt.alloc())?);
+    assert_eq!(rt; first_wrong(&mut shelf, &CALLS), "");
     Ok(())
 }

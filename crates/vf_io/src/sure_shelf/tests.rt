@@ -1,53 +1,69 @@
 use super::*;
+use crate::calls::{Call, FILES, first_wrong, owned_files};
 use std::test::Fail;
 
-/// Each call in order: the name that is opened, or none for a read, and the bytes that are due.
-const CALLS: [(&str, Option<&str>, &str); 11] = [
-    ("no file is open at first", None, ""),
-    ("an absent name", Some("absent"), ""),
-    ("is an empty file", None, ""),
-    ("the first of a name", Some("part"), ""),
-    ("its front", None, "FROM"),
-    ("its middle", None, "/0,0"),
-    ("an absent name in place of the open one", Some("par"), ""),
-    ("is empty too", None, ""),
-    ("open again", Some("part"), ""),
-    ("from its first byte", None, "FROM"),
-    ("another", Some("last"), ""),
+/// Each call in order.
+const CALLS: [Call; 11] = [
+    Call {
+        about: "no file is open at first",
+        name: None,
+        due: Ok(""),
+    },
+    Call {
+        about: "an absent name",
+        name: Some("absent"),
+        due: Ok(""),
+    },
+    Call {
+        about: "is an empty file",
+        name: None,
+        due: Ok(""),
+    },
+    Call {
+        about: "the first of a name",
+        name: Some("part"),
+        due: Ok(""),
+    },
+    Call {
+        about: "its front",
+        name: None,
+        due: Ok("FROM"),
+    },
+    Call {
+        about: "its middle",
+        name: None,
+        due: Ok("/0,0"),
+    },
+    Call {
+        about: "an absent name in place of the open one",
+        name: Some("par"),
+        due: Ok(""),
+    },
+    Call {
+        about: "is empty too",
+        name: None,
+        due: Ok(""),
+    },
+    Call {
+        about: "open again",
+        name: Some("part"),
+        due: Ok(""),
+    },
+    Call {
+        about: "from its first byte",
+        name: None,
+        due: Ok("FROM"),
+    },
+    Call {
+        about: "another",
+        name: Some("last"),
+        due: Ok(""),
+    },
 ];
-
-/// The bytes that a call gave: none for one that opens.
-fn call<'a>(
-    shelf: &mut SureShelf,
-    name: Option<&str>,
-    buffer: &'a mut [u8; 4],
-) -> Result<&'a [u8], Failed> {
-    let count = match name {
-        Some(name) => shelf.open(name).map(|_| 0)?,
-        None => shelf.next(buffer)?,
-    };
-    Ok(buffer.get(..count).unwrap_or(&[]))
-}
 
 #[test]
 fn no_call_fails(rt: HostRuntime) -> Result<(), Fail> {
-    let named: [(&str, &[u8]); 3] = [
-        ("part", b"FROM/0,0,1"),
-        ("part", b"FINI"),
-        ("last", b"FINI"),
-    ];
-    let mut files = Vec::new(rt.alloc());
-    for (name, bytes) in named {
-        files.push((name.to_string(rt.alloc())?, bytes.to_vec(rt.alloc())?))?;
-    }
-    let mut shelf = SureShelf::new(files);
-    let mut buffer = [0u8; 4];
-    for (about, name, want) in CALLS {
-        assert_eq!(rt;
-            call(&mut shelf, name, &mut buffer),
-            Ok(want.as_bytes()),
-            "{about}"
-        );
-    }
+    let mut shelf = SureShelf::new(owned_files(rt.alloc(), &FILES)?);
+    assert_eq!(rt; first_wrong(&mut shelf, &CALLS), "");
     Ok(())
 }

@@ -8,14 +8,6 @@ use crate::answers::Failed;
 
 const PART: &str = "CUTTER/2,0\nFINI\n";
 
-/// Whether the answer has these bytes, or is this end.
-fn is_same(got: &Result<Vec<u8>, ReadEnd>, bytes: &[u8], end: Option<ReadEnd>) -> bool {
-    match got {
-        Ok(read) => end.is_none() && read.as_slice() == bytes,
-        Err(other) => end == Some(*other),
-    }
-}
-
 /// A file that gives one byte at a time, and counts the reads that gave one.
 #[derive(Drop)]
 struct SlowShelf {
@@ -64,15 +56,23 @@ const STEPS: [(u32, Option<ReadEnd>, u64); 5] = [
     (0, Some(ReadEnd::TooLong), 1),
 ];
 
+/// Whether the file is read so, up to a limit.
+fn is_read(alloc: Global, limit: u32, end: Option<ReadEnd>, reads: u64) -> bool {
+    let mut shelf = SlowShelf {
+        place: None,
+        reads: 0,
+    };
+    let got = read_all(alloc, &mut shelf, "part", limit);
+    let is_due = match got {
+        Ok(read) => end.is_none() && read.as_slice() == PART.as_bytes(),
+        Err(other) => end == Some(other),
+    };
+    is_due && shelf.reads == reads
+}
+
 #[test]
 fn reads_byte_after_byte_up_to_the_limit(rt: HostRuntime) {
-    for (limit, end, reads) in STEPS {
-        let mut shelf = SlowShelf {
-            place: None,
-            reads: 0,
-        };
-        let got = read_all(rt.alloc(), &mut shelf, "part", limit);
-        assert!(rt; is_same(&got, PART.as_bytes(), end), "up to {limit}");
-        assert_eq!(rt; shelf.reads, reads, "reads up to {limit}");
+    for (limit, end, reads) in &STEPS {
+        assert!(rt; is_read(rt.alloc(), *limit, *end, *reads), "up to {limit}");
     }
 }

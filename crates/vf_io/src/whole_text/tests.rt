@@ -5,33 +5,113 @@ ghost use Rattle.vf_io.specs.Causes.{HasCause};
 
 use super::*;
 use crate::memory_sink::MemSink;
+use std::alloc::Global;
 use std::test::Fail;
 
 const THREE: &str = "one\ntwo\nthree\n";
 
 /// A text, the room of the sink, the number of the put that fails, and what is written. It is the
 /// whole text exactly where no put fails.
-const TEXTS: [(&str, &str, usize, u64, &str); 11] = [
-    ("each line", THREE, 14, 9, THREE),
-    ("no line end at the last", "one\ntwo", 14, 9, "one\ntwo"),
-    ("one line without an end", "one", 14, 9, "one"),
-    ("no text needs no put", "", 0, 0, ""),
-    ("the first put fails", THREE, 14, 0, ""),
-    ("the third put fails", THREE, 14, 2, "one\ntwo\n"),
-    ("behind the last", "one\ntwo\n", 14, 2, "one\ntwo\n"),
-    ("an empty line is put too", "one\n\n\ntwo", 14, 2, "one\n\n"),
-    ("as long as the room", "one\ntwo\n", 8, 9, "one\ntwo\n"),
-    ("one byte past the room", "one\ntwo\n", 7, 9, "one\n"),
-    ("a shorter line is left", "one\nthree\nx\n", 7, 9, "one\n"),
+#[derive(Clone, Copy)]
+struct Text {
+    about: &'static str,
+    text: &'static str,
+    room: usize,
+    failing: u64,
+    written: &'static str,
+}
+
+const TEXTS: [Text; 11] = [
+    Text {
+        about: "each line",
+        text: THREE,
+        room: 14,
+        failing: 9,
+        written: THREE,
+    },
+    Text {
+        about: "no line end at the last",
+        text: "one\ntwo",
+        room: 14,
+        failing: 9,
+        written: "one\ntwo",
+    },
+    Text {
+        about: "one line without an end",
+        text: "one",
+        room: 14,
+        failing: 9,
+        written: "one",
+    },
+    Text {
+        about: "no text needs no put",
+        text: "",
+        room: 0,
+        failing: 0,
+        written: "",
+    },
+    Text {
+        about: "the first put fails",
+        text: THREE,
+        room: 14,
+        failing: 0,
+        written: "",
+    },
+    Text {
+        about: "the third put fails",
+        text: THREE,
+        room: 14,
+        failing: 2,
+        written: "one\ntwo\n",
+    },
+    Text {
+        about: "behind the last",
+        text: "one\ntwo\n",
+        room: 14,
+        failing: 2,
+        written: "one\ntwo\n",
+    },
+    Text {
+        about: "an empty line is put too",
+        text: "one\n\n\ntwo",
+        room: 14,
+        failing: 2,
+        written: "one\n\n",
+    },
+    Text {
+        about: "as long as the room",
+        text: "one\ntwo\n",
+        room: 8,
+        failing: 9,
+        written: "one\ntwo\n",
+    },
+    Text {
+        about: "one byte past the room",
+        text: "one\ntwo\n",
+        room: 7,
+        failing: 9,
+        written: "one\n",
+    },
+    Text {
+        about: "a shorter line is left",
+        text: "one\nthree\nx\n",
+        room: 7,
+        failing: 9,
+        written: "one\n",
+    },
 ];
+
+/// Whether the text is written as is due.
+fn is_written(alloc: Global, row: &Text) -> Result<bool, Fail> {
+    let mut sink = MemSink::new(alloc, row.room, [row.failing].to_vec(alloc)?)?;
+    let answer = put_lines(&mut sink, row.text.as_bytes());
+    Ok(answer.is_ok() == (row.written == row.text) && sink.written() == row.written.as_bytes())
+}
 
 #[test]
 fn writes_whole_lines_up_to_the_failing_put(rt: HostRuntime) -> Result<(), Fail> {
-    for (about, text, room, failing, written) in TEXTS {
-        let mut sink = MemSink::new(rt.alloc(), room, [failing].to_vec(rt.alloc())?)?;
-        let answer = put_lines(&mut sink, text.as_bytes());
-        assert_eq!(rt; answer.is_ok(), written == text, "{about}");
-        assert_eq!(rt; sink.written(), written.as_bytes(), "written, {about}");
+    for row in &TEXTS {
+        assert!(rt; is_written(rt.alloc(), row)?, "{}", row.about);
     }
     Ok(())
 }
@@ -75,17 +155,21 @@ const PUTS: [(&str, usize, usize); 9] = [
     ("", 0, 0),
 ];
 
+/// Whether the puts have these lengths, and the answer says whether one failed.
+fn are_put(text: &str, failing: usize, lengths: usize) -> bool {
+    let mut tally = Tally {
+        lengths: 0,
+        puts: 0,
+        failing,
+        faults: 0,
+    };
+    let answer = put_lines(&mut tally, text.as_bytes());
+    tally.lengths == lengths && answer.is_ok() == (tally.faults == 0)
+}
+
 #[test]
 fn makes_one_put_for_each_line(rt: HostRuntime) {
-    for (text, failing, lengths) in PUTS {
-        let mut tally = Tally {
-            lengths: 0,
-            puts: 0,
-            failing,
-            faults: 0,
-        };
-        let answer = put_lines(&mut tally, text.as_bytes());
-        assert_eq!(rt; tally.lengths, lengths, "{text:?}, {failing}");
-        assert_eq!(rt; answer.is_ok(), tally.faults == 0, "{text:?}, {failing}");
+    for (text, failing, lengths) in &PUTS {
+        assert!(rt; are_put(text, *failing, *lengths), "{text:?}, {failing}");
     }
 }
