@@ -1,0 +1,63 @@
+-- What holds of a number holds of what its word reads as.
+use Rattle.std.proofs.Common.{◌≡◌, false, ◌≤◌, ◌<◌, ◌^◌, ◌*◌, ◌≤ℤ◌, ℕ, ℤ, pos, to_z, of_z, unsigned_abs, FitsSigned, arith, subst, sym, ◌∙◌}
+use Rattle.std.specs.Int.Signed.{lt_z}
+use Rattle.std.proofs.lemmas.Int.{ints, to_z-of_z}
+use borrow.Author.Differences.{abs_is}
+use borrow.Author.Rules.{sfits_of}
+use lib.Signed.{mag}
+use mir.Syntax.{w32, w64, w128}
+use Rattle.sweep_boxes.specs.Limits.{place_limit}
+
+pub fits_of : (z : ℤ) → mag z < 2 ^ 127 → FitsSigned w128 z
+fits_of z = sfits_of {w = w128} {z = z}
+
+pub kept_in : (P : ℤ → Type 0) (z : ℤ) → FitsSigned w128 z → P z → P (to_z w128 (of_z w128 z))
+kept_in P z fits holds = subst P (sym (to_z-of_z w128 z fits)) holds
+
+pub kept : (P : ℤ → Type 0) (z : ℤ) → mag z < 2 ^ 127 → P z → P (to_z w128 (of_z w128 z))
+kept P z fits holds = kept_in P z (fits_of z fits) holds
+
+pub small_in : (z : ℤ) (n : ℕ) → FitsSigned w128 z → unsigned_abs z ≤ n → unsigned_abs (to_z w128 (of_z w128 z)) ≤ n
+small_in z n = kept_in (λ (y : ℤ). unsigned_abs y ≤ n) z
+
+pub kept_small : (z : ℤ) (n : ℕ) → mag z < 2 ^ 127 → unsigned_abs z ≤ n → unsigned_abs (to_z w128 (of_z w128 z)) ≤ n
+kept_small z n = kept (λ (y : ℤ). unsigned_abs y ≤ n) z
+
+pub kept_some : (z : ℤ) → mag z < 2 ^ 127 → pos 0 ≤ℤ z → pos 0 ≤ℤ to_z w128 (of_z w128 z)
+kept_some = kept (λ (y : ℤ). pos 0 ≤ℤ y)
+
+pub read_as : (z y : ℤ) → mag z < 2 ^ 127 → z ≡ y → to_z w128 (of_z w128 z) ≡ y
+read_as z y fits is = to_z-of_z w128 z (fits_of z fits) ∙ is
+
+-- words of 32 and of 64 bits
+pub fits32 : (z : ℤ) → mag z < 2 ^ 31 → FitsSigned w32 z
+fits32 z = sfits_of {w = w32} {z = z}
+
+pub small32_in : (z : ℤ) (n : ℕ) → FitsSigned w32 z → unsigned_abs z ≤ n → unsigned_abs (to_z w32 (of_z w32 z)) ≤ n
+small32_in z n fits small = subst (λ (y : ℤ). unsigned_abs y ≤ n) (sym (to_z-of_z w32 z fits)) small
+
+pub place_fits : (z : ℤ) → unsigned_abs z ≤ place_limit → FitsSigned w32 z
+place_fits z small = omega (arith, ints, small, abs_is z)
+
+pub kept_place : (z : ℤ) → unsigned_abs z ≤ place_limit → unsigned_abs (to_z w32 (of_z w32 z)) ≤ place_limit
+kept_place z small = small32_in z place_limit (place_fits z small) small
+
+pub same64 : (x z : ℤ) → mag x < 2 ^ 63 → mag z < 2 ^ 127 → x ≡ to_z w128 (of_z w128 z) → to_z w64 (of_z w64 x) ≡ z
+same64 x z short fits is = to_z-of_z w64 x (sfits_of {w = w64} {z = x} short) ∙ is ∙ to_z-of_z w128 z (fits_of z fits)
+
+-- what a comparison says
+pub not_below : (z n : ℤ) → lt_z z n ≡ false → n ≤ℤ z
+not_below z n h = omega (arith, ints, h)
+
+pub small_up_to : (z : ℤ) (n : ℕ) → pos 0 ≤ℤ z → lt_z (pos n) z ≡ false → unsigned_abs z ≤ n
+small_up_to z n some h = omega (arith, ints, some, h, abs_is z)
+
+-- the indexes of a vector's components
+pub at_x : 0 < 3
+at_x = omega arith
+
+pub at_y : 1 < 3
+at_y = omega arith
+
+pub at_z : 2 < 3
+at_z = omega arith
