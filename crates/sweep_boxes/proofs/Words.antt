@@ -1,12 +1,12 @@
 -- What holds of a number holds of what its word reads as.
-use Rattle.std.proofs.Common.{◌≡◌, false, ◌≤◌, ◌<◌, ◌^◌, ◌*◌, ◌≤ℤ◌, ℕ, ℤ, pos, to_z, of_z, unsigned_abs, FitsSigned, arith, subst, sym, ◌∙◌}
+use Rattle.std.proofs.Common.{◌≡◌, false, ◌≤◌, ◌<◌, ◌^◌, ◌+◌, ◌*◌, ◌≤ℤ◌, ℕ, ℤ, pos, to_z, of_z, unsigned_abs, FitsSigned, arith, subst, sym, ◌∙◌}
 use Rattle.std.specs.Int.Signed.{lt_z}
 use Rattle.std.proofs.lemmas.Int.{ints, to_z-of_z}
 use borrow.Author.Differences.{abs_is}
 use borrow.Author.Rules.{sfits_of}
 use lib.Signed.{mag}
 use mir.Syntax.{w32, w64, w128}
-use Rattle.sweep_boxes.specs.Limits.{place_limit}
+use Rattle.sweep_boxes.specs.Limits.{place_limit, side_limit}
 
 pub fits_of : (z : ℤ) → mag z < 2 ^ 127 → FitsSigned w128 z
 fits_of z = sfits_of {w = w128} {z = z}
@@ -25,6 +25,9 @@ kept_small z n = kept (λ (y : ℤ). unsigned_abs y ≤ n) z
 
 pub kept_some : (z : ℤ) → mag z < 2 ^ 127 → pos 0 ≤ℤ z → pos 0 ≤ℤ to_z w128 (of_z w128 z)
 kept_some = kept (λ (y : ℤ). pos 0 ≤ℤ y)
+
+pub kept_at_most : (z n : ℤ) → mag z < 2 ^ 127 → z ≤ℤ n → to_z w128 (of_z w128 z) ≤ℤ n
+kept_at_most z n = kept (λ (y : ℤ). y ≤ℤ n) z
 
 pub read_as : (z y : ℤ) → mag z < 2 ^ 127 → z ≡ y → to_z w128 (of_z w128 z) ≡ y
 read_as z y fits is = to_z-of_z w128 z (fits_of z fits) ∙ is
@@ -51,6 +54,38 @@ not_below z n h = omega (arith, ints, h)
 
 pub small_up_to : (z : ℤ) (n : ℕ) → pos 0 ≤ℤ z → lt_z (pos n) z ≡ false → unsigned_abs z ≤ n
 small_up_to z n some h = omega (arith, ints, some, h, abs_is z)
+
+-- lengths that are added
+pub summand : (z : ℤ) → mag z < 2 ^ 127 → unsigned_abs z ≤ 10 ^ 18 → unsigned_abs (to_z w128 (of_z w128 z)) ≤ 10 ^ 37
+summand z fits small = kept_small z (10 ^ 37) fits (wider (unsigned_abs z) small) where
+  wider : (n : ℕ) → n ≤ 10 ^ 18 → n ≤ 10 ^ 37
+  wider n h = omega (arith, h)
+
+twice_small : (s a : ℤ) → unsigned_abs s ≤ unsigned_abs a + unsigned_abs a → unsigned_abs a ≤ 10 ^ 18 → unsigned_abs s ≤ 10 ^ 37
+twice_small s a h k = omega (arith, h, k)
+
+pub twice : (s z : ℤ) → mag s < 2 ^ 127 → mag z < 2 ^ 127 → unsigned_abs s ≤ unsigned_abs (to_z w128 (of_z w128 z)) + unsigned_abs (to_z w128 (of_z w128 z)) → unsigned_abs z ≤ 10 ^ 18
+    → unsigned_abs (to_z w128 (of_z w128 s)) ≤ 10 ^ 37
+twice s z fits f h k = kept_small s (10 ^ 37) fits (twice_small s (to_z w128 (of_z w128 z)) h (kept_small z (10 ^ 18) f k))
+
+-- the square of an axis
+long_fits : (z : ℤ) → pos 0 ≤ℤ z → z ≤ℤ pos (3 * (side_limit * side_limit)) → FitsSigned w128 z
+long_fits z some few = omega (arith, ints, some, few)
+
+long_small : (z : ℤ) → pos 0 ≤ℤ z → z ≤ℤ pos (3 * (side_limit * side_limit)) → unsigned_abs z ≤ 10 ^ 36
+long_small z some few = omega (arith, ints, some, few, abs_is z)
+
+pub long_some : (z : ℤ) → (pos 0 ≤ℤ z) × (z ≤ℤ pos (3 * (side_limit * side_limit))) → pos 0 ≤ℤ to_z w128 (of_z w128 z)
+long_some z h = kept_in (λ (y : ℤ). pos 0 ≤ℤ y) z (long_fits z h.0 h.1) h.0
+
+pub long_few : (z : ℤ) → (pos 0 ≤ℤ z) × (z ≤ℤ pos (3 * (side_limit * side_limit))) → to_z w128 (of_z w128 z) ≤ℤ pos (3 * (side_limit * side_limit))
+long_few z h = kept_in (λ (y : ℤ). y ≤ℤ pos (3 * (side_limit * side_limit))) z (long_fits z h.0 h.1) h.1
+
+pub long_in : (z : ℤ) → (pos 0 ≤ℤ z) × (z ≤ℤ pos (3 * (side_limit * side_limit))) → unsigned_abs (to_z w128 (of_z w128 z)) ≤ 10 ^ 36
+long_in z h = small_in z (10 ^ 36) (long_fits z h.0 h.1) (long_small z h.0 h.1)
+
+pub scale_few : (scale : ℕ) → scale ≤ 128 → scale ≤ 256
+scale_few scale h = omega (arith, h)
 
 -- the indexes of a vector's components
 pub at_x : 0 < 3

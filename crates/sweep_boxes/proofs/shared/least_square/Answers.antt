@@ -3,8 +3,10 @@ use Rattle.std.proofs.lemmas.Int.{ints, to_z-of_z}
 use mir.Syntax.{w128}
 use borrow.Author.Differences.{abs_is}
 use Rattle.space.specs.Vectors.{dot}
+use Rattle.sweep_boxes.specs.Limits.{side_limit}
 use Rattle.sweep_boxes.specs.Vectors.{difference, sum}
 use Rattle.sweep_boxes.proofs.Shortest.{difference_square, sum_square}
+use Rattle.sweep_boxes.proofs.Words.{fits_of, kept_at_most, kept_small}
 use Rattle.sweep_boxes.proofs.shared.least_square.Goals as goal
 
 -- the numbers are small
@@ -17,6 +19,46 @@ whole_fits x y s d h k e l = (
   omega (arith, ints, h, k, e, l, abs_is x, abs_is y),
   omega (arith, ints, h, k, abs_is x, abs_is y, abs_is (x -ℤ y)),
 )
+
+both_fit : (x y : ℤ) → unsigned_abs x ≤ 27 * 10 ^ 16 → unsigned_abs y ≤ 27 * 10 ^ 16 → FitsSigned w128 (x +ℤ y) × FitsSigned w128 (x -ℤ y)
+both_fit x y h k = (omega (arith, ints, h, k, abs_is x, abs_is y), omega (arith, ints, h, k, abs_is x, abs_is y))
+
+twice_fits : (s : ℤ) (d : ℕ) → s ≡ pos d → d ≤ 27 * 10 ^ 16 → FitsSigned w128 (s +ℤ s)
+twice_fits s d e l = omega (arith, ints, e, l)
+
+pub dot-along-requires : goal.dot-along-requires
+dot-along-requires c = record { p = c.args.piece.now.axis_within; a = c.args.piece.now.axis_within }
+
+pub dot-turned-requires : goal.dot-turned-requires
+dot-turned-requires c = record { p = c.args.piece.now.turn_within; a = c.args.piece.now.turn_within }
+
+pub dot-requires : goal.dot-requires
+dot-requires c = record { p = c.args.piece.now.axis_within; a = c.args.piece.now.turn_within }
+
+product_small : (n : ℕ) → n ≤ 3 * (side_limit * side_limit) → n ≤ 48 * (side_limit * side_limit)
+product_small n h = omega (arith, h)
+
+pub distance-swing-requires : goal.distance-swing-requires
+distance-swing-requires c = kept_small c.dot.result _ c.dot.type_inv (product_small (unsigned_abs c.dot.result) c.dot.ensures.small)
+
+pub overflow_add-along : goal.overflow_add-along
+overflow_add-along c =
+    let x = c.dot-along in let y = c.dot-turned in let a = fits_of x.result x.type_inv in let b = fits_of y.result y.type_inv in
+    simp to_z-of_z (both_fit x.result y.result x.ensures.small y.ensures.small).0
+
+pub overflow_sub-along : goal.overflow_sub-along
+overflow_sub-along c =
+    let x = c.dot-along in let y = c.dot-turned in let a = fits_of x.result x.type_inv in let b = fits_of y.result y.type_inv in
+    simp to_z-of_z (both_fit x.result y.result x.ensures.small y.ensures.small).1
+
+pub overflow_add-swing : goal.overflow_add-swing
+overflow_add-swing c =
+    let d = c.dot in let swing = c.distance-swing in let f = fits_of d.result d.type_inv in let g = fits_of swing.result swing.type_inv in
+    let is : swing.result ≡ pos (unsigned_abs d.result) = simp to_z-of_z at swing.ensures in
+    simp to_z-of_z (twice_fits swing.result (unsigned_abs d.result) is d.ensures.small)
+
+pub returns-clause-small : goal.returns-clause-small
+returns-clause-small c = kept_at_most c.lesser.result _ c.lesser.type_inv c.lesser.ensures.small
 
 pub overflow_sub-along-2 : goal.overflow_sub-along-2
 overflow_sub-along-2 c =
