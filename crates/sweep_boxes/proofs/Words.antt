@@ -6,6 +6,7 @@ use borrow.Author.Differences.{abs_is}
 use borrow.Author.Rules.{sfits_of}
 use lib.Signed.{mag}
 use mir.Syntax.{w32, w64, w128}
+use Rattle.space.proofs.Facts.{fits128}
 use Rattle.sweep_boxes.specs.Limits.{place_limit, side_limit}
 
 pub fits_of : (z : ℤ) → mag z < 2 ^ 127 → FitsSigned w128 z
@@ -67,6 +68,43 @@ twice_small s a h k = omega (arith, h, k)
 pub twice : (s z : ℤ) → mag s < 2 ^ 127 → mag z < 2 ^ 127 → unsigned_abs s ≤ unsigned_abs (to_z w128 (of_z w128 z)) + unsigned_abs (to_z w128 (of_z w128 z)) → unsigned_abs z ≤ 10 ^ 18
     → unsigned_abs (to_z w128 (of_z w128 s)) ≤ 10 ^ 37
 twice s z fits f h k = kept_small s (10 ^ 37) fits (twice_small s (to_z w128 (of_z w128 z)) h (kept_small z (10 ^ 18) f k))
+
+-- numbers that are known to be small
+kept_below : (z : ℤ) (n : ℕ) → unsigned_abs z ≤ n → n < 2 ^ 127 → unsigned_abs (to_z w128 (of_z w128 z)) ≤ n
+kept_below z n small few = small_in z n (fits128 z n small few) small
+
+pub kept_axis : (z : ℤ) → unsigned_abs z ≤ side_limit → unsigned_abs (to_z w128 (of_z w128 z)) ≤ side_limit
+kept_axis z small = kept_below z side_limit small (omega arith)
+
+pub kept_height : (z : ℤ) → unsigned_abs z ≤ 4 * 10 ^ 18 → unsigned_abs (to_z w128 (of_z w128 z)) ≤ 4 * 10 ^ 18
+kept_height z small = kept_below z (4 * 10 ^ 18) small (omega arith)
+
+pub kept_moment : (z : ℤ) → unsigned_abs z ≤ 3 * 10 ^ 18 → unsigned_abs (to_z w128 (of_z w128 z)) ≤ 3 * 10 ^ 18
+kept_moment z small = kept_below z (3 * 10 ^ 18) small (omega arith)
+
+pub kept_square : (z : ℤ) → unsigned_abs z ≤ 3 * (side_limit * side_limit) → unsigned_abs (to_z w128 (of_z w128 z)) ≤ 3 * (side_limit * side_limit)
+kept_square z small = kept_below z (3 * (side_limit * side_limit)) small (omega arith)
+
+pub kept_tip : (z : ℤ) → unsigned_abs z ≤ 128 * place_limit → unsigned_abs (to_z w128 (of_z w128 z)) ≤ 128 * place_limit
+kept_tip z small = kept_below z (128 * place_limit) small (omega arith)
+
+-- how far from zero products of two vectors are
+pub product_small : (n : ℕ) → n ≤ 3 * (side_limit * side_limit) → n ≤ 48 * (side_limit * side_limit)
+product_small n h = omega (arith, h)
+
+distance_small : (z : ℤ) (d : ℕ) → z ≡ pos d → d ≤ 48 * (side_limit * side_limit) → unsigned_abs z ≤ 10 ^ 37
+distance_small z d is h = omega (arith, ints, is, h, abs_is z)
+
+pub distance_in : (z d : ℤ) → mag z < 2 ^ 127 → mag d < 2 ^ 127 → z ≡ pos (unsigned_abs (to_z w128 (of_z w128 d))) → unsigned_abs d ≤ 48 * (side_limit * side_limit)
+    → unsigned_abs (to_z w128 (of_z w128 z)) ≤ 10 ^ 37
+distance_in z d fits f is h = kept_small z (10 ^ 37) fits (distance_small z (unsigned_abs (to_z w128 (of_z w128 d))) is (kept_small d (48 * (side_limit * side_limit)) f h))
+
+length_small : (z : ℤ) (d : ℕ) → z ≡ pos d → d ≤ 3 * (side_limit * side_limit) → unsigned_abs z ≤ 10 ^ 18
+length_small z d is h = omega (arith, ints, is, h, abs_is z)
+
+pub length_in : (z d : ℤ) → mag z < 2 ^ 127 → mag d < 2 ^ 127 → z ≡ pos (unsigned_abs (to_z w128 (of_z w128 d))) → unsigned_abs d ≤ 3 * (side_limit * side_limit)
+    → unsigned_abs (to_z w128 (of_z w128 z)) ≤ 10 ^ 18
+length_in z d fits f is h = kept_small z (10 ^ 18) fits (length_small z (unsigned_abs (to_z w128 (of_z w128 d))) is (kept_small d (3 * (side_limit * side_limit)) f h))
 
 -- the square of an axis
 long_fits : (z : ℤ) → pos 0 ≤ℤ z → z ≤ℤ pos (3 * (side_limit * side_limit)) → FitsSigned w128 z

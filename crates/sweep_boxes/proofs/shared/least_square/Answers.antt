@@ -3,10 +3,9 @@ use Rattle.std.proofs.lemmas.Int.{ints, to_z-of_z}
 use mir.Syntax.{w128}
 use borrow.Author.Differences.{abs_is}
 use Rattle.space.specs.Vectors.{dot}
-use Rattle.sweep_boxes.specs.Limits.{side_limit}
 use Rattle.sweep_boxes.specs.Vectors.{difference, sum}
 use Rattle.sweep_boxes.proofs.Shortest.{difference_square, sum_square}
-use Rattle.sweep_boxes.proofs.Words.{fits_of, kept_at_most, kept_small}
+use Rattle.sweep_boxes.proofs.Words.{fits_of, kept_at_most, kept_small, product_small}
 use Rattle.sweep_boxes.proofs.shared.least_square.Goals as goal
 
 -- the numbers are small
@@ -34,9 +33,6 @@ dot-turned-requires c = record { p = c.args.piece.now.turn_within; a = c.args.pi
 
 pub dot-requires : goal.dot-requires
 dot-requires c = record { p = c.args.piece.now.axis_within; a = c.args.piece.now.turn_within }
-
-product_small : (n : ℕ) → n ≤ 3 * (side_limit * side_limit) → n ≤ 48 * (side_limit * side_limit)
-product_small n h = omega (arith, h)
 
 pub distance-swing-requires : goal.distance-swing-requires
 distance-swing-requires c = kept_small c.dot.result _ c.dot.type_inv (product_small (unsigned_abs c.dot.result) c.dot.ensures.small)
