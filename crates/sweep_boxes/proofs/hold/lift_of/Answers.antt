@@ -1,8 +1,42 @@
-use Rattle.std.proofs.Common.{FitsSigned, rules}
+use Rattle.std.proofs.Common.{unsigned_abs, FitsSigned, rules}
 use Rattle.std.proofs.lemmas.Int.{to_z-of_z}
 use mir.Syntax.{w128}
 use Rattle.sweep_boxes.proofs.Numbers.{lifted}
+use Rattle.sweep_boxes.proofs.Words.{kept_small, length_in, product_small}
 use Rattle.sweep_boxes.proofs.hold.lift_of.Goals as goal
+
+pub sizes-turn-requires : goal.sizes-turn-requires
+sizes-turn-requires c = c.args.piece.now.turn_within
+
+pub dot-requires : goal.dot-requires
+dot-requires c = record { p = c.args.piece.now.shift_within; a = c.args.piece.now.axis_within }
+
+pub dot-requires-2 : goal.dot-requires-2
+dot-requires-2 c = record { p = c.requires.far; a = c.sizes-turn.ensures.small }
+
+pub dot-requires-3 : goal.dot-requires-3
+dot-requires-3 c = record { p = c.args.piece.now.shift_within; a = c.args.piece.now.turn_within }
+
+pub distance-drift-requires : goal.distance-drift-requires
+distance-drift-requires c = kept_small c.dot.result _ c.dot.type_inv (product_small (unsigned_abs c.dot.result) c.dot.ensures.small)
+
+pub distance-swing-requires : goal.distance-swing-requires
+distance-swing-requires c = kept_small c.dot-2.result _ c.dot-2.type_inv (product_small (unsigned_abs c.dot-2.result) c.dot-2.ensures.small)
+
+pub distance-bend-requires : goal.distance-bend-requires
+distance-bend-requires c = kept_small c.dot-3.result _ c.dot-3.type_inv (product_small (unsigned_abs c.dot-3.result) c.dot-3.ensures.small)
+
+pub total-requires : goal.total-requires
+total-requires c =
+    let drift = c.distance-drift in let swing = c.distance-swing in let bend = c.distance-bend in
+    record {
+      a = length_in drift.result c.dot.result drift.type_inv c.dot.type_inv drift.ensures c.dot.ensures.small;
+      b = length_in swing.result c.dot-2.result swing.type_inv c.dot-2.type_inv swing.ensures c.dot-2.ensures.small;
+      c = length_in bend.result c.dot-3.result bend.type_inv c.dot-3.type_inv bend.ensures c.dot-3.ensures.small;
+    }
+
+pub returns-clause-small : goal.returns-clause-small
+returns-clause-small c = kept_small c.total.result _ c.total.type_inv c.total.ensures.small
 
 pub returns-clause-value : goal.returns-clause-value
 returns-clause-value c =

@@ -1,11 +1,49 @@
-use Rattle.std.proofs.Common.{◌≡◌, ◌≤◌, ◌≤ℤ◌, ◌+ℤ◌, ◌*◌, ◌^◌, ℕ, ℤ, pos, unsigned_abs, FitsSigned, arith, rules, ap, ◌∙◌}
+use Rattle.std.proofs.Common.{◌≡◌, ◌≤◌, ◌≤ℤ◌, ◌+ℤ◌, ◌*◌, ◌^◌, ℕ, List, ℤ, pos, unsigned_abs, FitsSigned, arith, rules, ap, ◌∙◌}
 use Rattle.std.proofs.lemmas.Int.{ints, to_z-of_z}
 use mir.Syntax.{w128}
 use borrow.Author.Differences.{abs_is}
+use Rattle.space.specs.Ranges.{IsWithin}
 use Rattle.sweep_boxes.specs.Ladders.{IsStray}
-use Rattle.sweep_boxes.specs.Limits.{side_limit}
+use Rattle.sweep_boxes.specs.Limits.{aim_limit, side_limit}
 use Rattle.sweep_boxes.proofs.AlongSide.{stray_by}
+use Rattle.sweep_boxes.proofs.Words.{distance_in, kept_small}
 use Rattle.sweep_boxes.proofs.shared.stray_of.Goals as goal
+
+side_wider : (side : List ℤ) → IsWithin aim_limit side → IsWithin side_limit side
+side_wider side h = (omega (arith, h.0), omega (arith, h.1), omega (arith, h.2))
+
+reach_small : (n : ℕ) → n ≤ 3 * (side_limit * (2 * (side_limit * side_limit))) → n ≤ 10 ^ 37
+reach_small n h = omega (arith, h)
+
+pub cross-drift-requires : goal.cross-drift-requires
+cross-drift-requires c = record { p = c.args.piece.now.shift_within; a = c.args.piece.now.axis_within }
+
+pub cross-bend-requires : goal.cross-bend-requires
+cross-bend-requires c = record { p = c.args.piece.now.shift_within; a = c.args.piece.now.turn_within }
+
+pub tilt-requires : goal.tilt-requires
+tilt-requires c = record { side = c.requires.side; v = c.cross-drift.ensures.small }
+
+pub distance-requires : goal.distance-requires
+distance-requires c = kept_small c.tilt.result _ c.tilt.type_inv c.tilt.ensures.small
+
+pub cross-requires : goal.cross-requires
+cross-requires c = record { p = c.args.piece.now.turn_within; a = side_wider c.args.side.now c.requires.side }
+
+pub reach_of-requires : goal.reach_of-requires
+reach_of-requires c = record { far = c.requires.far; v = c.cross.ensures.small }
+
+pub sum-swing-requires : goal.sum-swing-requires
+sum-swing-requires c = record {
+  a = distance_in c.distance.result c.tilt.result c.distance.type_inv c.tilt.type_inv c.distance.ensures c.tilt.ensures.small;
+  b = kept_small c.reach_of.result _ c.reach_of.type_inv (reach_small (unsigned_abs c.reach_of.result) c.reach_of.ensures.small);
+}
+
+pub tilt-requires-2 : goal.tilt-requires-2
+tilt-requires-2 c = record { side = c.requires.side; v = c.cross-bend.ensures.small }
+
+pub distance-requires-2 : goal.distance-requires-2
+distance-requires-2 c = kept_small c.tilt-2.result _ c.tilt-2.type_inv c.tilt-2.ensures.small
 
 -- the numbers are not below zero, and not too great
 whole_small : (stray share reached bow : ℤ) (d b : ℕ) → stray ≡ (share +ℤ reached) +ℤ bow → share ≡ pos d → d ≤ 48 * (side_limit * side_limit) → bow ≡ pos b → b ≤ 48 * (side_limit * side_limit)
