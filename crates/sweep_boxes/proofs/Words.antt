@@ -1,5 +1,5 @@
 -- What holds of a number holds of what its word reads as.
-use Rattle.std.proofs.Common.{◌≡◌, false, ◌≤◌, ◌<◌, ◌^◌, ◌+◌, ◌*◌, ◌≤ℤ◌, ℕ, ℤ, pos, to_z, of_z, unsigned_abs, FitsSigned, arith, subst, sym, ◌∙◌}
+use Rattle.std.proofs.Common.{◌≡◌, false, ◌≤◌, ◌<◌, ◌^◌, ◌+◌, ◌*◌, ◌≤ℤ◌, ◌+ℤ◌, ℕ, ℤ, pos, to_z, of_z, unsigned_abs, FitsSigned, arith, refl, subst, sym, ◌∙◌}
 use Rattle.std.specs.Int.Signed.{lt_z}
 use Rattle.std.proofs.lemmas.Int.{ints, to_z-of_z}
 use borrow.Author.Differences.{abs_is}
@@ -68,6 +68,39 @@ twice_small s a h k = omega (arith, h, k)
 pub twice : (s z : ℤ) → mag s < 2 ^ 127 → mag z < 2 ^ 127 → unsigned_abs s ≤ unsigned_abs (to_z w128 (of_z w128 z)) + unsigned_abs (to_z w128 (of_z w128 z)) → unsigned_abs z ≤ 10 ^ 18
     → unsigned_abs (to_z w128 (of_z w128 s)) ≤ 10 ^ 37
 twice s z fits f h k = kept_small s (10 ^ 37) fits (twice_small s (to_z w128 (of_z w128 z)) h (kept_small z (10 ^ 18) f k))
+
+-- sums of three words
+pub two_fit : (x y : ℤ) (n : ℕ) → unsigned_abs x ≤ n → unsigned_abs y ≤ n → 3 * n < 2 ^ 127 → FitsSigned w128 (x +ℤ y)
+two_fit x y n h k few = omega (arith, ints, h, k, few, abs_is x, abs_is y)
+
+pub three_fit : (x y z : ℤ) (n : ℕ) → unsigned_abs x ≤ n → unsigned_abs y ≤ n → unsigned_abs z ≤ n → 3 * n < 2 ^ 127 → FitsSigned w128 ((x +ℤ y) +ℤ z)
+three_fit x y z n h k l few = omega (arith, ints, h, k, l, few, abs_is x, abs_is y, abs_is z)
+
+pub three_small : (x y z : ℤ) (n : ℕ) → unsigned_abs x ≤ n → unsigned_abs y ≤ n → unsigned_abs z ≤ n → unsigned_abs ((x +ℤ y) +ℤ z) ≤ 3 * n
+three_small x y z n h k l = omega (arith, ints, h, k, l, abs_is x, abs_is y, abs_is z, abs_is ((x +ℤ y) +ℤ z))
+
+pub same_sum : (x y z a b c : ℤ) → x ≡ a → y ≡ b → z ≡ c → (x +ℤ y) +ℤ z ≡ (a +ℤ b) +ℤ c
+same_sum x y z a b c e f g = cc (e, f, g)
+
+pub sum_some : (x y z : ℤ) → pos 0 ≤ℤ x → pos 0 ≤ℤ y → pos 0 ≤ℤ z → pos 0 ≤ℤ ((x +ℤ y) +ℤ z)
+sum_some x y z a b c = omega (arith, ints, a, b, c)
+
+pub sum_most : (x y z a b c : ℤ) → x ≤ℤ a → y ≤ℤ b → z ≤ℤ c → ((x +ℤ y) +ℤ z) ≤ℤ ((a +ℤ b) +ℤ c)
+sum_most x y z a b c h k l = omega (arith, ints, h, k, l)
+
+pub two_read : (x y : ℤ) → mag x < 2 ^ 127 → mag y < 2 ^ 127 → to_z w128 (of_z w128 x) +ℤ to_z w128 (of_z w128 y) ≡ x +ℤ y
+two_read x y f g = let fx = fits_of x f in let fy = fits_of y g in simp to_z-of_z refl
+
+pub three_read : (x y z : ℤ) (n : ℕ) → mag x < 2 ^ 127 → mag y < 2 ^ 127 → mag z < 2 ^ 127 → unsigned_abs x ≤ n → unsigned_abs y ≤ n → 3 * n < 2 ^ 127
+    → to_z w128 (of_z w128 (to_z w128 (of_z w128 x) +ℤ to_z w128 (of_z w128 y))) +ℤ to_z w128 (of_z w128 z) ≡ (x +ℤ y) +ℤ z
+three_read x y z n f g l h k few =
+    let fx = fits_of x f in let fy = fits_of y g in let fz = fits_of z l in let two = two_fit x y n h k few in simp to_z-of_z refl
+
+pub sum_read : (x y z : ℤ) (n : ℕ) → mag x < 2 ^ 127 → mag y < 2 ^ 127 → mag z < 2 ^ 127 → unsigned_abs x ≤ n → unsigned_abs y ≤ n → unsigned_abs z ≤ n → 3 * n < 2 ^ 127
+    → to_z w128 (of_z w128 (to_z w128 (of_z w128 (to_z w128 (of_z w128 x) +ℤ to_z w128 (of_z w128 y))) +ℤ to_z w128 (of_z w128 z))) ≡ (x +ℤ y) +ℤ z
+sum_read x y z n f g l h k m few =
+    let fx = fits_of x f in let fy = fits_of y g in let fz = fits_of z l in let two = two_fit x y n h k few in let three = three_fit x y z n h k m few in
+    simp to_z-of_z refl
 
 -- numbers that are known to be small
 kept_below : (z : ℤ) (n : ℕ) → unsigned_abs z ≤ n → n < 2 ^ 127 → unsigned_abs (to_z w128 (of_z w128 z)) ≤ n
