@@ -128,6 +128,14 @@ product_small n h = omega (arith, h)
 distance_small : (z : ℤ) (d : ℕ) → z ≡ pos d → d ≤ 48 * (side_limit * side_limit) → unsigned_abs z ≤ 10 ^ 37
 distance_small z d is h = omega (arith, ints, is, h, abs_is z)
 
+distance_few : (z : ℤ) (d : ℕ) → z ≡ pos d → d ≤ 48 * (side_limit * side_limit) → unsigned_abs z ≤ 48 * (side_limit * side_limit)
+distance_few z d is h = omega (arith, ints, is, h, abs_is z)
+
+pub distance_below : (z d : ℤ) → mag z < 2 ^ 127 → mag d < 2 ^ 127 → z ≡ pos (unsigned_abs (to_z w128 (of_z w128 d))) → unsigned_abs d ≤ 48 * (side_limit * side_limit)
+    → unsigned_abs (to_z w128 (of_z w128 z)) ≤ 48 * (side_limit * side_limit)
+distance_below z d fits f is h =
+    kept_small z (48 * (side_limit * side_limit)) fits (distance_few z (unsigned_abs (to_z w128 (of_z w128 d))) is (kept_small d (48 * (side_limit * side_limit)) f h))
+
 pub distance_in : (z d : ℤ) → mag z < 2 ^ 127 → mag d < 2 ^ 127 → z ≡ pos (unsigned_abs (to_z w128 (of_z w128 d))) → unsigned_abs d ≤ 48 * (side_limit * side_limit)
     → unsigned_abs (to_z w128 (of_z w128 z)) ≤ 10 ^ 37
 distance_in z d fits f is h = kept_small z (10 ^ 37) fits (distance_small z (unsigned_abs (to_z w128 (of_z w128 d))) is (kept_small d (48 * (side_limit * side_limit)) f h))
