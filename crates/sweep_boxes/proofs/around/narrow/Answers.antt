@@ -1,4 +1,4 @@
-use Rattle.std.proofs.Common.{◌≡◌, ◌≤◌, ◌<◌, ◌^◌, ◌*◌, [], ◌∷◌, List, ℤ, length, to_z, of_z, unsigned_abs, FitsSigned, arith, rules, ◌∙◌}
+use Rattle.std.proofs.Common.{◌≡◌, ◌≤◌, ◌<◌, ◌^◌, ◌*◌, [], ◌∷◌, List, ℤ, length, to_z, of_z, unsigned_abs, arith, rules, ◌∙◌}
 use Rattle.std.proofs.lemmas.Int.{to_z-of_z}
 use borrow.Author.Rules.{sfits_of}
 use lib.Signed.{mag}

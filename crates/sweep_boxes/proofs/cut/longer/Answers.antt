@@ -1,4 +1,4 @@
-use Rattle.std.proofs.Common.{◌≡◌, true, false, ◌≤◌, ◌≤ℤ◌, ◌*◌, ℤ, pos, to_z, of_z, unsigned_abs, arith, subst, sym}
+use Rattle.std.proofs.Common.{◌≡◌, true, false, ◌≤◌, ◌≤ℤ◌, ◌*◌, ℤ, pos, to_z, of_z, unsigned_abs, arith}
 use Rattle.std.specs.Int.Signed.{lt_z}
 use Rattle.std.proofs.lemmas.Int.{ints}
 use borrow.Author.Differences.{abs_is}

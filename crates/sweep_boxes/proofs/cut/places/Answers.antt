@@ -1,4 +1,4 @@
-use Rattle.std.proofs.Common.{◌≡◌, [], ◌∷◌, List, ℤ}
+use Rattle.std.proofs.Common.{◌≡◌, [], ◌∷◌, ℤ}
 use Rattle.sweep_boxes.proofs.Words.{at_x, at_y, at_z, kept_small, read_as}
 use Rattle.sweep_boxes.proofs.cut.places.Goals as goal
 

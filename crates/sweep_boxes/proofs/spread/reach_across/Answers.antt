@@ -1,4 +1,4 @@
-use Rattle.std.proofs.Common.{◌≡◌, ◌≤◌, ◌≤ℤ◌, ◌+ℤ◌, ◌*ℤ◌, ◌*◌, ◌^◌, ℕ, ℤ, pos, unsigned_abs, FitsSigned, arith, subst}
+use Rattle.std.proofs.Common.{◌≡◌, ◌≤◌, ◌≤ℤ◌, ◌+ℤ◌, ◌*ℤ◌, ◌*◌, ◌^◌, ℕ, ℤ, pos, unsigned_abs, arith, subst}
 use Rattle.std.proofs.lemmas.Int.{ints, to_z-of_z}
 use borrow.Author.Differences.{abs_is}
 use Rattle.sweep_boxes.proofs.Words.{fits_of, kept_in, kept_small, kept_some, small_in}

@@ -1,4 +1,4 @@
-use Rattle.std.proofs.Common.{◌≤◌, ◌≤ℤ◌, ◌*ℤ◌, ◌*◌, ◌^◌, ℤ, pos, unsigned_abs, FitsSigned, arith}
+use Rattle.std.proofs.Common.{◌≤◌, ◌≤ℤ◌, ◌*ℤ◌, ◌*◌, ◌^◌, ℤ, unsigned_abs, FitsSigned, arith}
 use Rattle.std.proofs.lemmas.Int.{to_z-of_z}
 use mir.Syntax.{w128}
 use Rattle.space.proofs.Facts.{fits128}

@@ -11,8 +11,8 @@ root_of : (n r : ℤ) → FitsSigned w128 n → mag r < 2 ^ 127 → pos (unsigne
 root_of n r fits few h =
     let f = fits_of r few in let root : pos (unsigned_abs n) ≤ℤ (r *ℤ r) = simp to_z-of_z at h in
     simp to_z-of_z (below n (r *ℤ r) root) where
-  below : (n y : ℤ) → pos (unsigned_abs n) ≤ℤ y → n ≤ℤ y
-  below n y h = omega (arith, ints, h, abs_is n)
+      below : (n y : ℤ) → pos (unsigned_abs n) ≤ℤ y → n ≤ℤ y
+      below n y h = omega (arith, ints, h, abs_is n)
 
 -- the units are not too great
 unit8 : (1 ≤ 2 ^ 8) × (2 ^ 8 ≤ 2 ^ 29)
