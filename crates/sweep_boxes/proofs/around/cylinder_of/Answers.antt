@@ -9,7 +9,7 @@ use Rattle.cutter_slabs.specs.Stacks.{outer_stack, reach_of}
 use Rattle.sweep_boxes.specs.Limits.{most_level}
 use Rattle.sweep_boxes.specs.Pieces.{AreAsLarge}
 use Rattle.sweep_boxes.proofs.Coarse.{LeftPart, left_part, possible_parts}
-use Rattle.sweep_boxes.proofs.Words.{kept_place}
+use Rattle.sweep_boxes.proofs.Words.{fits32, kept_place}
 use Rattle.sweep_boxes.proofs.around.cylinder_of.Goals as goal
 
 pub piece_of-piece-requires : goal.piece_of-piece-requires
@@ -62,7 +62,7 @@ returns c p depth inside possible =
     let wide : FitsSigned w32 c.size_of-size.result.widest = search rules in
     let tall : FitsSigned w32 c.size_of-size.result.highest = search rules in
     let sizes : AreAsLarge (to_z w32 (of_z w32 c.size_of-size.result.widest)) (to_z w32 (of_z w32 c.size_of-size.result.highest)) outer = simp to_z-of_z large in
-    let fits : FitsSigned w32 c.reach.result = search rules in
+    let fits = fits32 c.reach.result c.reach.type_inv in
     let reached : is_in_reach c.reach.result c.sweep.inside.from c.sweep.inside.to p ≡ true =
     subst (λ (z : ℤ). is_in_reach z c.sweep.inside.from c.sweep.inside.to p ≡ true) (sym c.reach.ensures.value)
     (subst (λ (q : Motion). is_in_reach (pos (reach_of cutter)) q.from q.to p ≡ true) (sym c.sweep.view_is) parts.0) in

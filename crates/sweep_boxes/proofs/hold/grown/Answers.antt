@@ -2,7 +2,7 @@ use Rattle.std.proofs.Common.{FitsSigned, rules}
 use Rattle.std.proofs.lemmas.Int.{to_z-of_z}
 use mir.Syntax.{w128}
 use Rattle.sweep_boxes.proofs.Numbers.{grown_by}
-use Rattle.sweep_boxes.proofs.Words.{kept_small, long_few, long_some, scale_few, small32_in}
+use Rattle.sweep_boxes.proofs.Words.{fits_of, kept_small, long_few, long_some, scale_few, small32_in}
 use Rattle.sweep_boxes.proofs.hold.grown.Goals as goal
 
 pub sizes-turn-requires : goal.sizes-turn-requires
@@ -40,10 +40,10 @@ returns-clause-small c = kept_small c.total.result _ c.total.type_inv c.total.en
 
 pub returns-clause-value : goal.returns-clause-value
 returns-clause-value c =
-    let x : FitsSigned w128 c.radius-half.result = search rules in
-    let y : FitsSigned w128 c.change_limit.result = search rules in
-    let z : FitsSigned w128 c.length_limit.result = search rules in
-    let t : FitsSigned w128 c.total.result = search rules in
+    let x = fits_of c.radius-half.result c.radius-half.type_inv in
+    let y = fits_of c.change_limit.result c.change_limit.type_inv in
+    let z = fits_of c.length_limit.result c.length_limit.type_inv in
+    let t = fits_of c.total.result c.total.type_inv in
     let l : FitsSigned w128 c.args.piece.now.longest = search rules in
     let w = c.ranges.widest in
     simp to_z-of_z (grown_by c.total.result c.radius-half.result c.change_limit.result c.length_limit.result c.args.piece.now c.args.widest c.args.far.now c.sizes-turn.result c.cross-drift.result c.cross-bend.result

@@ -7,7 +7,7 @@ use Rattle.sweep_boxes.specs.Pieces.{middle_axis, middle_offset}
 use Rattle.sweep_boxes.specs.Vectors.{cross}
 use Rattle.sweep_boxes.specs.Held.{IsGrown}
 use Rattle.sweep_boxes.proofs.Holding.{held_on}
-use Rattle.sweep_boxes.proofs.Words.{kept_small, kept_some, long_few, long_some, small32_in}
+use Rattle.sweep_boxes.proofs.Words.{fits_of, kept_small, kept_some, long_few, long_some, small32_in}
 use Rattle.sweep_boxes.proofs.hold.hold_of.Goals as goal
 
 twice_few : (scale : ℕ) → scale ≤ 128 → 2 * scale ≤ 256
@@ -71,11 +71,11 @@ beside_all grow z n e h = subst (λ (y : ℤ). z ≤ℤ (y *ℤ y)) (sym e) (ome
 
 pub returns : goal.returns
 returns c m k S slabs p of large among left =
-    let a : FitsSigned w128 c.least_of.result = search rules in
-    let b : FitsSigned w128 c.most_of.result = search rules in
-    let d : FitsSigned w128 c.grown.result = search rules in
-    let e : FitsSigned w128 c.lift_of-lift.result = search rules in
-    let f : FitsSigned w128 c.radius-top.result = search rules in
+    let a = fits_of c.least_of.result c.least_of.type_inv in
+    let b = fits_of c.most_of.result c.most_of.type_inv in
+    let d = fits_of c.grown.result c.grown.type_inv in
+    let e = fits_of c.lift_of-lift.result c.lift_of-lift.type_inv in
+    let f = fits_of c.radius-top.result c.radius-top.type_inv in
     let w : FitsSigned w32 c.args.widest = search rules in
     let t : FitsSigned w32 c.args.highest = search rules in
     let x : FitsSigned w128 c.args.piece.now.longest = search rules in

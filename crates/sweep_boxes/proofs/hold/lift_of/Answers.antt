@@ -2,7 +2,7 @@ use Rattle.std.proofs.Common.{unsigned_abs, FitsSigned, rules}
 use Rattle.std.proofs.lemmas.Int.{to_z-of_z}
 use mir.Syntax.{w128}
 use Rattle.sweep_boxes.proofs.Numbers.{lifted}
-use Rattle.sweep_boxes.proofs.Words.{kept_small, length_in, product_small}
+use Rattle.sweep_boxes.proofs.Words.{fits_of, kept_small, length_in, product_small}
 use Rattle.sweep_boxes.proofs.hold.lift_of.Goals as goal
 
 pub sizes-turn-requires : goal.sizes-turn-requires
@@ -40,13 +40,13 @@ returns-clause-small c = kept_small c.total.result _ c.total.type_inv c.total.en
 
 pub returns-clause-value : goal.returns-clause-value
 returns-clause-value c =
-    let x : FitsSigned w128 c.distance-drift.result = search rules in
-    let y : FitsSigned w128 c.distance-swing.result = search rules in
-    let z : FitsSigned w128 c.distance-bend.result = search rules in
-    let d : FitsSigned w128 c.dot.result = search rules in
-    let e : FitsSigned w128 c.dot-2.result = search rules in
-    let f : FitsSigned w128 c.dot-3.result = search rules in
-    let t : FitsSigned w128 c.total.result = search rules in
+    let x = fits_of c.distance-drift.result c.distance-drift.type_inv in
+    let y = fits_of c.distance-swing.result c.distance-swing.type_inv in
+    let z = fits_of c.distance-bend.result c.distance-bend.type_inv in
+    let d = fits_of c.dot.result c.dot.type_inv in
+    let e = fits_of c.dot-2.result c.dot-2.type_inv in
+    let f = fits_of c.dot-3.result c.dot-3.type_inv in
+    let t = fits_of c.total.result c.total.type_inv in
     simp to_z-of_z (lifted c.total.result c.distance-drift.result c.distance-swing.result c.distance-bend.result c.dot.result c.dot-2.result c.dot-3.result c.args.piece.now c.args.far.now c.sizes-turn.result
     (simp to_z-of_z at c.total.ensures.value) (simp to_z-of_z at c.distance-drift.ensures) (simp to_z-of_z at c.distance-swing.ensures) (simp to_z-of_z at c.distance-bend.ensures)
     c.dot.ensures.value c.dot-2.ensures.value c.dot-3.ensures.value c.sizes-turn.ensures.value)

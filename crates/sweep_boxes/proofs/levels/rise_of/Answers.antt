@@ -26,7 +26,7 @@ overflow_mul-result c =
 
 pub returns-clause-value : goal.returns-clause-value
 returns-clause-value c =
-    let w : FitsSigned w128 c.weighted.result = search rules in
+    let w = fits_of c.weighted.result c.weighted.type_inv in
     let l : FitsSigned w128 c.args.ladder.now.shortest = search rules in
     let s : FitsSigned w32 c.args.step.now.begin = search rules in
     let small = scaled_small c.args.piece.now.scale c.weighted.result c.args.piece.now.scaled.1 c.weighted.ensures.small in
@@ -37,7 +37,7 @@ returns-clause-value c =
 
 pub returns-clause-small : goal.returns-clause-small
 returns-clause-small c =
-    let w : FitsSigned w128 c.weighted.result = search rules in
+    let w = fits_of c.weighted.result c.weighted.type_inv in
     let l : FitsSigned w128 c.args.ladder.now.shortest = search rules in
     let small = scaled_small c.args.piece.now.scale c.weighted.result c.args.piece.now.scaled.1 c.weighted.ensures.small in
     let fits = product_fits c.weighted.result c.args.ladder.now.shortest (128 * place_limit) (10 ^ 9) small c.args.ladder.now.shortest_small.1 (omega arith) in

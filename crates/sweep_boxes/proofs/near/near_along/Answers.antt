@@ -56,10 +56,10 @@ returns-clause-first c z after near =
     let from : FitsSigned w32 (at c.args.from.now c.args.i) = search rules in
     let to : FitsSigned w32 (at c.args.to.now c.args.i) = search rules in
     let reach = c.ranges.reach in
-    let f : FitsSigned w32 c.lesser-first.result = search rules in
-    let l : FitsSigned w32 c.greater-last.result = search rules in
-    let s : FitsSigned w32 c.start_after.result = search rules in
-    let e : FitsSigned w32 c.end_before.result = search rules in
+    let f = fits32 c.lesser-first.result c.lesser-first.type_inv in
+    let l = fits32 c.greater-last.result c.greater-last.type_inv in
+    let s = fits32 c.start_after.result c.start_after.type_inv in
+    let e = fits32 c.end_before.result c.end_before.type_inv in
     let value : (z : ℤ) → at c.args.region.now.low c.args.i ≤ℤ z → (c.lesser-first.result -ℤ c.args.reach) ≤ℤ z → c.start_after.result ≤ℤ z = simp to_z-of_z at c.start_after.ensures.value in
     simp to_z-of_z (value z after (near_start c.args.reach (at c.args.from.now c.args.i) (at c.args.to.now c.args.i) z c.lesser-first.result (simp to_z-of_z at c.lesser-first.ensures.first) (simp to_z-of_z at c.lesser-first.ensures.second) near))
 
@@ -70,9 +70,9 @@ returns-clause-last c z before near =
     let from : FitsSigned w32 (at c.args.from.now c.args.i) = search rules in
     let to : FitsSigned w32 (at c.args.to.now c.args.i) = search rules in
     let reach = c.ranges.reach in
-    let f : FitsSigned w32 c.lesser-first.result = search rules in
-    let l : FitsSigned w32 c.greater-last.result = search rules in
-    let s : FitsSigned w32 c.start_after.result = search rules in
-    let e : FitsSigned w32 c.end_before.result = search rules in
+    let f = fits32 c.lesser-first.result c.lesser-first.type_inv in
+    let l = fits32 c.greater-last.result c.greater-last.type_inv in
+    let s = fits32 c.start_after.result c.start_after.type_inv in
+    let e = fits32 c.end_before.result c.end_before.type_inv in
     let value : (z : ℤ) → z ≤ℤ at c.args.region.now.high c.args.i → z ≤ℤ (c.greater-last.result +ℤ c.args.reach) → z ≤ℤ c.end_before.result = simp to_z-of_z at c.end_before.ensures.value in
     simp to_z-of_z (value z before (near_end c.args.reach (at c.args.from.now c.args.i) (at c.args.to.now c.args.i) z c.greater-last.result (simp to_z-of_z at c.greater-last.ensures.first) (simp to_z-of_z at c.greater-last.ensures.second) near))

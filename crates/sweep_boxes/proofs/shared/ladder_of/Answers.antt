@@ -6,7 +6,7 @@ use borrow.Author.Differences.{abs_is}
 use Rattle.space.specs.Vectors.{dot}
 use Rattle.sweep_boxes.specs.Vectors.{cross, sum}
 use Rattle.sweep_boxes.proofs.Stepped.{ladder_as}
-use Rattle.sweep_boxes.proofs.Words.{kept_at_most, kept_small, kept_some, long_in, long_some, summand, twice}
+use Rattle.sweep_boxes.proofs.Words.{fits_of, kept_at_most, kept_small, kept_some, long_in, long_some, summand, twice}
 use Rattle.sweep_boxes.proofs.shared.ladder_of.Goals as goal
 
 pub sizes-turn-requires : goal.sizes-turn-requires
@@ -72,10 +72,10 @@ invariant_of-result c =
 pub third_of_square-requires : goal.third_of_square-requires
 third_of_square-requires c =
     let change = c.change_limit-change in let bent = c.length_limit-bent in let two = c.sum in let spare = c.sum-spare in
-    let f1 : FitsSigned w128 change.result = search rules in
-    let f2 : FitsSigned w128 bent.result = search rules in
-    let g2 : FitsSigned w128 two.result = search rules in
-    let g3 : FitsSigned w128 spare.result = search rules in
+    let f1 = fits_of change.result change.type_inv in
+    let f2 = fits_of bent.result bent.type_inv in
+    let g2 = fits_of two.result two.type_inv in
+    let g3 = fits_of spare.result spare.type_inv in
     let two_is : two.result ≡ bent.result +ℤ bent.result = simp to_z-of_z at two.ensures.value in
     let spare_is : spare.result ≡ change.result +ℤ two.result = simp to_z-of_z at spare.ensures.value in
     omega (arith, ints, two_is, spare_is, change.ensures.some, bent.ensures.some, c.if-spare-gt50000000000000000.false, abs_is spare.result)
@@ -87,17 +87,17 @@ pub returns : goal.returns
 returns c =
     let piece = c.args.piece.now in let side = c.args.side.now in let far = c.args.far.now in
     let change = c.change_limit-change in let bent = c.length_limit-bent in let two = c.sum in let spare = c.sum-spare in let least = c.least_square-least in
-    let f0 : FitsSigned w128 c.lift_of.result = search rules in
-    let f1 : FitsSigned w128 change.result = search rules in
-    let f2 : FitsSigned w128 bent.result = search rules in
-    let g2 : FitsSigned w128 two.result = search rules in
-    let g3 : FitsSigned w128 spare.result = search rules in
-    let f3 : FitsSigned w128 c.root_down.result = search rules in
-    let f4 : FitsSigned w128 c.root_up.result = search rules in
-    let f5 : FitsSigned w128 c.short_square.result = search rules in
-    let f6 : FitsSigned w128 c.third_of_square.result = search rules in
-    let f7 : FitsSigned w128 c.stray_of.result = search rules in
-    let f8 : FitsSigned w128 least.result = search rules in
+    let f0 = fits_of c.lift_of.result c.lift_of.type_inv in
+    let f1 = fits_of change.result change.type_inv in
+    let f2 = fits_of bent.result bent.type_inv in
+    let g2 = fits_of two.result two.type_inv in
+    let g3 = fits_of spare.result spare.type_inv in
+    let f3 = fits_of c.root_down.result c.root_down.type_inv in
+    let f4 = fits_of c.root_up.result c.root_up.type_inv in
+    let f5 = fits_of c.short_square.result c.short_square.type_inv in
+    let f6 = fits_of c.third_of_square.result c.third_of_square.type_inv in
+    let f7 = fits_of c.stray_of.result c.stray_of.type_inv in
+    let f8 = fits_of least.result least.type_inv in
     let l : FitsSigned w128 piece.longest = search rules in
     let two_is : two.result ≡ bent.result +ℤ bent.result = simp to_z-of_z at two.ensures.value in
     let spare_is : spare.result ≡ change.result +ℤ two.result = simp to_z-of_z at spare.ensures.value in

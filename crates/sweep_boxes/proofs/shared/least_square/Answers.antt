@@ -58,8 +58,8 @@ returns-clause-small c = kept_at_most c.lesser.result _ c.lesser.type_inv c.less
 
 pub overflow_sub-along-2 : goal.overflow_sub-along-2
 overflow_sub-along-2 c =
-    let a : FitsSigned w128 c.dot-along.result = search rules in let b : FitsSigned w128 c.dot-turned.result = search rules in
-    let d : FitsSigned w128 c.dot.result = search rules in let s : FitsSigned w128 c.distance-swing.result = search rules in
+    let a = fits_of c.dot-along.result c.dot-along.type_inv in let b = fits_of c.dot-turned.result c.dot-turned.type_inv in
+    let d = fits_of c.dot.result c.dot.type_inv in let s = fits_of c.distance-swing.result c.distance-swing.type_inv in
     let swing : c.distance-swing.result ≡ pos (unsigned_abs c.dot.result) = simp to_z-of_z at c.distance-swing.ensures in
     let f = whole_fits c.dot-along.result c.dot-turned.result c.distance-swing.result (unsigned_abs c.dot.result) c.dot-along.ensures.small c.dot-turned.ensures.small swing c.dot.ensures.small in
     let f0 = f.0 in let f1 = f.1 in let f3 = f.3 in
@@ -67,8 +67,8 @@ overflow_sub-along-2 c =
 
 pub lesser-requires : goal.lesser-requires
 lesser-requires c =
-    let a : FitsSigned w128 c.dot-along.result = search rules in let b : FitsSigned w128 c.dot-turned.result = search rules in
-    let d : FitsSigned w128 c.dot.result = search rules in let s : FitsSigned w128 c.distance-swing.result = search rules in
+    let a = fits_of c.dot-along.result c.dot-along.type_inv in let b = fits_of c.dot-turned.result c.dot-turned.type_inv in
+    let d = fits_of c.dot.result c.dot.type_inv in let s = fits_of c.distance-swing.result c.distance-swing.type_inv in
     let swing : c.distance-swing.result ≡ pos (unsigned_abs c.dot.result) = simp to_z-of_z at c.distance-swing.ensures in
     let f = whole_fits c.dot-along.result c.dot-turned.result c.distance-swing.result (unsigned_abs c.dot.result) c.dot-along.ensures.small c.dot-turned.ensures.small swing c.dot.ensures.small in
     let f2 = f.2 in let f4 = f.4 in
@@ -85,9 +85,9 @@ less_middle r a b x y ea eb h = omega (arith, ints, ea, eb, h)
 
 pub returns-clause-first : goal.returns-clause-first
 returns-clause-first c =
-    let a : FitsSigned w128 c.dot-along.result = search rules in let b : FitsSigned w128 c.dot-turned.result = search rules in
-    let d : FitsSigned w128 c.dot.result = search rules in let s : FitsSigned w128 c.distance-swing.result = search rules in
-    let r : FitsSigned w128 c.lesser.result = search rules in
+    let a = fits_of c.dot-along.result c.dot-along.type_inv in let b = fits_of c.dot-turned.result c.dot-turned.type_inv in
+    let d = fits_of c.dot.result c.dot.type_inv in let s = fits_of c.distance-swing.result c.distance-swing.type_inv in
+    let r = fits_of c.lesser.result c.lesser.type_inv in
     let swing : c.distance-swing.result ≡ pos (unsigned_abs c.dot.result) = simp to_z-of_z at c.distance-swing.ensures in
     let f = whole_fits c.dot-along.result c.dot-turned.result c.distance-swing.result (unsigned_abs c.dot.result) c.dot-along.ensures.small c.dot-turned.ensures.small swing c.dot.ensures.small in
     let f0 = f.0 in let f1 = f.1 in let f3 = f.3 in
@@ -99,9 +99,9 @@ returns-clause-first c =
 
 pub returns-clause-last : goal.returns-clause-last
 returns-clause-last c =
-    let a : FitsSigned w128 c.dot-along.result = search rules in let b : FitsSigned w128 c.dot-turned.result = search rules in
-    let d : FitsSigned w128 c.dot.result = search rules in let s : FitsSigned w128 c.distance-swing.result = search rules in
-    let r : FitsSigned w128 c.lesser.result = search rules in
+    let a = fits_of c.dot-along.result c.dot-along.type_inv in let b = fits_of c.dot-turned.result c.dot-turned.type_inv in
+    let d = fits_of c.dot.result c.dot.type_inv in let s = fits_of c.distance-swing.result c.distance-swing.type_inv in
+    let r = fits_of c.lesser.result c.lesser.type_inv in
     let swing : c.distance-swing.result ≡ pos (unsigned_abs c.dot.result) = simp to_z-of_z at c.distance-swing.ensures in
     let f = whole_fits c.dot-along.result c.dot-turned.result c.distance-swing.result (unsigned_abs c.dot.result) c.dot-along.ensures.small c.dot-turned.ensures.small swing c.dot.ensures.small in
     let f0 = f.0 in let f1 = f.1 in let f3 = f.3 in
@@ -113,9 +113,9 @@ returns-clause-last c =
 
 pub returns-clause-middle : goal.returns-clause-middle
 returns-clause-middle c =
-    let a : FitsSigned w128 c.dot-along.result = search rules in let b : FitsSigned w128 c.dot-turned.result = search rules in
-    let d : FitsSigned w128 c.dot.result = search rules in let s : FitsSigned w128 c.distance-swing.result = search rules in
-    let r : FitsSigned w128 c.lesser.result = search rules in
+    let a = fits_of c.dot-along.result c.dot-along.type_inv in let b = fits_of c.dot-turned.result c.dot-turned.type_inv in
+    let d = fits_of c.dot.result c.dot.type_inv in let s = fits_of c.distance-swing.result c.distance-swing.type_inv in
+    let r = fits_of c.lesser.result c.lesser.type_inv in
     let swing : c.distance-swing.result ≡ pos (unsigned_abs c.dot.result) = simp to_z-of_z at c.distance-swing.ensures in
     let f = whole_fits c.dot-along.result c.dot-turned.result c.distance-swing.result (unsigned_abs c.dot.result) c.dot-along.ensures.small c.dot-turned.ensures.small swing c.dot.ensures.small in
     let f2 = f.2 in

@@ -5,7 +5,7 @@ use Rattle.space.proofs.Facts.{fits128}
 use Rattle.space.proofs.Naturals.{natural}
 use Rattle.sweep_boxes.specs.Limits.{side_limit}
 use Rattle.sweep_boxes.proofs.Lined.{within_margin}
-use Rattle.sweep_boxes.proofs.Words.{fits32, kept_axis, kept_moment, kept_place, kept_small, kept_square}
+use Rattle.sweep_boxes.proofs.Words.{fits32, fits_of, kept_axis, kept_moment, kept_place, kept_small, kept_square}
 use Rattle.sweep_boxes.proofs.side.ends.Goals as goal
 
 axis_fits : (z : ℤ) → unsigned_abs z ≤ side_limit → FitsSigned w128 z
@@ -49,11 +49,11 @@ returns-clause-high_small c = kept_place c.last_end.result c.last_end.ensures.sm
 
 pub returns-clause-first : goal.returns-clause-first
 returns-clause-first c z u held =
-    let a : FitsSigned w128 c.aside.result = search rules in
-    let m : FitsSigned w128 c.margin-margin.result = search rules in
+    let a = fits_of c.aside.result c.aside.type_inv in
+    let m = fits_of c.margin-margin.result c.margin-margin.type_inv in
     let o : FitsSigned w128 c.args.hold.now.moment = search rules in
-    let f : FitsSigned w32 c.first_end.result = search rules in
-    let l : FitsSigned w32 c.last_end.result = search rules in
+    let f = fits32 c.first_end.result c.first_end.type_inv in
+    let l = fits32 c.last_end.result c.last_end.type_inv in
     let square : FitsSigned w128 c.args.line.now.square = search rules in
     let axis : FitsSigned w128 c.args.line.now.axis = search rules in
     let some : pos 0 ≤ℤ c.args.hold.now.moment = search rules in
@@ -66,11 +66,11 @@ returns-clause-first c z u held =
 
 pub returns-clause-last : goal.returns-clause-last
 returns-clause-last c z u held =
-    let a : FitsSigned w128 c.aside.result = search rules in
-    let m : FitsSigned w128 c.margin-margin.result = search rules in
+    let a = fits_of c.aside.result c.aside.type_inv in
+    let m = fits_of c.margin-margin.result c.margin-margin.type_inv in
     let o : FitsSigned w128 c.args.hold.now.moment = search rules in
-    let f : FitsSigned w32 c.first_end.result = search rules in
-    let l : FitsSigned w32 c.last_end.result = search rules in
+    let f = fits32 c.first_end.result c.first_end.type_inv in
+    let l = fits32 c.last_end.result c.last_end.type_inv in
     let square : FitsSigned w128 c.args.line.now.square = search rules in
     let axis : FitsSigned w128 c.args.line.now.axis = search rules in
     let some : pos 0 ≤ℤ c.args.hold.now.moment = search rules in

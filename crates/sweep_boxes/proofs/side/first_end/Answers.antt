@@ -64,11 +64,11 @@ returns-clause-small c = kept_place c.first_place.result c.first_place.ensures.s
 
 pub returns-clause-value : goal.returns-clause-value
 returns-clause-value c z u after before above below far =
-    let l : FitsSigned w128 c.least_along.result = search rules in
-    let d : FitsSigned w128 c.from_tip.result = search rules in
-    let e : FitsSigned w128 c.scaled.result = search rules in
-    let p : FitsSigned w128 c.quotient-place.result = search rules in
-    let r : FitsSigned w32 c.first_place.result = search rules in
+    let l = fits_of c.least_along.result c.least_along.type_inv in
+    let d = fits_of c.from_tip.result c.from_tip.type_inv in
+    let e = fits_of c.scaled.result c.scaled.type_inv in
+    let p = fits_of c.quotient-place.result c.quotient-place.type_inv in
+    let r = fits32 c.first_place.result c.first_place.type_inv in
     let axis : FitsSigned w128 c.args.line.now.axis = search rules in
     let tip : FitsSigned w128 c.args.line.now.tip = search rules in
     let square : FitsSigned w128 c.args.line.now.square = search rules in

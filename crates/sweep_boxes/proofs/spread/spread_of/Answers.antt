@@ -6,7 +6,7 @@ use Rattle.space.specs.Vectors.{dot}
 use Rattle.sweep_boxes.specs.Held.{IsSpread}
 use Rattle.sweep_boxes.specs.Vectors.{cross, sum}
 use Rattle.sweep_boxes.proofs.AlongSide.{spread_by}
-use Rattle.sweep_boxes.proofs.Words.{kept_small, kept_some, long_few, long_some, scale_few, small32_in, small_up_to, summand, twice}
+use Rattle.sweep_boxes.proofs.Words.{fits_of, kept_small, kept_some, long_few, long_some, scale_few, small32_in, small_up_to, summand, twice}
 use Rattle.sweep_boxes.proofs.spread.spread_of.Goals as goal
 
 pub sizes-turn-requires : goal.sizes-turn-requires
@@ -70,10 +70,10 @@ sum-requires-2 c =
 pub third_of_square-requires : goal.third_of_square-requires
 third_of_square-requires c =
     let change = c.change_limit-change in let bent = c.length_limit-bent in let two = c.sum in let spare = c.sum-spare in
-    let f1 : FitsSigned w128 change.result = search rules in
-    let f2 : FitsSigned w128 bent.result = search rules in
-    let g2 : FitsSigned w128 two.result = search rules in
-    let g3 : FitsSigned w128 spare.result = search rules in
+    let f1 = fits_of change.result change.type_inv in
+    let f2 = fits_of bent.result bent.type_inv in
+    let g2 = fits_of two.result two.type_inv in
+    let g3 = fits_of spare.result spare.type_inv in
     let two_is : two.result ≡ bent.result +ℤ bent.result = simp to_z-of_z at two.ensures.value in
     let spare_is : spare.result ≡ change.result +ℤ two.result = simp to_z-of_z at spare.ensures.value in
     omega (arith, ints, two_is, spare_is, change.ensures.some, bent.ensures.some, c.if-spare-gt50000000000000000.false, abs_is spare.result)
@@ -81,9 +81,9 @@ third_of_square-requires c =
 pub returns-clause-some : goal.returns-clause-some
 returns-clause-some c =
     let reach = c.reach_across-reach in let stray = c.stray_of in let whole = c.sum-2 in
-    let a : FitsSigned w128 reach.result = search rules in
-    let b : FitsSigned w128 stray.result = search rules in
-    let d : FitsSigned w128 whole.result = search rules in
+    let a = fits_of reach.result reach.type_inv in
+    let b = fits_of stray.result stray.type_inv in
+    let d = fits_of whole.result whole.type_inv in
     let whole_is : whole.result ≡ reach.result +ℤ stray.result = simp to_z-of_z at whole.ensures.value in
     let some : pos 0 ≤ℤ whole.result = omega (arith, ints, whole_is, reach.ensures.some, stray.ensures.some) in
     simp to_z-of_z some
@@ -94,16 +94,16 @@ returns-clause-value c = λ small.
     let half = c.radius-half in let change = c.change_limit-change in let bent = c.length_limit-bent in
     let two = c.sum in let spare = c.sum-spare in let third = c.third_of_square in let short = c.short_square in
     let reach = c.reach_across-reach in let stray = c.stray_of in let whole = c.sum-2 in
-    let f0 : FitsSigned w128 half.result = search rules in
-    let f1 : FitsSigned w128 change.result = search rules in
-    let f2 : FitsSigned w128 bent.result = search rules in
-    let f3 : FitsSigned w128 two.result = search rules in
-    let f4 : FitsSigned w128 spare.result = search rules in
-    let f5 : FitsSigned w128 third.result = search rules in
-    let f6 : FitsSigned w128 short.result = search rules in
-    let f7 : FitsSigned w128 reach.result = search rules in
-    let f8 : FitsSigned w128 stray.result = search rules in
-    let f9 : FitsSigned w128 whole.result = search rules in
+    let f0 = fits_of half.result half.type_inv in
+    let f1 = fits_of change.result change.type_inv in
+    let f2 = fits_of bent.result bent.type_inv in
+    let f3 = fits_of two.result two.type_inv in
+    let f4 = fits_of spare.result spare.type_inv in
+    let f5 = fits_of third.result third.type_inv in
+    let f6 = fits_of short.result short.type_inv in
+    let f7 = fits_of reach.result reach.type_inv in
+    let f8 = fits_of stray.result stray.type_inv in
+    let f9 = fits_of whole.result whole.type_inv in
     let w : FitsSigned w32 c.args.widest = search rules in
     let l : FitsSigned w128 piece.longest = search rules in
     let two_is : two.result ≡ bent.result +ℤ bent.result = simp to_z-of_z at two.ensures.value in
