@@ -3,6 +3,7 @@ use Rattle.std.proofs.lemmas.Int.{ints, to_z-of_z, to_z_pos}
 use Rattle.std.proofs.Math.Nat.{div-add-mod, mod-lt, mul-le-mul}
 use mir.Syntax.{w128}
 use Rattle.sweep_boxes.proofs.Numbers.{product_fits}
+use Rattle.sweep_boxes.proofs.Words.{fits_of}
 use Rattle.sweep_boxes.proofs.vector.root_in.Goals as goal
 
 -- what is left of a number beside the whole squares of the unit is less than one of them
@@ -22,8 +23,8 @@ in_units n u (negsuc k) some root h = absurd (omega (arith, ints, h))
 
 pub returns-clause-value : goal.returns-clause-value
 returns-clause-value c =
-    let r : FitsSigned w128 c.short_root_up.result = search rules in
-    let l : FitsSigned w128 c.limited.result = search rules in
+    let r = fits_of c.short_root_up.result c.short_root_up.type_inv in
+    let l = fits_of c.limited.result c.limited.type_inv in
     let few : c.args.unit ≤ 2 ^ 29 = c.requires.few in
     let unit : unsigned_abs (pos c.args.unit) ≤ 2 ^ 29 = few in
     let fits : FitsSigned w128 (c.short_root_up.result *ℤ pos c.args.unit) = product_fits c.short_root_up.result (pos c.args.unit) (10 ^ 18) (2 ^ 29) c.short_root_up.ensures.small unit (omega arith) in
