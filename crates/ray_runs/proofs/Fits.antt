@@ -137,3 +137,16 @@ module _ (w : Width) (x y : ℤ) (n : ℕ) (r : n + n < 2 ^ hbits w) (h : unsign
 
   pub sum_within : (l : ℕ) → n + n ≤ l → unsigned_abs (to_z w (of_z w (to_z w (of_z w x) +ℤ to_z w (of_z w y)))) ≤ l
   sum_within l m = small_as _ (x +ℤ y) l sum_is (omega (arith, m, two_small x y n h k))
+
+-- a sum of three
+module _ (w : Width) (x y z : ℤ) (n : ℕ) (r : n + n + n < 2 ^ hbits w) (h : unsigned_abs x ≤ n) (k : unsigned_abs y ≤ n) (l : unsigned_abs z ≤ n) where
+  all_summed : to_z w (of_z w (to_z w (of_z w x) +ℤ to_z w (of_z w y))) +ℤ to_z w (of_z w z) ≡ (x +ℤ y) +ℤ z
+  all_summed = ap₂ (λ a b. a +ℤ b) (sum_is w x y n (omega (arith, r)) h k) (back_of w z n (omega (arith, r)) l)
+
+  pub sums_fit : FitsSigned w (to_z w (of_z w (to_z w (of_z w x) +ℤ to_z w (of_z w y))) +ℤ to_z w (of_z w z))
+  sums_fit = subst (FitsSigned w) (sym all_summed) (fits_signed_from_abs w ((x +ℤ y) +ℤ z) (omega (arith, r, three_small x y z n h k l)))
+
+  pub sums_small : unsigned_abs (to_z w (of_z w (to_z w (of_z w (to_z w (of_z w x) +ℤ to_z w (of_z w y))) +ℤ to_z w (of_z w z)))) ≤ n + n + n
+  sums_small =
+      small_as _ ((x +ℤ y) +ℤ z) (n + n + n) (to_z-of_z w (to_z w (of_z w (to_z w (of_z w x) +ℤ to_z w (of_z w y))) +ℤ to_z w (of_z w z)) sums_fit ∙ all_summed)
+      (three_small x y z n h k l)
