@@ -1,5 +1,5 @@
 -- Numbers of the tests that fit.
-use Rattle.std.proofs.Common.{◌≡◌, ℕ, ◌+◌, ◌*◌, ◌≤◌, [], ◌∷◌, List, length, ℤ, pos, Bool, true, false, ◌&&◌, int_lt, ◌+ℤ◌, ◌*ℤ◌, unsigned_abs, FitsSigned, arith, ap, refl, ◌∙◌}
+use Rattle.std.proofs.Common.{◌≡◌, ℕ, ◌+◌, ◌*◌, ◌≤◌, [], ◌∷◌, List, length, ℤ, pos, ◌+ℤ◌, ◌*ℤ◌, unsigned_abs, FitsSigned, arith, ap, refl, ◌∙◌}
 use Rattle.std.proofs.lemmas.Int.{ints}
 use mir.Syntax.{w64, w128}
 use Rattle.space.specs.Vectors.{at}
@@ -7,7 +7,7 @@ use Rattle.space.proofs.Facts.{fits128}
 use Rattle.space.proofs.Naturals.{abs_add, abs_mul}
 use Rattle.space.proofs.Solver.{Term, add, mul, num, ring}
 use Rattle.space.proofs.Terms.{from}
-use Rattle.bern_form.specs.Forms.{all_negative, lifted, product22}
+use Rattle.bern_form.specs.Forms.{lifted, product22}
 use Rattle.bern_form.specs.Sizes.{IsBounded2, axis_limit}
 use Rattle.width_bisect.specs.Sizes.{height_limit}
 use Rattle.width_bisect.proofs.Shifting.{fits64}
@@ -104,24 +104,3 @@ axis_form_fits c h = record {
   middle = fits64 (at c 1) (2 * (3 * (axis_limit * axis_limit))) h.middle (omega arith);
   last = fits64 (at c 2) (3 * (axis_limit * axis_limit)) h.last (omega arith);
 }
-
-and_true : (b : Bool) → b ≡ (b && true)
-and_true true = refl
-and_true false = refl
-
--- three coefficients are below 0 where each of them is, and not where one isn't
-pub third_tells : (l : List ℤ) → length l ≡ 3 → int_lt (at l 0) (pos 0) ≡ true → int_lt (at l 1) (pos 0) ≡ true → int_lt (at l 2) (pos 0) ≡ all_negative l
-third_tells [] e p q = absurd (omega (arith, e))
-third_tells (a ∷ []) e p q = absurd (omega (arith, e))
-third_tells (a ∷ b ∷ []) e p q = absurd (omega (arith, e))
-third_tells (a ∷ b ∷ c ∷ []) e p q = rw (p, q) (and_true (int_lt c (pos 0)))
-third_tells (a ∷ b ∷ c ∷ d ∷ l) e p q = absurd (omega (arith, e))
-
-pub second_tells : (l : List ℤ) → length l ≡ 3 → int_lt (at l 0) (pos 0) ≡ true → int_lt (at l 1) (pos 0) ≡ false → false ≡ all_negative l
-second_tells [] e p q = absurd (omega (arith, e))
-second_tells (a ∷ []) e p q = absurd (omega (arith, e))
-second_tells (a ∷ b ∷ l) e p q = rw (p, q) refl
-
-pub first_tells : (l : List ℤ) → length l ≡ 3 → int_lt (at l 0) (pos 0) ≡ false → false ≡ all_negative l
-first_tells [] e p = absurd (omega (arith, e))
-first_tells (a ∷ l) e p = rw p refl
