@@ -19,3 +19,4 @@ pub mod RayTests
 pub mod RayHalves
 pub mod RayWhole
 pub mod Reread
+pub mod SlabBySlab

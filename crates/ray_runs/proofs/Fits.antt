@@ -25,10 +25,7 @@ dot_small p a m n hp ha =
     three_small (at p 0 *ℤ at a 0) (at p 1 *ℤ at a 1) (at p 2 *ℤ at a 2) (m * n) (abs_mul (at p 0) (at a 0) m n hp.0 ha.0) (abs_mul (at p 1) (at a 1) m n hp.1 ha.1)
     (abs_mul (at p 2) (at a 2) m n hp.2 ha.2)
 
--- by what a number is equal to
-pub as_that : (x y z : ℤ) → x ≡ y → y ≡ z → x ≡ z
-as_that x y z e f = e ∙ f
-
+-- sums and differences of numbers that are the same
 pub three_same : (a b c x y z : ℤ) → a ≡ x → b ≡ y → c ≡ z → (a +ℤ b) +ℤ c ≡ (x +ℤ y) +ℤ z
 three_same a b c x y z e f g = λ i. (e i +ℤ f i) +ℤ g i
 
@@ -137,3 +134,27 @@ module _ (w : Width) (x y : ℤ) (n : ℕ) (r : n + n < 2 ^ hbits w) (h : unsign
 
   pub sum_within : (l : ℕ) → n + n ≤ l → unsigned_abs (to_z w (of_z w (to_z w (of_z w x) +ℤ to_z w (of_z w y)))) ≤ l
   sum_within l m = small_as _ (x +ℤ y) l sum_is (omega (arith, m, two_small x y n h k))
+
+-- a difference of numbers within a limit
+module _ (w : Width) (x y : ℤ) (n : ℕ) (r : n + n < 2 ^ hbits w) (h : unsigned_abs x ≤ n) (k : unsigned_abs y ≤ n) where
+  both_lessened : to_z w (of_z w x) -ℤ to_z w (of_z w y) ≡ x -ℤ y
+  both_lessened = ap₂ (λ a b. a -ℤ b) (back_of w x n (omega (arith, r)) h) (back_of w y n (omega (arith, r)) k)
+
+  pub less_fits : FitsSigned w (to_z w (of_z w x) -ℤ to_z w (of_z w y))
+  less_fits = subst (FitsSigned w) (sym both_lessened) (fits_signed_from_abs w (x -ℤ y) (omega (arith, r, h, k, abs_sub x y)))
+
+  pub less_is : to_z w (of_z w (to_z w (of_z w x) -ℤ to_z w (of_z w y))) ≡ x -ℤ y
+  less_is = to_z-of_z w (to_z w (of_z w x) -ℤ to_z w (of_z w y)) less_fits ∙ both_lessened
+
+-- a sum of three
+module _ (w : Width) (x y z : ℤ) (n : ℕ) (r : n + n + n < 2 ^ hbits w) (h : unsigned_abs x ≤ n) (k : unsigned_abs y ≤ n) (l : unsigned_abs z ≤ n) where
+  all_summed : to_z w (of_z w (to_z w (of_z w x) +ℤ to_z w (of_z w y))) +ℤ to_z w (of_z w z) ≡ (x +ℤ y) +ℤ z
+  all_summed = ap₂ (λ a b. a +ℤ b) (sum_is w x y n (omega (arith, r)) h k) (back_of w z n (omega (arith, r)) l)
+
+  pub sums_fit : FitsSigned w (to_z w (of_z w (to_z w (of_z w x) +ℤ to_z w (of_z w y))) +ℤ to_z w (of_z w z))
+  sums_fit = subst (FitsSigned w) (sym all_summed) (fits_signed_from_abs w ((x +ℤ y) +ℤ z) (omega (arith, r, three_small x y z n h k l)))
+
+  pub sums_small : unsigned_abs (to_z w (of_z w (to_z w (of_z w (to_z w (of_z w x) +ℤ to_z w (of_z w y))) +ℤ to_z w (of_z w z)))) ≤ n + n + n
+  sums_small =
+      small_as _ ((x +ℤ y) +ℤ z) (n + n + n) (to_z-of_z w (to_z w (of_z w (to_z w (of_z w x) +ℤ to_z w (of_z w y))) +ℤ to_z w (of_z w z)) sums_fit ∙ all_summed)
+      (three_small x y z n h k l)

@@ -16,21 +16,18 @@ few_squared h few =
 pub square_fits : (h : ℕ) → h < 64 → Fits w32 (h * h)
 square_fits h few = record { fits = few_squared h few }
 
-pub fits_small : (z : ℤ) → IsSmall z → FitsSigned w128 z
+fits_small : (z : ℤ) → IsSmall z → FitsSigned w128 z
 fits_small z h = fits_signed_from_abs w128 z (omega (arith, h))
 
-pub small_back : (z : ℤ) → IsSmall z → to_z w128 (of_z w128 z) ≡ z
+small_back : (z : ℤ) → IsSmall z → to_z w128 (of_z w128 z) ≡ z
 small_back z h = to_z-of_z w128 z (fits_small z h)
 
 -- a product that is small, of numbers that fit
-pub product_back : (x y : ℤ) → FitsSigned w128 x → FitsSigned w128 y → to_z w128 (of_z w128 x) *ℤ to_z w128 (of_z w128 y) ≡ x *ℤ y
+product_back : (x y : ℤ) → FitsSigned w128 x → FitsSigned w128 y → to_z w128 (of_z w128 x) *ℤ to_z w128 (of_z w128 y) ≡ x *ℤ y
 product_back x y f g = ap₂ (λ a b. a *ℤ b) (to_z-of_z w128 x f) (to_z-of_z w128 y g)
 
 pub product_fits : (x y : ℤ) → FitsSigned w128 x → FitsSigned w128 y → IsSmall (x *ℤ y) → FitsSigned w128 (to_z w128 (of_z w128 x) *ℤ to_z w128 (of_z w128 y))
 product_fits x y f g h = subst (FitsSigned w128) (sym (product_back x y f g)) (fits_small (x *ℤ y) h)
-
-pub product_is : (x y : ℤ) → FitsSigned w128 x → FitsSigned w128 y → IsSmall (x *ℤ y) → to_z w128 (of_z w128 (to_z w128 (of_z w128 x) *ℤ to_z w128 (of_z w128 y))) ≡ x *ℤ y
-product_is x y f g h = to_z-of_z w128 (to_z w128 (of_z w128 x) *ℤ to_z w128 (of_z w128 y)) (product_fits x y f g h) ∙ product_back x y f g
 
 -- a difference
 module _ (x e : ℤ) (h : IsSmall x) (k : IsSmall e) where
@@ -40,7 +37,7 @@ module _ (x e : ℤ) (h : IsSmall x) (k : IsSmall e) where
   pub less_fits : FitsSigned w128 (to_z w128 (of_z w128 x) -ℤ to_z w128 (of_z w128 e))
   less_fits = subst (FitsSigned w128) (sym both_back) (fits_signed_from_abs w128 (x -ℤ e) (omega (arith, abs_sub x e, h, k)))
 
-  pub less_is : to_z w128 (of_z w128 (to_z w128 (of_z w128 x) -ℤ to_z w128 (of_z w128 e))) ≡ x -ℤ e
+  less_is : to_z w128 (of_z w128 (to_z w128 (of_z w128 x) -ℤ to_z w128 (of_z w128 e))) ≡ x -ℤ e
   less_is = to_z-of_z w128 (to_z w128 (of_z w128 x) -ℤ to_z w128 (of_z w128 e)) less_fits ∙ both_back
 
 -- the sum of two, from the same
@@ -56,11 +53,6 @@ sum_back x y e h j k = ap₂ (λ a b. a +ℤ b) (less_is x e h k) (less_is y e j
 pub sum_fits : (x y e : ℤ) → IsSmall x → IsSmall y → IsSmall e
     → FitsSigned w128 (to_z w128 (of_z w128 (to_z w128 (of_z w128 x) -ℤ to_z w128 (of_z w128 e))) +ℤ to_z w128 (of_z w128 (to_z w128 (of_z w128 y) -ℤ to_z w128 (of_z w128 e))))
 sum_fits x y e h j k = subst (FitsSigned w128) (sym (sum_back x y e h j k)) (sum_small x y e h j k)
-
-pub sum_is : (x y e : ℤ) → IsSmall x → IsSmall y → IsSmall e
-    → to_z w128 (of_z w128 (to_z w128 (of_z w128 (to_z w128 (of_z w128 x) -ℤ to_z w128 (of_z w128 e))) +ℤ to_z w128 (of_z w128 (to_z w128 (of_z w128 y) -ℤ to_z w128 (of_z w128 e)))))
-    ≡ (x -ℤ e) +ℤ (y -ℤ e)
-sum_is x y e h j k = to_z-of_z w128 _ (sum_fits x y e h j k) ∙ sum_back x y e h j k
 
 -- a coefficient that is linear, or quadratic, in a number of steps, where what it is made of fits
 linear_back : (w : Width) (a b l : ℤ) → FitsSigned w a → FitsSigned w b → to_z w (of_z w a) +ℤ l *ℤ to_z w (of_z w b) ≡ a +ℤ l *ℤ b

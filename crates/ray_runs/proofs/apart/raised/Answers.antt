@@ -1,8 +1,30 @@
-use Rattle.std.proofs.Common.{◌≡◌, pos, ◌+ℤ◌, ◌*ℤ◌, FitsSigned, ◌∙◌}
+use Rattle.std.proofs.Common.{◌≡◌, pos, ◌*◌, ◌+ℤ◌, ◌*ℤ◌, FitsSigned, ◌∙◌}
 use Rattle.std.proofs.lemmas.Int.{to_z-of_z}
 use mir.Syntax.{w64}
+use Rattle.box_bisect.proofs.Reread.{small_back}
+use Rattle.ray_runs.specs.Sizes.{part_limit}
+use Rattle.ray_runs.proofs.Fits.{height_fits}
 use Rattle.ray_runs.proofs.StretchTests.{raised_same}
 use Rattle.ray_runs.proofs.apart.raised.Goals as goal
+
+pub twice-requires : goal.twice-requires
+twice-requires c = record {
+  x = small_back w64 c.height-first.result (3 * part_limit) height_fits c.height-first.ensures.small;
+  y = small_back w64 c.height-both.result (3 * part_limit) height_fits c.height-both.ensures.small;
+}
+
+pub middle-requires : goal.middle-requires
+middle-requires c = record {
+  x = small_back w64 c.height-first.result (3 * part_limit) height_fits c.height-first.ensures.small;
+  y = small_back w64 c.height-both.result (3 * part_limit) height_fits c.height-both.ensures.small;
+  z = small_back w64 c.height-last.result (3 * part_limit) height_fits c.height-last.ensures.small;
+}
+
+pub twice-requires-2 : goal.twice-requires-2
+twice-requires-2 c = record {
+  x = small_back w64 c.height-both.result (3 * part_limit) height_fits c.height-both.ensures.small;
+  y = small_back w64 c.height-last.result (3 * part_limit) height_fits c.height-last.ensures.small;
+}
 
 pub returns : goal.returns
 returns c =

@@ -119,3 +119,13 @@ returns g c =
     let late = but_as c.open_in-late.result (to_z w64 (of_z w64 a.square)) a.square m point a.scale a.from a.to i (i + 2 ^ n) same c.open_in-late.ensures in
     halves_open c.open_in-early.result c.open_in-late.result c.joined.result record { first = a.j; levels = a.levels } a.square m point a.scale a.from a.to a.j a.levels n i
     (omega arith) middle c.requires.levels refl refl c.joined.ensures early late
+
+pub are_apart-requires-clause-start : goal.are_apart-requires-clause-start
+are_apart-requires-clause-start g c = λ yes.
+    let s = c.args.start.now in
+    subst (λ f. AreBesideAt f s.first_moment s.last_moment s.first.axis) (sym (to_z-of_z w64 c.args.square c.ranges.square)) (c.requires.start_beside yes)
+
+pub are_apart-requires-clause-end : goal.are_apart-requires-clause-end
+are_apart-requires-clause-end g c = λ yes.
+    let e = c.args.end.now in
+    subst (λ f. AreBesideAt f e.first_moment e.last_moment e.first.axis) (sym (to_z-of_z w64 c.args.square c.ranges.square)) (c.requires.end_beside yes)

@@ -1,19 +1,28 @@
-use Rattle.std.proofs.Common.{◌≡◌, ◌≤◌, ◌*◌, ℤ, ◌*ℤ◌, ◌-ℤ◌, unsigned_abs, arith, subst, sym}
-use Rattle.std.proofs.lemmas.Int.{ints, to_z-of_z}
-use borrow.Author.Differences.{abs_is}
+use Rattle.std.proofs.Common.{◌≡◌, ◌*◌, ◌*ℤ◌, ◌-ℤ◌, ap₂, ◌∙◌}
+use mir.Syntax.{w64}
 use Rattle.bern_form.specs.Sizes.{axis_limit, offset_limit}
+use Rattle.box_bisect.proofs.Reread.{back_of, small_as, small_back}
 use Rattle.ray_runs.specs.Sizes.{part_limit}
-use Rattle.ray_runs.proofs.Fits.{as_that, less_same, minor_small}
+use Rattle.ray_runs.proofs.Fits.{axis_fits, less_fits, less_is, less_same, minor_small, offset_fits, parts_fit}
 use Rattle.ray_runs.proofs.moments.minor.Goals as goal
+
+pub part-requires : goal.part-requires
+part-requires c = record { p = small_back w64 c.args.p offset_limit offset_fits c.requires.p; a = small_back w64 c.args.b axis_limit axis_fits c.requires.b }
+
+pub part-requires-2 : goal.part-requires-2
+part-requires-2 c = record { p = small_back w64 c.args.q offset_limit offset_fits c.requires.q; a = small_back w64 c.args.a axis_limit axis_fits c.requires.a }
+
+pub overflow_sub-result : goal.overflow_sub-result
+overflow_sub-result c = less_fits w64 c.part.result c.part-2.result part_limit parts_fit c.part.ensures.small c.part-2.ensures.small
 
 pub returns-clause-value : goal.returns-clause-value
 returns-clause-value c =
-    let x = c.part.result in let y = c.part-2.result in let hp = c.ranges.p in let hq = c.ranges.q in let ha = c.ranges.a in let hb = c.ranges.b in
-    let ex : x ≡ c.args.p *ℤ c.args.b = simp to_z-of_z at c.part.ensures.value in
-    let ey : y ≡ c.args.q *ℤ c.args.a = simp to_z-of_z at c.part-2.ensures.value in
-    as_that _ (x -ℤ y) (c.args.p *ℤ c.args.b -ℤ c.args.q *ℤ c.args.a) (omega (arith, ints, abs_is x, abs_is y)) (less_same x y _ _ ex ey)
+    let x = c.part.result in let y = c.part-2.result in let g = c.args in let r = c.requires in
+    let ex : x ≡ g.p *ℤ g.b = c.part.ensures.value ∙ ap₂ (λ s t. s *ℤ t) (back_of w64 g.p offset_limit offset_fits r.p) (back_of w64 g.b axis_limit axis_fits r.b) in
+    let ey : y ≡ g.q *ℤ g.a = c.part-2.ensures.value ∙ ap₂ (λ s t. s *ℤ t) (back_of w64 g.q offset_limit offset_fits r.q) (back_of w64 g.a axis_limit axis_fits r.a) in
+    less_is w64 x y part_limit parts_fit c.part.ensures.small c.part-2.ensures.small ∙ less_same x y _ _ ex ey
 
 pub returns-clause-small : goal.returns-clause-small
 returns-clause-small c =
     let a = c.args in let r = c.requires in
-    subst (λ (z : ℤ). unsigned_abs z ≤ 2 * part_limit) (sym (returns-clause-value c)) (minor_small a.p a.q a.a a.b offset_limit axis_limit r.p r.q r.a r.b)
+    small_as _ (a.p *ℤ a.b -ℤ a.q *ℤ a.a) (2 * part_limit) (returns-clause-value c) (minor_small a.p a.q a.a a.b offset_limit axis_limit r.p r.q r.a r.b)

@@ -1,11 +1,13 @@
-use Rattle.std.proofs.Common.{◌≡◌, pos, FitsSigned, arith, rules, ap, ap₂, subst, sym, ◌∙◌}
-use Rattle.std.proofs.lemmas.Int.{to_z-of_z}
+use Rattle.std.proofs.Common.{◌≡◌, ◌≤◌, ◌≤ℤ◌, ℤ, unsigned_abs, pos, FitsSigned, arith, rules, ap, ap₂, subst, sym, ◌∙◌}
+use Rattle.std.proofs.lemmas.Int.{ints, to_z-of_z}
+use borrow.Author.Differences.{abs_is}
 use mir.Syntax.{w32, w64, w128}
 use Rattle.bern_form.specs.Between.{n_between}
 use Rattle.bern_form.specs.Cells.{scaled_square}
 use Rattle.bern_form.specs.Forms.{all_positive, difference4, scaled4}
 use Rattle.axis_cells.specs.Exclusion.{squared}
 use Rattle.cutter_slabs.specs.Stacks.{outer_stack}
+use Rattle.box_bisect.proofs.Reread.{small_back}
 use Rattle.wanted_marks.specs.Limits.{all_not_below_zero}
 use Rattle.wanted_marks.specs.Lines.{heights_at, width_at}
 use Rattle.wanted_marks.specs.Peaks.{is_under}
@@ -49,3 +51,22 @@ returns c = λ yes p forms.
                 ∙ ap (λ z. all_positive (difference4 W z)) (sym limits) ∙ sym (simp to_z-of_z at c.exceed_times.ensures) ∙ yes,
           );
     }
+
+pub peak-requires-clause-last : goal.peak-requires-clause-last
+peak-requires-clause-last c =
+    let f : FitsSigned w64 c.args.last.now.u = search rules in to_z-of_z w64 c.args.last.now.u f ∙ c.requires.u
+
+pub exceed_times-requires-clause-last : goal.exceed_times-requires-clause-last
+exceed_times-requires-clause-last c =
+    let f : FitsSigned w128 c.args.last.now.width = search rules in to_z-of_z w128 c.args.last.now.width f ∙ c.requires.width
+
+pub invariant_of-peak : goal.invariant_of-peak
+invariant_of-peak c = record { scale_small = c.self.invariant.few }
+
+diameter_small : (d : ℤ) → pos 0 ≤ℤ d → d ≤ℤ pos 200000 → unsigned_abs d ≤ 300000
+diameter_small d h k = omega (arith, ints, abs_is d, h, k)
+
+pub scaled_square-factor-requires : goal.scaled_square-factor-requires
+scaled_square-factor-requires c =
+    let d = c.diameter_of.result in
+    record { scale = c.self.invariant.few; length = small_back w32 d 300000 (omega arith) (diameter_small d c.diameter_of.ensures.not_negative c.diameter_of.ensures.few) }

@@ -1,0 +1,30 @@
+use Rattle.std.proofs.Common.{Bool, arith, sym, ◌∙◌}
+use Rattle.bern_form.specs.Slab.{SlabSize}
+use Rattle.box_bisect.specs.SlabTests.{is_excluded_by}
+use Rattle.box_bisect.specs.declared.limits.Limits.{Limits}
+use Rattle.box_bisect.proofs.SlabBySlab.{left_in, left_none, left_out}
+use Rattle.box_bisect.proofs.limits.Limits.leaves_some_of.Goals as goal
+
+excluded : Limits → SlabSize → Bool
+excluded k s = is_excluded_by k.scale k.is_behind k.raised.c k.height.c k.width.c s
+
+pub loop-slab-preserved : goal.loop-slab-preserved
+unfolding excluded
+loop-slab-preserved g c =
+    let i = c.loop-slab.slab-index in let s = c.slab-item in let steps = c.tick.ensures in
+    (left_out (excluded c.args.self.now) c.args.slabs.now i s.result c.loop-slab-test.true s.is (sym c.excludes.ensures ∙ c.if-not-excludes.false) ∙ c.loop-slab.invariant.0, omega (arith, steps, c.loop-slab.invariant.1))
+
+pub returns-then-not-excludes : goal.returns-then-not-excludes
+unfolding excluded
+returns-then-not-excludes g c =
+    let i = c.loop-slab.slab-index in let s = c.slab-item in let steps = c.tick.ensures in record {
+      left = left_in (excluded c.args.self.now) c.args.slabs.now i s.result c.loop-slab-test.true s.is (sym c.excludes.ensures ∙ c.if-not-excludes.true) ∙ c.loop-slab.invariant.0;
+      cost = omega (arith, steps, c.loop-slab.invariant.1, c.loop-slab-test.true);
+    }
+
+pub returns : goal.returns
+unfolding excluded
+returns g c = record {
+  left = left_none (excluded c.args.self.now) c.args.slabs.now c.loop-slab.slab-index c.loop-slab-test.false ∙ c.loop-slab.invariant.0;
+  cost = omega (arith, c.loop-slab.invariant.1, c.loop-slab.auto.slab-index-end);
+}
