@@ -18,3 +18,4 @@ pub mod Stepped
 pub mod Scales
 pub mod Largest
 pub mod Coarse
+pub mod Words

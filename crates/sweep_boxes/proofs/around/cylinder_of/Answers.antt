@@ -1,4 +1,4 @@
-use Rattle.std.proofs.Common.{◌≡◌, true, ◌+◌, ◌^◌, ℕ, ℤ, List, pos, to_z, of_z, FitsSigned, arith, rules, subst, sym}
+use Rattle.std.proofs.Common.{◌≡◌, true, ◌≤◌, ◌<◌, ◌+◌, ◌^◌, ℕ, ℤ, List, pos, to_z, of_z, FitsSigned, arith, rules, subst, sym}
 use mir.Syntax.{w32}
 use Rattle.std.proofs.lemmas.Int.{to_z-of_z}
 use Rattle.space.specs.Motion.{Motion}
@@ -6,9 +6,44 @@ use Rattle.space.specs.Reach.{is_in_reach}
 use Rattle.bern_form.specs.Between.{is_left_between}
 use Rattle.bern_form.specs.Slab.{SlabSize}
 use Rattle.cutter_slabs.specs.Stacks.{outer_stack, reach_of}
+use Rattle.sweep_boxes.specs.Limits.{most_level}
 use Rattle.sweep_boxes.specs.Pieces.{AreAsLarge}
 use Rattle.sweep_boxes.proofs.Coarse.{LeftPart, left_part, possible_parts}
+use Rattle.sweep_boxes.proofs.Words.{fits32, kept_place}
 use Rattle.sweep_boxes.proofs.around.cylinder_of.Goals as goal
+
+pub piece_of-piece-requires : goal.piece_of-piece-requires
+piece_of-piece-requires c = record { level = none_deep; cell = first_cell } where
+  none_deep : 0 ≤ most_level
+  none_deep = omega arith
+
+  first_cell : 0 < 2 ^ 0
+  first_cell = omega arith
+
+pub narrowed-closer-requires : goal.narrowed-closer-requires
+narrowed-closer-requires c = record {
+  widest = kept_place c.size_of-size.result.widest c.size_of-size.ensures.widest;
+  highest = kept_place c.size_of-size.result.highest c.size_of-size.ensures.highest;
+  low = c.near_part-near.ensures.low;
+  high = c.near_part-near.ensures.high;
+}
+
+pub hold_in-hold-requires : goal.hold_in-hold-requires
+hold_in-hold-requires c = record {
+  widest = c.size_of-size.ensures.widest;
+  highest = c.size_of-size.ensures.highest;
+  low = c.narrowed-closer.ensures.low;
+  high = c.narrowed-closer.ensures.high;
+}
+
+pub breadth_in-breadth-requires : goal.breadth_in-breadth-requires
+breadth_in-breadth-requires c = record { widest = c.size_of-size.ensures.widest; low = c.narrowed-closer.ensures.low; high = c.narrowed-closer.ensures.high }
+
+pub levels_in-levels-requires-clause-low : goal.levels_in-levels-requires-clause-low
+levels_in-levels-requires-clause-low c = c.narrowed-closer.ensures.low
+
+pub levels_in-levels-requires-clause-high : goal.levels_in-levels-requires-clause-high
+levels_in-levels-requires-clause-high c = c.narrowed-closer.ensures.high
 
 -- of one part there is only the first
 whole : (slabs : List SlabSize) (m : Motion) (p : List ℤ) → LeftPart slabs m p 0 → is_left_between slabs m p 0 (0 + 1) (2 ^ 0) ≡ true
@@ -27,7 +62,7 @@ returns c p depth inside possible =
     let wide : FitsSigned w32 c.size_of-size.result.widest = search rules in
     let tall : FitsSigned w32 c.size_of-size.result.highest = search rules in
     let sizes : AreAsLarge (to_z w32 (of_z w32 c.size_of-size.result.widest)) (to_z w32 (of_z w32 c.size_of-size.result.highest)) outer = simp to_z-of_z large in
-    let fits : FitsSigned w32 c.reach.result = search rules in
+    let fits = fits32 c.reach.result c.reach.type_inv in
     let reached : is_in_reach c.reach.result c.sweep.inside.from c.sweep.inside.to p ≡ true =
     subst (λ (z : ℤ). is_in_reach z c.sweep.inside.from c.sweep.inside.to p ≡ true) (sym c.reach.ensures.value)
     (subst (λ (q : Motion). is_in_reach (pos (reach_of cutter)) q.from q.to p ≡ true) (sym c.sweep.view_is) parts.0) in

@@ -2,7 +2,27 @@ use Rattle.std.proofs.Common.{◌^◌, to_z, of_z, FitsSigned, rules}
 use Rattle.std.proofs.lemmas.Int.{to_z-of_z}
 use mir.Syntax.{w32}
 use Rattle.sweep_boxes.specs.Pieces.{AreAsLarge}
+use Rattle.sweep_boxes.proofs.Words.{kept_place}
 use Rattle.sweep_boxes.proofs.boxes.part_box.Goals as goal
+
+pub piece_of-piece-requires : goal.piece_of-piece-requires
+piece_of-piece-requires c = record { level = c.requires.level; cell = c.requires.cell }
+
+pub narrowed-once-requires : goal.narrowed-once-requires
+narrowed-once-requires c = record {
+  widest = kept_place c.args.size.now.widest c.requires.widest;
+  highest = kept_place c.args.size.now.highest c.requires.highest;
+  low = c.requires.low;
+  high = c.requires.high;
+}
+
+pub narrowed-requires : goal.narrowed-requires
+narrowed-requires c = record {
+  widest = kept_place c.args.size.now.widest c.requires.widest;
+  highest = kept_place c.args.size.now.highest c.requires.highest;
+  low = c.narrowed-once.ensures.low;
+  high = c.narrowed-once.ensures.high;
+}
 
 pub returns-clause-kept : goal.returns-clause-kept
 returns-clause-kept c slabs p large inside left =

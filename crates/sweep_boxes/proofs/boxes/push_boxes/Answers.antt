@@ -1,5 +1,4 @@
-use Rattle.std.proofs.Common.{◌≡◌, true, ◌+◌, ◌^◌, ℤ, pos, length, FitsSigned, arith, rules, subst, sym}
-use mir.Syntax.{w32}
+use Rattle.std.proofs.Common.{◌≡◌, true, ◌+◌, ◌^◌, ℤ, pos, length, arith, subst, sym}
 use Rattle.space.specs.Motion.{Motion}
 use Rattle.std.proofs.lemmas.Int.{to_z-of_z}
 use Rattle.space.specs.Reach.{is_in_reach}
@@ -7,6 +6,7 @@ use Rattle.cutter_slabs.specs.Stacks.{outer_stack, reach_of}
 use Rattle.sweep_boxes.specs.Covers.{CoverParts, IsInSome}
 use Rattle.sweep_boxes.specs.Pieces.{AreAsLarge}
 use Rattle.sweep_boxes.proofs.Coarse.{left_part, on_ok, possible_parts}
+use Rattle.sweep_boxes.proofs.Words.{fits32}
 use Rattle.sweep_boxes.proofs.boxes.push_boxes.Goals as goal
 
 pub returns-clause-covered : goal.returns-clause-covered
@@ -17,7 +17,7 @@ returns-clause-covered c p inside possible =
     let here = left_part outer m p c.level_of-level.result c.args.depth parts.1.0 c.level_of-level.ensures.deep parts.1.1 parts.1.2 in
     let large : AreAsLarge c.size_of-size.result.widest c.size_of-size.result.highest outer =
     subst (AreAsLarge c.size_of-size.result.widest c.size_of-size.result.highest) c.outer.ensures.stack c.size_of-size.ensures.large in
-    let fits : FitsSigned w32 c.reach.result = search rules in
+    let fits = fits32 c.reach.result c.reach.type_inv in
     let reached : is_in_reach c.reach.result c.sweep.inside.from c.sweep.inside.to p ≡ true =
     subst (λ (z : ℤ). is_in_reach z c.sweep.inside.from c.sweep.inside.to p ≡ true) (sym c.reach.ensures.value)
     (subst (λ (q : Motion). is_in_reach (pos (reach_of cutter)) q.from q.to p ≡ true) (sym c.sweep.view_is) parts.0) in

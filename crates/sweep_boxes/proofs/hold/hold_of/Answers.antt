@@ -1,4 +1,4 @@
-use Rattle.std.proofs.Common.{◌≡◌, ◌≤ℤ◌, ◌*ℤ◌, ◌+ℤ◌, ◌-ℤ◌, ◌*◌, ◌+◌, List, ℕ, ℤ, pos, to_z, of_z, unsigned_abs, FitsSigned, arith, rules, subst, sym}
+use Rattle.std.proofs.Common.{◌≡◌, ◌≤◌, ◌≤ℤ◌, ◌*ℤ◌, ◌+ℤ◌, ◌-ℤ◌, ◌*◌, ◌+◌, List, ℕ, ℤ, pos, to_z, of_z, unsigned_abs, FitsSigned, arith, rules, subst, sym}
 use Rattle.std.proofs.lemmas.Int.{ints, to_z-of_z}
 use mir.Syntax.{w32, w128}
 use borrow.Author.Differences.{abs_is}
@@ -7,7 +7,58 @@ use Rattle.sweep_boxes.specs.Pieces.{middle_axis, middle_offset}
 use Rattle.sweep_boxes.specs.Vectors.{cross}
 use Rattle.sweep_boxes.specs.Held.{IsGrown}
 use Rattle.sweep_boxes.proofs.Holding.{held_on}
+use Rattle.sweep_boxes.proofs.Words.{fits_of, kept_small, kept_some, long_few, long_some, small32_in}
 use Rattle.sweep_boxes.proofs.hold.hold_of.Goals as goal
+
+twice_few : (scale : ℕ) → scale ≤ 128 → 2 * scale ≤ 256
+twice_few scale h = omega (arith, h)
+
+grown_some : (grow : ℤ) (n : ℕ) → grow ≡ pos n → pos 0 ≤ℤ grow
+grown_some grow n e = omega (arith, ints, e)
+
+pub farthest-far-requires : goal.farthest-far-requires
+farthest-far-requires c = record { low = c.requires.low; high = c.requires.high }
+
+pub lift_of-lift-requires : goal.lift_of-lift-requires
+lift_of-lift-requires c = record { far = c.farthest-far.ensures.small }
+
+pub radius-top-requires : goal.radius-top-requires
+radius-top-requires c = record {
+  scale = twice_few c.args.piece.now.scale c.args.piece.now.scaled.1;
+  length = small32_in c.args.highest _ c.ranges.highest c.requires.highest;
+  some = long_some c.args.piece.now.longest c.args.piece.now.long;
+  few = long_few c.args.piece.now.longest c.args.piece.now.long;
+}
+
+pub least_of-requires : goal.least_of-requires
+least_of-requires c = record {
+  axis = c.args.piece.now.axis_within;
+  low = c.requires.low;
+  high = c.requires.high;
+  lift = kept_small c.lift_of-lift.result _ c.lift_of-lift.type_inv c.lift_of-lift.ensures.small;
+}
+
+pub most_of-requires : goal.most_of-requires
+most_of-requires c = record {
+  axis = c.args.piece.now.axis_within;
+  low = c.requires.low;
+  high = c.requires.high;
+  top = kept_small c.radius-top.result _ c.radius-top.type_inv c.radius-top.ensures.small;
+  lift = kept_small c.lift_of-lift.result _ c.lift_of-lift.type_inv c.lift_of-lift.ensures.small;
+}
+
+pub grown-requires : goal.grown-requires
+grown-requires c = record { widest = small32_in c.args.widest _ c.ranges.widest c.requires.widest; far = c.farthest-far.ensures.small }
+
+pub invariant_of-result : goal.invariant_of-result
+invariant_of-result c =
+    let grow = c.grown in let by = grow.ensures.value in
+    record {
+      least_small = kept_small c.least_of.result _ c.least_of.type_inv c.least_of.ensures.small;
+      most_small = kept_small c.most_of.result _ c.most_of.type_inv c.most_of.ensures.small;
+      moment_some = kept_some grow.result grow.type_inv (grown_some grow.result (by.r + (by.m + by.n)) by.total_is);
+      moment_small = kept_small grow.result _ grow.type_inv grow.ensures.small;
+    }
 
 above_lift : (lift u : ℤ) (n : ℕ) → lift ≡ pos n → (pos 0 -ℤ pos n) ≤ℤ u → (pos 0 -ℤ lift) ≤ℤ u
 above_lift lift u n e h = omega (arith, ints, e, h)
@@ -20,11 +71,11 @@ beside_all grow z n e h = subst (λ (y : ℤ). z ≤ℤ (y *ℤ y)) (sym e) (ome
 
 pub returns : goal.returns
 returns c m k S slabs p of large among left =
-    let a : FitsSigned w128 c.least_of.result = search rules in
-    let b : FitsSigned w128 c.most_of.result = search rules in
-    let d : FitsSigned w128 c.grown.result = search rules in
-    let e : FitsSigned w128 c.lift_of-lift.result = search rules in
-    let f : FitsSigned w128 c.radius-top.result = search rules in
+    let a = fits_of c.least_of.result c.least_of.type_inv in
+    let b = fits_of c.most_of.result c.most_of.type_inv in
+    let d = fits_of c.grown.result c.grown.type_inv in
+    let e = fits_of c.lift_of-lift.result c.lift_of-lift.type_inv in
+    let f = fits_of c.radius-top.result c.radius-top.type_inv in
     let w : FitsSigned w32 c.args.widest = search rules in
     let t : FitsSigned w32 c.args.highest = search rules in
     let x : FitsSigned w128 c.args.piece.now.longest = search rules in

@@ -3,6 +3,7 @@ use Rattle.std.proofs.lemmas.Int.{ints, to_z-of_z}
 use mir.Syntax.{w128}
 use Rattle.sweep_boxes.specs.Held.{IsSpread}
 use Rattle.sweep_boxes.proofs.Stepped.{spread_at}
+use Rattle.sweep_boxes.proofs.Words.{fits_of}
 use Rattle.sweep_boxes.proofs.levels.across_at.Goals as goal
 
 pub returns-clause-value : goal.returns-clause-value
@@ -12,8 +13,8 @@ returns-clause-value c piece widest side far of wide =
     let b : FitsSigned w128 ladder.third = search rules in
     let d : FitsSigned w128 ladder.stray = search rules in
     let h = c.ranges.half in
-    let f0 : FitsSigned w128 reach.result = search rules in
-    let f1 : FitsSigned w128 whole.result = search rules in
+    let f0 = fits_of reach.result reach.type_inv in
+    let f1 = fits_of whole.result whole.type_inv in
     let whole_is : whole.result ≡ reach.result +ℤ ladder.stray = simp to_z-of_z at whole.ensures.value in
     let root : (ladder.square *ℤ (c.args.half *ℤ c.args.half +ℤ ladder.third)) ≤ℤ (reach.result *ℤ reach.result) = simp to_z-of_z at reach.ensures.value in
     let spread : IsSpread whole.result side piece widest far =
@@ -24,8 +25,8 @@ pub returns-clause-some : goal.returns-clause-some
 returns-clause-some c =
     let ladder = c.args.ladder.now in let reach = c.reach_across in let whole = c.sum in
     let d : FitsSigned w128 ladder.stray = search rules in
-    let f0 : FitsSigned w128 reach.result = search rules in
-    let f1 : FitsSigned w128 whole.result = search rules in
+    let f0 = fits_of reach.result reach.type_inv in
+    let f1 = fits_of whole.result whole.type_inv in
     let whole_is : whole.result ≡ reach.result +ℤ ladder.stray = simp to_z-of_z at whole.ensures.value in
     let some : pos 0 ≤ℤ whole.result = omega (arith, ints, whole_is, reach.ensures.some, ladder.stray_small.0) in
     simp to_z-of_z some

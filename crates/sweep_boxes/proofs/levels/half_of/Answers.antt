@@ -4,11 +4,12 @@ use mir.Syntax.{w32, w128}
 use Rattle.sweep_boxes.specs.Limits.{place_limit}
 use Rattle.sweep_boxes.proofs.Numbers.{product_fits}
 use Rattle.sweep_boxes.proofs.Stepped.{half_is, length_some, scaled_small, scaled_some}
+use Rattle.sweep_boxes.proofs.Words.{fits_of}
 use Rattle.sweep_boxes.proofs.levels.half_of.Goals as goal
 
 pub overflow_mul-result : goal.overflow_mul-result
 overflow_mul-result c =
-    let w : FitsSigned w128 c.weighted.result = search rules in
+    let w = fits_of c.weighted.result c.weighted.type_inv in
     let l : FitsSigned w128 c.args.ladder.now.longest = search rules in
     let small = scaled_small c.args.piece.now.scale c.weighted.result c.args.piece.now.scaled.1 c.weighted.ensures.small in
     let fits = product_fits c.weighted.result c.args.ladder.now.longest (128 * place_limit) (10 ^ 18) small c.args.ladder.now.longest_small.1 (omega arith) in
@@ -16,7 +17,7 @@ overflow_mul-result c =
 
 pub returns-clause-value : goal.returns-clause-value
 returns-clause-value c side far of =
-    let w : FitsSigned w128 c.weighted.result = search rules in
+    let w = fits_of c.weighted.result c.weighted.type_inv in
     let l : FitsSigned w128 c.args.ladder.now.longest = search rules in
     let s : FitsSigned w32 c.args.step.now.widest = search rules in
     let small = scaled_small c.args.piece.now.scale c.weighted.result c.args.piece.now.scaled.1 c.weighted.ensures.small in
@@ -28,7 +29,7 @@ returns-clause-value c side far of =
 
 pub returns-clause-some : goal.returns-clause-some
 returns-clause-some c =
-    let w : FitsSigned w128 c.weighted.result = search rules in
+    let w = fits_of c.weighted.result c.weighted.type_inv in
     let l : FitsSigned w128 c.args.ladder.now.longest = search rules in
     let s : FitsSigned w32 c.args.step.now.widest = search rules in
     let small = scaled_small c.args.piece.now.scale c.weighted.result c.args.piece.now.scaled.1 c.weighted.ensures.small in

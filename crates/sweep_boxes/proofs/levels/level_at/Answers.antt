@@ -1,8 +1,9 @@
-use Rattle.std.proofs.Common.{◌≡◌, ◌≤◌, ◌<ℤ◌, ◌-ℤ◌, ◌*ℤ◌, ◌*◌, ◌^◌, ℤ, pos, unsigned_abs, FitsSigned, arith, rules, ◌∙◌}
+use Rattle.std.proofs.Common.{◌≡◌, ◌≤◌, ◌≤ℤ◌, ◌<ℤ◌, ◌-ℤ◌, ◌*ℤ◌, ◌*◌, ◌^◌, ℤ, pos, to_z, of_z, unsigned_abs, FitsSigned, arith, rules, subst, sym, ◌∙◌}
 use Rattle.std.proofs.lemmas.Int.{ints, to_z-of_z}
 use mir.Syntax.{w64, w128}
 use borrow.Author.Differences.{abs_is}
 use Rattle.sweep_boxes.proofs.Stepped.{on_level}
+use Rattle.sweep_boxes.proofs.Words.{fits_of, kept_small, kept_some, not_below, same64, small_up_to}
 use Rattle.sweep_boxes.proofs.levels.level_at.Goals as goal
 
 twice_fits : (lift : ℤ) → unsigned_abs lift ≤ 3 * 10 ^ 18 → FitsSigned w128 (pos 2 *ℤ lift)
@@ -11,11 +12,65 @@ twice_fits lift h = omega (arith, ints, h, abs_is lift)
 less_fits : (rise lift : ℤ) → unsigned_abs rise ≤ 10 ^ 18 → unsigned_abs lift ≤ 3 * 10 ^ 18 → FitsSigned w128 (rise -ℤ lift)
 less_fits rise lift h k = omega (arith, ints, h, k, abs_is rise, abs_is lift)
 
+moment_small : (z : ℤ) → unsigned_abs z ≤ 3 * 10 ^ 18 → unsigned_abs z ≤ 4 * 10 ^ 18
+moment_small z h = omega (arith, h)
+
+less_small : (rise lift : ℤ) → unsigned_abs rise ≤ 10 ^ 18 → unsigned_abs lift ≤ 3 * 10 ^ 18 → unsigned_abs (rise -ℤ lift) ≤ 4 * 10 ^ 18
+less_small rise lift h k = omega (arith, ints, h, k, abs_is rise, abs_is lift, abs_is (rise -ℤ lift))
+
 pub overflow_mul-ladder : goal.overflow_mul-ladder
 overflow_mul-ladder c =
     let l : FitsSigned w128 c.args.ladder.now.lift = search rules in
     let fits = twice_fits c.args.ladder.now.lift c.args.ladder.now.lift_small in
     simp to_z-of_z fits
+
+pub overflow_sub-rise : goal.overflow_sub-rise
+overflow_sub-rise c =
+    let rise = c.rise_of-rise in let ladder = c.args.ladder.now in
+    let f = fits_of rise.result rise.type_inv in let l : FitsSigned w128 ladder.lift = search rules in
+    simp to_z-of_z (less_fits rise.result ladder.lift rise.ensures.small ladder.lift_small)
+
+pub short-requires : goal.short-requires
+short-requires c =
+    let rise = c.rise_of-rise in let ladder = c.args.ladder.now in
+    let f = fits_of rise.result rise.type_inv in let l : FitsSigned w128 ladder.lift = search rules in
+    let d = less_fits rise.result ladder.lift rise.ensures.small ladder.lift_small in
+    simp to_z-of_z (less_small rise.result ladder.lift rise.ensures.small ladder.lift_small)
+
+pub across_at-across-requires : goal.across_at-across-requires
+across_at-across-requires c =
+    let half = c.half_of-half in
+    record {
+      some = kept_some half.result half.type_inv half.ensures.some;
+      small = not_below (pos (5 * 10 ^ 16)) (to_z w128 (of_z w128 half.result)) c.if-half-gt50000000000000000.false;
+    }
+
+pub moment_at-requires : goal.moment_at-requires
+moment_at-requires c =
+    let half = c.half_of-half in
+    record {
+      some = kept_some half.result half.type_inv half.ensures.some;
+      small = not_below (pos (5 * 10 ^ 16)) (to_z w128 (of_z w128 half.result)) c.if-half-gt50000000000000000.false;
+    }
+
+pub short-requires-2 : goal.short-requires-2
+short-requires-2 c = kept_small c.moment_at.result (4 * 10 ^ 18) c.moment_at.type_inv (moment_small c.moment_at.result c.moment_at.ensures.small)
+
+pub short-requires-3 : goal.short-requires-3
+short-requires-3 c =
+    let across = c.across_at-across in
+    small_up_to (to_z w128 (of_z w128 across.result)) (4 * 10 ^ 18) (kept_some across.result across.type_inv across.ensures.some) c.if-across-gt4000000000000000000.false
+
+pub invariant_of-result : goal.invariant_of-result
+invariant_of-result c =
+    let moment = c.moment_at in let across = c.across_at-across in
+    let m = same64 c.short-2.result moment.result c.short-2.type_inv moment.type_inv c.short-2.ensures in
+    let a = same64 c.short-3.result across.result c.short-3.type_inv across.type_inv c.short-3.ensures in
+    record {
+      moment_some = subst (λ (z : ℤ). pos 0 ≤ℤ z) (sym m) moment.ensures.some;
+      moment_small = subst (λ (z : ℤ). unsigned_abs z ≤ 3 * 10 ^ 18) (sym m) moment.ensures.small;
+      across_some = subst (λ (z : ℤ). pos 0 ≤ℤ z) (sym a) across.ensures.some;
+    }
 
 pub returns : goal.returns
 returns c m k S slabs side far p of ladder step near left above =

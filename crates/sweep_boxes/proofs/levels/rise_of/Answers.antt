@@ -1,15 +1,32 @@
-use Rattle.std.proofs.Common.{◌≡◌, ◌≤◌, ◌*ℤ◌, ◌*◌, ◌^◌, pos, unsigned_abs, FitsSigned, arith, rules, ap}
-use Rattle.std.proofs.lemmas.Int.{to_z-of_z}
+use Rattle.std.proofs.Common.{◌≡◌, ◌≤◌, ◌≤ℤ◌, ◌*ℤ◌, ◌*◌, ◌^◌, ℤ, pos, unsigned_abs, FitsSigned, arith, rules, ap}
+use Rattle.std.proofs.lemmas.Int.{ints, to_z-of_z}
 use mir.Syntax.{w32, w128}
+use borrow.Author.Differences.{abs_is}
 use Rattle.space.proofs.Naturals.{abs_mul}
 use Rattle.sweep_boxes.specs.Limits.{place_limit}
 use Rattle.sweep_boxes.proofs.Numbers.{product_fits}
 use Rattle.sweep_boxes.proofs.Stepped.{scaled_small}
+use Rattle.sweep_boxes.proofs.Words.{fits_of, kept_place, scale_few}
 use Rattle.sweep_boxes.proofs.levels.rise_of.Goals as goal
+
+begin_small : (z : ℤ) → pos 0 ≤ℤ z → z ≤ℤ pos 300000 → unsigned_abs z ≤ place_limit
+begin_small z some few = omega (arith, ints, some, few, abs_is z)
+
+pub weighted-requires : goal.weighted-requires
+weighted-requires c =
+    let step = c.args.step.now in
+    record { weight = scale_few c.args.piece.now.scale c.args.piece.now.scaled.1; place = kept_place step.begin (begin_small step.begin step.begin_some step.begin_small) }
+
+pub overflow_mul-result : goal.overflow_mul-result
+overflow_mul-result c =
+    let w = fits_of c.weighted.result c.weighted.type_inv in
+    let l : FitsSigned w128 c.args.ladder.now.shortest = search rules in
+    let small = scaled_small c.args.piece.now.scale c.weighted.result c.args.piece.now.scaled.1 c.weighted.ensures.small in
+    simp to_z-of_z (product_fits c.weighted.result c.args.ladder.now.shortest (128 * place_limit) (10 ^ 9) small c.args.ladder.now.shortest_small.1 (omega arith))
 
 pub returns-clause-value : goal.returns-clause-value
 returns-clause-value c =
-    let w : FitsSigned w128 c.weighted.result = search rules in
+    let w = fits_of c.weighted.result c.weighted.type_inv in
     let l : FitsSigned w128 c.args.ladder.now.shortest = search rules in
     let s : FitsSigned w32 c.args.step.now.begin = search rules in
     let small = scaled_small c.args.piece.now.scale c.weighted.result c.args.piece.now.scaled.1 c.weighted.ensures.small in
@@ -20,7 +37,7 @@ returns-clause-value c =
 
 pub returns-clause-small : goal.returns-clause-small
 returns-clause-small c =
-    let w : FitsSigned w128 c.weighted.result = search rules in
+    let w = fits_of c.weighted.result c.weighted.type_inv in
     let l : FitsSigned w128 c.args.ladder.now.shortest = search rules in
     let small = scaled_small c.args.piece.now.scale c.weighted.result c.args.piece.now.scaled.1 c.weighted.ensures.small in
     let fits = product_fits c.weighted.result c.args.ladder.now.shortest (128 * place_limit) (10 ^ 9) small c.args.ladder.now.shortest_small.1 (omega arith) in

@@ -1,12 +1,39 @@
-use Rattle.std.proofs.Common.{arith}
-use Rattle.std.proofs.lemmas.Int.{ints}
-use borrow.Author.Differences.{abs_is}
-use Rattle.space.specs.Vectors.{at}
+use Rattle.std.proofs.Common.{◌≤◌, ◌<◌, ◌*◌, ◌^◌, ◌≤ℤ◌, ℤ, unsigned_abs, FitsSigned, arith, subst, sym}
+use mir.Syntax.{w128}
+use Rattle.space.specs.Vectors.{at, dot}
+use Rattle.sweep_boxes.specs.Limits.{side_limit}
+use Rattle.sweep_boxes.proofs.Words.{at_x, at_y, at_z, sum_most, sum_read, three_fit, three_read, three_small, two_fit, two_read}
 use Rattle.sweep_boxes.proofs.offsets.least_dot.Goals as goal
 
-pub returns-clause-value : goal.returns-clause-value
-returns-clause-value c v among =
-    let x = c.least_product.ensures.value (at v 0) among.x.from_least among.x.to_most in
-    let y = c.least_product-2.ensures.value (at v 1) among.y.from_least among.y.to_most in
-    let z = c.least_product-3.ensures.value (at v 2) among.z.from_least among.z.to_most in
-    omega (arith, ints, x, y, z, c.least_product.ensures.small, c.least_product-2.ensures.small, c.least_product-3.ensures.small, abs_is c.least_product.result, abs_is c.least_product-2.result, abs_is c.least_product-3.result)
+few : 3 * (side_limit * side_limit) < 2 ^ 127
+few = omega arith
+
+pub least_product-requires : goal.least_product-requires
+least_product-requires c = record { i = at_x; a = c.requires.a.0; low = c.requires.low.0; high = c.requires.high.0 }
+
+pub least_product-requires-2 : goal.least_product-requires-2
+least_product-requires-2 c = record { i = at_y; a = c.requires.a.1; low = c.requires.low.1; high = c.requires.high.1 }
+
+pub least_product-requires-3 : goal.least_product-requires-3
+least_product-requires-3 c = record { i = at_z; a = c.requires.a.2; low = c.requires.low.2; high = c.requires.high.2 }
+
+pub overflow_add-result : goal.overflow_add-result
+overflow_add-result c =
+    let x = c.least_product in let y = c.least_product-2 in
+    subst (FitsSigned w128) (sym (two_read x.result y.result x.type_inv y.type_inv)) (two_fit x.result y.result _ x.ensures.small y.ensures.small few)
+
+pub overflow_add-result-2 : goal.overflow_add-result-2
+overflow_add-result-2 c =
+    let x = c.least_product in let y = c.least_product-2 in let z = c.least_product-3 in
+    subst (FitsSigned w128) (sym (three_read x.result y.result z.result _ x.type_inv y.type_inv z.type_inv x.ensures.small y.ensures.small few))
+    (three_fit x.result y.result z.result _ x.ensures.small y.ensures.small z.ensures.small few)
+
+pub returns : goal.returns
+returns c =
+    let x = c.least_product in let y = c.least_product-2 in let z = c.least_product-3 in
+    let read = sum_read x.result y.result z.result _ x.type_inv y.type_inv z.type_inv x.ensures.small y.ensures.small z.ensures.small few in
+    record {
+      value = λ v among. subst (λ (s : ℤ). s ≤ℤ dot v c.args.a.now) (sym read)
+          (sum_most _ _ _ _ _ _ (x.ensures.value (at v 0) among.x.from_least among.x.to_most) (y.ensures.value (at v 1) among.y.from_least among.y.to_most) (z.ensures.value (at v 2) among.z.from_least among.z.to_most));
+      small = subst (λ (s : ℤ). unsigned_abs s ≤ 3 * (side_limit * side_limit)) (sym read) (three_small x.result y.result z.result _ x.ensures.small y.ensures.small z.ensures.small);
+    }

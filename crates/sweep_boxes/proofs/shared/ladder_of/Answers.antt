@@ -1,22 +1,80 @@
-use Rattle.std.proofs.Common.{◌≡◌, ◌≤ℤ◌, ◌+ℤ◌, ◌*ℤ◌, List, ℤ, pos, FitsSigned, arith, rules, subst, ap, ◌∙◌}
+use Rattle.std.proofs.Common.{◌≡◌, false, ◌≤ℤ◌, ◌*◌, ◌^◌, ◌+ℤ◌, ◌*ℤ◌, List, ℤ, pos, to_z, of_z, arith, subst, ap, ◌∙◌}
+use Rattle.std.specs.Int.Signed.{lt_z}
 use Rattle.std.proofs.lemmas.Int.{ints, to_z-of_z}
 use mir.Syntax.{w128}
-use borrow.Author.Differences.{abs_is}
 use Rattle.space.specs.Vectors.{dot}
 use Rattle.sweep_boxes.specs.Vectors.{cross, sum}
 use Rattle.sweep_boxes.proofs.Stepped.{ladder_as}
+use Rattle.sweep_boxes.proofs.Words.{fits_of, kept_at_most, kept_small, kept_some, long_fits, long_in, long_some, read_out, small_up_to, spare_some, summand, twice, two_read}
 use Rattle.sweep_boxes.proofs.shared.ladder_of.Goals as goal
+
+pub sizes-turn-requires : goal.sizes-turn-requires
+sizes-turn-requires c = c.args.piece.now.turn_within
+
+pub cross-requires : goal.cross-requires
+cross-requires c = record { p = c.args.piece.now.shift_within; a = c.args.piece.now.axis_within }
+
+pub cross-requires-2 : goal.cross-requires-2
+cross-requires-2 c = record { p = c.args.piece.now.shift_within; a = c.args.piece.now.turn_within }
+
+pub change_limit-change-requires : goal.change_limit-change-requires
+change_limit-change-requires c = record { c = c.cross.ensures.small; far = c.requires.far; turn = c.sizes-turn.ensures.small }
+
+pub length_limit-bent-requires : goal.length_limit-bent-requires
+length_limit-bent-requires c = c.cross-2.ensures.small
+
+pub sum-requires : goal.sum-requires
+sum-requires c =
+    let bent = c.length_limit-bent in let small = summand bent.result bent.type_inv bent.ensures.small in
+    record { a = small; b = small }
+
+pub sum-spare-requires : goal.sum-spare-requires
+sum-spare-requires c =
+    let change = c.change_limit-change in let bent = c.length_limit-bent in
+    record { a = summand change.result change.type_inv change.ensures.small; b = twice c.sum.result bent.result c.sum.type_inv bent.type_inv c.sum.ensures.small bent.ensures.small }
+
+pub lift_of-requires : goal.lift_of-requires
+lift_of-requires c = record { far = c.requires.far }
+
+least_some : (z : ℤ) → lt_z z (pos 1) ≡ false → pos 0 ≤ℤ z
+least_some z h = omega (arith, ints, h)
+
+pub root_down-requires : goal.root_down-requires
+root_down-requires c =
+    let least = c.least_square-least in
+    record { some = least_some (to_z w128 (of_z w128 least.result)) c.if-least-lt1.false; small = kept_at_most least.result _ least.type_inv least.ensures.small }
+
+pub root_up-requires : goal.root_up-requires
+root_up-requires c = record { some = long_some c.args.piece.now.longest c.args.piece.now.long; small = long_in c.args.piece.now.longest c.args.piece.now.long }
+
+pub short_square-requires : goal.short_square-requires
+short_square-requires c = c.requires.side
+
+pub stray_of-requires : goal.stray_of-requires
+stray_of-requires c = record { side = c.requires.side; far = c.requires.far }
+
+pub invariant_of-result : goal.invariant_of-result
+invariant_of-result c =
+    let down = c.root_down in let up = c.root_up in let change = c.change_limit-change in let bent = c.length_limit-bent in
+    let short = c.short_square in let third = c.third_of_square in let stray = c.stray_of in
+    record {
+      lift_small = kept_small c.lift_of.result _ c.lift_of.type_inv c.lift_of.ensures.small;
+      shortest_small = (kept_some down.result down.type_inv down.ensures.some, kept_small down.result _ down.type_inv down.ensures.small);
+      longest_small = (kept_some up.result up.type_inv up.ensures.some, kept_small up.result _ up.type_inv up.ensures.small);
+      change_small = (kept_some change.result change.type_inv change.ensures.some, kept_small change.result _ change.type_inv change.ensures.small);
+      bent_small = (kept_some bent.result bent.type_inv bent.ensures.some, kept_small bent.result _ bent.type_inv bent.ensures.small);
+      square_small = (kept_some short.result short.type_inv short.ensures.some, kept_small short.result _ short.type_inv short.ensures.small);
+      third_small = (kept_some third.result third.type_inv third.ensures.some, kept_small third.result _ third.type_inv third.ensures.small);
+      stray_small = (kept_some stray.result stray.type_inv stray.ensures.some, kept_small stray.result _ stray.type_inv stray.ensures.small);
+    }
 
 pub third_of_square-requires : goal.third_of_square-requires
 third_of_square-requires c =
     let change = c.change_limit-change in let bent = c.length_limit-bent in let two = c.sum in let spare = c.sum-spare in
-    let f1 : FitsSigned w128 change.result = search rules in
-    let f2 : FitsSigned w128 bent.result = search rules in
-    let g2 : FitsSigned w128 two.result = search rules in
-    let g3 : FitsSigned w128 spare.result = search rules in
-    let two_is : two.result ≡ bent.result +ℤ bent.result = simp to_z-of_z at two.ensures.value in
-    let spare_is : spare.result ≡ change.result +ℤ two.result = simp to_z-of_z at spare.ensures.value in
-    omega (arith, ints, two_is, spare_is, change.ensures.some, bent.ensures.some, c.if-spare-gt50000000000000000.false, abs_is spare.result)
+    let two_is : two.result ≡ bent.result +ℤ bent.result = two.ensures.value ∙ two_read bent.result bent.result bent.type_inv bent.type_inv in
+    let spare_is : spare.result ≡ change.result +ℤ two.result = spare.ensures.value ∙ two_read change.result two.result change.type_inv two.type_inv in
+    let some = spare_some spare.result change.result two.result bent.result spare_is two_is change.ensures.some bent.ensures.some in
+    small_up_to (to_z w128 (of_z w128 spare.result)) (5 * 10 ^ 16) (kept_some spare.result spare.type_inv some) c.if-spare-gt50000000000000000.false
 
 at_most_of : (a b c : ℤ) → a ≤ℤ b → b ≤ℤ c → a ≤ℤ c
 at_most_of a b c h k = omega (arith, ints, h, k)
@@ -25,23 +83,24 @@ pub returns : goal.returns
 returns c =
     let piece = c.args.piece.now in let side = c.args.side.now in let far = c.args.far.now in
     let change = c.change_limit-change in let bent = c.length_limit-bent in let two = c.sum in let spare = c.sum-spare in let least = c.least_square-least in
-    let f0 : FitsSigned w128 c.lift_of.result = search rules in
-    let f1 : FitsSigned w128 change.result = search rules in
-    let f2 : FitsSigned w128 bent.result = search rules in
-    let g2 : FitsSigned w128 two.result = search rules in
-    let g3 : FitsSigned w128 spare.result = search rules in
-    let f3 : FitsSigned w128 c.root_down.result = search rules in
-    let f4 : FitsSigned w128 c.root_up.result = search rules in
-    let f5 : FitsSigned w128 c.short_square.result = search rules in
-    let f6 : FitsSigned w128 c.third_of_square.result = search rules in
-    let f7 : FitsSigned w128 c.stray_of.result = search rules in
-    let f8 : FitsSigned w128 least.result = search rules in
-    let l : FitsSigned w128 piece.longest = search rules in
-    let two_is : two.result ≡ bent.result +ℤ bent.result = simp to_z-of_z at two.ensures.value in
-    let spare_is : spare.result ≡ change.result +ℤ two.result = simp to_z-of_z at spare.ensures.value in
-    let thirds : (spare.result *ℤ spare.result) ≤ℤ (pos 3 *ℤ c.third_of_square.result) = simp to_z-of_z at c.third_of_square.ensures.value in
-    let down : (c.root_down.result *ℤ c.root_down.result) ≤ℤ least.result = simp to_z-of_z at c.root_down.ensures.value in
-    let long : piece.longest ≤ℤ (c.root_up.result *ℤ c.root_up.result) = simp to_z-of_z at c.root_up.ensures.value in
+    let f0 = fits_of c.lift_of.result c.lift_of.type_inv in
+    let f1 = fits_of change.result change.type_inv in
+    let f2 = fits_of bent.result bent.type_inv in
+    let g2 = fits_of two.result two.type_inv in
+    let g3 = fits_of spare.result spare.type_inv in
+    let f3 = fits_of c.root_down.result c.root_down.type_inv in
+    let f4 = fits_of c.root_up.result c.root_up.type_inv in
+    let f5 = fits_of c.short_square.result c.short_square.type_inv in
+    let f6 = fits_of c.third_of_square.result c.third_of_square.type_inv in
+    let f7 = fits_of c.stray_of.result c.stray_of.type_inv in
+    let f8 = fits_of least.result least.type_inv in
+    let l = long_fits piece.longest piece.long.0 piece.long.1 in
+    let two_is : two.result ≡ bent.result +ℤ bent.result = two.ensures.value ∙ two_read bent.result bent.result bent.type_inv bent.type_inv in
+    let spare_is : spare.result ≡ change.result +ℤ two.result = spare.ensures.value ∙ two_read change.result two.result change.type_inv two.type_inv in
+    let thirds : (spare.result *ℤ spare.result) ≤ℤ (pos 3 *ℤ c.third_of_square.result) = read_out (λ (z : ℤ). (z *ℤ z) ≤ℤ (pos 3 *ℤ c.third_of_square.result)) spare.result spare.type_inv c.third_of_square.ensures.value in
+    let down : (c.root_down.result *ℤ c.root_down.result) ≤ℤ least.result = read_out (λ (z : ℤ). (c.root_down.result *ℤ c.root_down.result) ≤ℤ z) least.result least.type_inv c.root_down.ensures.value in
+    let long : piece.longest ≤ℤ (c.root_up.result *ℤ c.root_up.result) =
+    subst (λ (z : ℤ). z ≤ℤ (c.root_up.result *ℤ c.root_up.result)) (to_z-of_z w128 piece.longest l) c.root_up.ensures.value in
     ladder_as _ c.lift_of.result c.root_down.result c.root_up.result change.result bent.result c.short_square.result c.third_of_square.result c.stray_of.result piece side far
     record {
       lift_is = to_z-of_z w128 c.lift_of.result f0;

@@ -1,13 +1,13 @@
-use Rattle.std.proofs.Common.{◌≡◌, ◌≤ℤ◌, ◌*ℤ◌, FitsSigned, arith, rules}
+use Rattle.std.proofs.Common.{◌≡◌, ◌≤ℤ◌, ◌*ℤ◌, arith}
 use Rattle.std.proofs.lemmas.Int.{ints, to_z-of_z}
-use mir.Syntax.{w128}
 use Rattle.sweep_boxes.proofs.Numbers.{product_anti, product_mono}
+use Rattle.sweep_boxes.proofs.Words.{fits_of}
 use Rattle.sweep_boxes.proofs.side.least_along.Goals as goal
 
 pub returns-then-a-lt0-clause-value : goal.returns-then-a-lt0-clause-value
 returns-then-a-lt0-clause-value c u l h =
     let a = c.ranges.a in let r = c.height_along in let k = c.ranges.most in
-    let f : FitsSigned w128 r.result = search rules in
+    let f = fits_of r.result r.type_inv in
     let is : r.result ≡ c.args.most *ℤ c.args.a = simp to_z-of_z at r.ensures.value in
     let other : (c.args.most *ℤ c.args.a) ≤ℤ (u *ℤ c.args.a) = product_anti c.args.a u c.args.most (omega (arith, ints, a, c.if-a-lt0.true)) h in
     simp to_z-of_z (omega (arith, ints, other, is))
@@ -15,7 +15,7 @@ returns-then-a-lt0-clause-value c u l h =
 pub returns-else-a-lt0-clause-value : goal.returns-else-a-lt0-clause-value
 returns-else-a-lt0-clause-value c u l h =
     let a = c.ranges.a in let r = c.height_along-else-a-lt0 in let k = c.ranges.least in
-    let f : FitsSigned w128 r.result = search rules in
+    let f = fits_of r.result r.type_inv in
     let is : r.result ≡ c.args.least *ℤ c.args.a = simp to_z-of_z at r.ensures.value in
     let other : (c.args.least *ℤ c.args.a) ≤ℤ (u *ℤ c.args.a) = product_mono c.args.a c.args.least u (omega (arith, ints, a, c.if-a-lt0.false)) l in
     simp to_z-of_z (omega (arith, ints, other, is))

@@ -5,12 +5,13 @@ use mir.Syntax.{w32}
 use Rattle.bern_form.specs.Slab.{SlabSize}
 use Rattle.sweep_boxes.specs.Pieces.{IsAsLarge}
 use Rattle.sweep_boxes.proofs.Largest.{one_more}
+use Rattle.sweep_boxes.proofs.Words.{fits32}
 use Rattle.sweep_boxes.proofs.size.size_of.Goals as goal
 
 pub loop-slab-preserved : goal.loop-slab-preserved
 loop-slab-preserved c =
-    let w : FitsSigned w32 c.longer-widest.result = search rules in
-    let h : FitsSigned w32 c.longer-highest.result = search rules in
+    let w = fits32 c.longer-widest.result c.longer-widest.type_inv in
+    let h = fits32 c.longer-highest.result c.longer-highest.type_inv in
     let dia : FitsSigned w32 c.slab.inside.dia = search rules in
     let hi : FitsSigned w32 c.slab.inside.hi = search rules in
     let kept = c.loop-slab.invariant in

@@ -1,33 +1,91 @@
-use Rattle.std.proofs.Common.{◌≡◌, ◌≤ℤ◌, ◌*ℤ◌, ◌+ℤ◌, ℤ, pos, FitsSigned, arith, rules, subst, ap, ◌∙◌, List}
+use Rattle.std.proofs.Common.{◌≡◌, ◌≤◌, ◌≤ℤ◌, ◌*◌, ◌^◌, ◌*ℤ◌, ◌+ℤ◌, ℕ, ℤ, pos, to_z, of_z, unsigned_abs, arith, subst, ap, ◌∙◌, List}
 use Rattle.std.proofs.lemmas.Int.{ints, to_z-of_z}
-use mir.Syntax.{w32, w128}
-use borrow.Author.Differences.{abs_is}
+use mir.Syntax.{w128}
 use Rattle.space.specs.Vectors.{dot}
 use Rattle.sweep_boxes.specs.Held.{IsSpread}
 use Rattle.sweep_boxes.specs.Vectors.{cross, sum}
 use Rattle.sweep_boxes.proofs.AlongSide.{spread_by}
+use Rattle.sweep_boxes.proofs.Words.{fits_of, kept, kept_small, kept_some, long_few, long_fits, long_some, read_out, scale_few, small32_in, small_up_to, spare_some, summand, twice, two_read}
 use Rattle.sweep_boxes.proofs.spread.spread_of.Goals as goal
+
+pub sizes-turn-requires : goal.sizes-turn-requires
+sizes-turn-requires c = c.args.piece.now.turn_within
+
+pub cross-requires : goal.cross-requires
+cross-requires c = record { p = c.args.piece.now.shift_within; a = c.args.piece.now.axis_within }
+
+pub cross-requires-2 : goal.cross-requires-2
+cross-requires-2 c = record { p = c.args.piece.now.shift_within; a = c.args.piece.now.turn_within }
+
+pub change_limit-change-requires : goal.change_limit-change-requires
+change_limit-change-requires c = record { c = c.cross.ensures.small; far = c.requires.far; turn = c.sizes-turn.ensures.small }
+
+pub length_limit-bent-requires : goal.length_limit-bent-requires
+length_limit-bent-requires c = c.cross-2.ensures.small
+
+pub sum-requires : goal.sum-requires
+sum-requires c =
+    let bent = c.length_limit-bent in let small = summand bent.result bent.type_inv bent.ensures.small in
+    record { a = small; b = small }
+
+pub sum-spare-requires : goal.sum-spare-requires
+sum-spare-requires c =
+    let change = c.change_limit-change in let bent = c.length_limit-bent in
+    record { a = summand change.result change.type_inv change.ensures.small; b = twice c.sum.result bent.result c.sum.type_inv bent.type_inv c.sum.ensures.small bent.ensures.small }
+
+pub radius-half-requires : goal.radius-half-requires
+radius-half-requires c = record {
+  scale = scale_few c.args.piece.now.scale c.args.piece.now.scaled.1;
+  length = small32_in c.args.widest _ c.ranges.widest c.requires.widest;
+  some = long_some c.args.piece.now.longest c.args.piece.now.long;
+  few = long_few c.args.piece.now.longest c.args.piece.now.long;
+}
+
+pub short_square-requires : goal.short_square-requires
+short_square-requires c = c.requires.side
+
+pub reach_across-reach-requires : goal.reach_across-reach-requires
+reach_across-reach-requires c =
+    let half = c.radius-half in let short = c.short_square in let third = c.third_of_square in
+    record {
+      square_some = kept_some short.result short.type_inv short.ensures.some;
+      square = kept_small short.result _ short.type_inv short.ensures.small;
+      half = small_up_to (to_z w128 (of_z w128 half.result)) (5 * 10 ^ 16) (kept_some half.result half.type_inv half.ensures.some) c.if-half-gt50000000000000000.false;
+      third_some = kept_some third.result third.type_inv third.ensures.some;
+      third = kept_small third.result _ third.type_inv third.ensures.small;
+    }
+
+pub stray_of-requires : goal.stray_of-requires
+stray_of-requires c = record { side = c.requires.side; far = c.requires.far }
+
+stray_small : (n : ℕ) → n ≤ 10 ^ 36 → n ≤ 10 ^ 37
+stray_small n h = omega (arith, h)
+
+pub sum-requires-2 : goal.sum-requires-2
+sum-requires-2 c =
+    let reach = c.reach_across-reach in let stray = c.stray_of in
+    record { a = summand reach.result reach.type_inv reach.ensures.small; b = kept_small stray.result _ stray.type_inv (stray_small (unsigned_abs stray.result) stray.ensures.small) }
 
 pub third_of_square-requires : goal.third_of_square-requires
 third_of_square-requires c =
     let change = c.change_limit-change in let bent = c.length_limit-bent in let two = c.sum in let spare = c.sum-spare in
-    let f1 : FitsSigned w128 change.result = search rules in
-    let f2 : FitsSigned w128 bent.result = search rules in
-    let g2 : FitsSigned w128 two.result = search rules in
-    let g3 : FitsSigned w128 spare.result = search rules in
-    let two_is : two.result ≡ bent.result +ℤ bent.result = simp to_z-of_z at two.ensures.value in
-    let spare_is : spare.result ≡ change.result +ℤ two.result = simp to_z-of_z at spare.ensures.value in
-    omega (arith, ints, two_is, spare_is, change.ensures.some, bent.ensures.some, c.if-spare-gt50000000000000000.false, abs_is spare.result)
+    let two_is : two.result ≡ bent.result +ℤ bent.result = two.ensures.value ∙ two_read bent.result bent.result bent.type_inv bent.type_inv in
+    let spare_is : spare.result ≡ change.result +ℤ two.result = spare.ensures.value ∙ two_read change.result two.result change.type_inv two.type_inv in
+    let some = spare_some spare.result change.result two.result bent.result spare_is two_is change.ensures.some bent.ensures.some in
+    small_up_to (to_z w128 (of_z w128 spare.result)) (5 * 10 ^ 16) (kept_some spare.result spare.type_inv some) c.if-spare-gt50000000000000000.false
+
+whole_some : (whole a b : ℤ) → whole ≡ a +ℤ b → pos 0 ≤ℤ a → pos 0 ≤ℤ b → pos 0 ≤ℤ whole
+whole_some whole a b e h k = omega (arith, ints, e, h, k)
 
 pub returns-clause-some : goal.returns-clause-some
 returns-clause-some c =
     let reach = c.reach_across-reach in let stray = c.stray_of in let whole = c.sum-2 in
-    let a : FitsSigned w128 reach.result = search rules in
-    let b : FitsSigned w128 stray.result = search rules in
-    let d : FitsSigned w128 whole.result = search rules in
-    let whole_is : whole.result ≡ reach.result +ℤ stray.result = simp to_z-of_z at whole.ensures.value in
-    let some : pos 0 ≤ℤ whole.result = omega (arith, ints, whole_is, reach.ensures.some, stray.ensures.some) in
-    simp to_z-of_z some
+    let a = fits_of reach.result reach.type_inv in
+    let b = fits_of stray.result stray.type_inv in
+    let d = fits_of whole.result whole.type_inv in
+    let whole_is : whole.result ≡ reach.result +ℤ stray.result = whole.ensures.value ∙ two_read reach.result stray.result reach.type_inv stray.type_inv in
+    let some = whole_some whole.result reach.result stray.result whole_is reach.ensures.some stray.ensures.some in
+    kept_some whole.result whole.type_inv some
 
 pub returns-clause-value : goal.returns-clause-value
 returns-clause-value c = λ small.
@@ -35,22 +93,22 @@ returns-clause-value c = λ small.
     let half = c.radius-half in let change = c.change_limit-change in let bent = c.length_limit-bent in
     let two = c.sum in let spare = c.sum-spare in let third = c.third_of_square in let short = c.short_square in
     let reach = c.reach_across-reach in let stray = c.stray_of in let whole = c.sum-2 in
-    let f0 : FitsSigned w128 half.result = search rules in
-    let f1 : FitsSigned w128 change.result = search rules in
-    let f2 : FitsSigned w128 bent.result = search rules in
-    let f3 : FitsSigned w128 two.result = search rules in
-    let f4 : FitsSigned w128 spare.result = search rules in
-    let f5 : FitsSigned w128 third.result = search rules in
-    let f6 : FitsSigned w128 short.result = search rules in
-    let f7 : FitsSigned w128 reach.result = search rules in
-    let f8 : FitsSigned w128 stray.result = search rules in
-    let f9 : FitsSigned w128 whole.result = search rules in
-    let w : FitsSigned w32 c.args.widest = search rules in
-    let l : FitsSigned w128 piece.longest = search rules in
-    let two_is : two.result ≡ bent.result +ℤ bent.result = simp to_z-of_z at two.ensures.value in
-    let spare_is : spare.result ≡ change.result +ℤ two.result = simp to_z-of_z at spare.ensures.value in
-    let whole_is : whole.result ≡ reach.result +ℤ stray.result = simp to_z-of_z at whole.ensures.value in
-    let thirds : (spare.result *ℤ spare.result) ≤ℤ (pos 3 *ℤ third.result) = simp to_z-of_z at third.ensures.value in
+    let f0 = fits_of half.result half.type_inv in
+    let f1 = fits_of change.result change.type_inv in
+    let f2 = fits_of bent.result bent.type_inv in
+    let f3 = fits_of two.result two.type_inv in
+    let f4 = fits_of spare.result spare.type_inv in
+    let f5 = fits_of third.result third.type_inv in
+    let f6 = fits_of short.result short.type_inv in
+    let f7 = fits_of reach.result reach.type_inv in
+    let f8 = fits_of stray.result stray.type_inv in
+    let f9 = fits_of whole.result whole.type_inv in
+    let w = c.ranges.widest in
+    let l = long_fits piece.longest piece.long.0 piece.long.1 in
+    let two_is : two.result ≡ bent.result +ℤ bent.result = two.ensures.value ∙ two_read bent.result bent.result bent.type_inv bent.type_inv in
+    let spare_is : spare.result ≡ change.result +ℤ two.result = spare.ensures.value ∙ two_read change.result two.result change.type_inv two.type_inv in
+    let whole_is : whole.result ≡ reach.result +ℤ stray.result = whole.ensures.value ∙ two_read reach.result stray.result reach.type_inv stray.type_inv in
+    let thirds : (spare.result *ℤ spare.result) ≤ℤ (pos 3 *ℤ third.result) = read_out (λ (z : ℤ). (z *ℤ z) ≤ℤ (pos 3 *ℤ third.result)) spare.result spare.type_inv third.ensures.value in
     let rooted : (short.result *ℤ (half.result *ℤ half.result +ℤ third.result)) ≤ℤ (reach.result *ℤ reach.result) = simp to_z-of_z at reach.ensures.value in
     let spread : IsSpread whole.result side piece c.args.widest far =
     spread_by whole.result half.result change.result bent.result third.result reach.result stray.result piece c.args.widest side far
@@ -69,4 +127,4 @@ returns-clause-value c = λ small.
       root = subst (λ (z : ℤ). (z *ℤ (half.result *ℤ half.result +ℤ third.result)) ≤ℤ (reach.result *ℤ reach.result)) short.ensures.value rooted;
       strays = stray.ensures.value;
     } in
-    simp to_z-of_z spread
+    kept (λ (z : ℤ). IsSpread z side piece c.args.widest far) whole.result whole.type_inv spread

@@ -1,16 +1,37 @@
-use Rattle.std.proofs.Common.{arith}
-use Rattle.std.proofs.lemmas.Int.{ints}
-use borrow.Author.Differences.{abs_is}
+use Rattle.std.proofs.Common.{◌≤◌, ◌<◌, ◌*◌, ◌^◌, ℤ, unsigned_abs, FitsSigned, arith, subst, sym, ◌∙◌}
+use mir.Syntax.{w128}
+use Rattle.sweep_boxes.specs.Limits.{aim_limit, side_limit}
+use Rattle.sweep_boxes.proofs.Words.{at_x, at_y, at_z, same_sum, sum_read, three_fit, three_read, three_small, two_fit, two_read}
 use Rattle.sweep_boxes.proofs.spread.tilt.Goals as goal
 
+few : 3 * (aim_limit * (2 * (side_limit * side_limit))) < 2 ^ 127
+few = omega arith
+
+pub share-requires : goal.share-requires
+share-requires c = record { i = at_x; side = c.requires.side.0; v = c.requires.v.0 }
+
+pub share-requires-2 : goal.share-requires-2
+share-requires-2 c = record { i = at_y; side = c.requires.side.1; v = c.requires.v.1 }
+
+pub share-requires-3 : goal.share-requires-3
+share-requires-3 c = record { i = at_z; side = c.requires.side.2; v = c.requires.v.2 }
+
 pub overflow_add-result : goal.overflow_add-result
-overflow_add-result c = omega (arith, ints, c.share.ensures.small, c.share-2.ensures.small, abs_is c.share.result, abs_is c.share-2.result)
+overflow_add-result c =
+    let x = c.share in let y = c.share-2 in
+    subst (FitsSigned w128) (sym (two_read x.result y.result x.type_inv y.type_inv)) (two_fit x.result y.result _ x.ensures.small y.ensures.small few)
 
 pub overflow_add-result-2 : goal.overflow_add-result-2
-overflow_add-result-2 c = omega (arith, ints, c.share.ensures.small, c.share-2.ensures.small, c.share-3.ensures.small, abs_is c.share.result, abs_is c.share-2.result, abs_is c.share-3.result)
+overflow_add-result-2 c =
+    let x = c.share in let y = c.share-2 in let z = c.share-3 in
+    subst (FitsSigned w128) (sym (three_read x.result y.result z.result _ x.type_inv y.type_inv z.type_inv x.ensures.small y.ensures.small few))
+    (three_fit x.result y.result z.result _ x.ensures.small y.ensures.small z.ensures.small few)
 
-pub returns-clause-value : goal.returns-clause-value
-returns-clause-value c = omega (arith, ints, c.share.ensures.small, c.share-2.ensures.small, c.share-3.ensures.small, c.share.ensures.value, c.share-2.ensures.value, c.share-3.ensures.value, abs_is c.share.result, abs_is c.share-2.result, abs_is c.share-3.result)
-
-pub returns-clause-small : goal.returns-clause-small
-returns-clause-small c = omega (arith, ints, c.share.ensures.small, c.share-2.ensures.small, c.share-3.ensures.small, abs_is c.share.result, abs_is c.share-2.result, abs_is c.share-3.result)
+pub returns : goal.returns
+returns c =
+    let x = c.share in let y = c.share-2 in let z = c.share-3 in
+    let read = sum_read x.result y.result z.result _ x.type_inv y.type_inv z.type_inv x.ensures.small y.ensures.small z.ensures.small few in
+    record {
+      value = read ∙ same_sum x.result y.result z.result _ _ _ x.ensures.value y.ensures.value z.ensures.value;
+      small = subst (λ (s : ℤ). unsigned_abs s ≤ 48 * (side_limit * side_limit)) (sym read) (three_small x.result y.result z.result _ x.ensures.small y.ensures.small z.ensures.small);
+    }

@@ -1,20 +1,37 @@
-use Rattle.std.proofs.Common.{arith}
-use Rattle.std.proofs.lemmas.Int.{ints}
-use borrow.Author.Differences.{abs_is}
-use Rattle.std.proofs.Common.{ℤ, ◌*◌, ◌≤◌, unsigned_abs, subst, sym}
-use Rattle.bern_form.proofs.Sizes.{dot_small}
+use Rattle.std.proofs.Common.{◌≤◌, ◌<◌, ◌*◌, ◌^◌, ℤ, unsigned_abs, FitsSigned, arith, subst, sym, ◌∙◌}
+use mir.Syntax.{w128}
 use Rattle.sweep_boxes.specs.Limits.{side_limit}
+use Rattle.sweep_boxes.proofs.Words.{at_x, at_y, at_z, same_sum, sum_read, three_fit, three_read, three_small, two_fit, two_read}
 use Rattle.sweep_boxes.proofs.vector.dot.Goals as goal
 
+few : 3 * (side_limit * side_limit) < 2 ^ 127
+few = omega arith
+
+pub product-requires : goal.product-requires
+product-requires c = record { i = at_x; j = at_x; p = c.requires.p.0; a = c.requires.a.0 }
+
+pub product-requires-2 : goal.product-requires-2
+product-requires-2 c = record { i = at_y; j = at_y; p = c.requires.p.1; a = c.requires.a.1 }
+
+pub product-requires-3 : goal.product-requires-3
+product-requires-3 c = record { i = at_z; j = at_z; p = c.requires.p.2; a = c.requires.a.2 }
+
 pub overflow_add-result : goal.overflow_add-result
-overflow_add-result c = omega (arith, ints, abs_is c.product.result, abs_is c.product-2.result)
+overflow_add-result c =
+    let x = c.product in let y = c.product-2 in
+    subst (FitsSigned w128) (sym (two_read x.result y.result x.type_inv y.type_inv)) (two_fit x.result y.result _ x.ensures.small y.ensures.small few)
 
 pub overflow_add-result-2 : goal.overflow_add-result-2
-overflow_add-result-2 c = omega (arith, ints, abs_is c.product.result, abs_is c.product-2.result, abs_is c.product-3.result)
+overflow_add-result-2 c =
+    let x = c.product in let y = c.product-2 in let z = c.product-3 in
+    subst (FitsSigned w128) (sym (three_read x.result y.result z.result _ x.type_inv y.type_inv z.type_inv x.ensures.small y.ensures.small few))
+    (three_fit x.result y.result z.result _ x.ensures.small y.ensures.small z.ensures.small few)
 
-pub returns-clause-value : goal.returns-clause-value
-returns-clause-value c = omega (arith, ints, abs_is c.product.result, abs_is c.product-2.result, abs_is c.product-3.result)
-
-pub returns-clause-small : goal.returns-clause-small
-returns-clause-small c =
-    subst (λ (z : ℤ). unsigned_abs z ≤ 3 * (side_limit * side_limit)) (sym (returns-clause-value c)) (dot_small c.args.p.now c.args.a.now side_limit side_limit c.requires.p c.requires.a)
+pub returns : goal.returns
+returns c =
+    let x = c.product in let y = c.product-2 in let z = c.product-3 in
+    let read = sum_read x.result y.result z.result _ x.type_inv y.type_inv z.type_inv x.ensures.small y.ensures.small z.ensures.small few in
+    record {
+      value = read ∙ same_sum x.result y.result z.result _ _ _ x.ensures.value y.ensures.value z.ensures.value;
+      small = subst (λ (s : ℤ). unsigned_abs s ≤ 3 * (side_limit * side_limit)) (sym read) (three_small x.result y.result z.result _ x.ensures.small y.ensures.small z.ensures.small);
+    }
