@@ -12,3 +12,4 @@ pub mod Halves
 pub mod HalfSigns
 pub mod Finer
 pub mod Squares
+pub mod Components

@@ -1,9 +1,84 @@
-use Rattle.std.proofs.Common.{◌≡◌, ◌+◌, ◌-◌, ◌*◌, ◌++◌, [], ◌∷◌, nat_lt, if◌then◌else◌, rules}
+use Rattle.std.proofs.Common.{◌≡◌, ℕ, ◌≤◌, ◌<◌, ◌+◌, ◌-◌, ◌*◌, ◌++◌, [], ◌∷◌, nat_lt, if◌then◌else◌, arith, rules}
 use Rattle.bern_form.specs.Roots.{ceil_root, floor_root}
 use Rattle.cutter_slabs.specs.Cutter.{flat_of}
 use Rattle.cutter_slabs.specs.Stacks.{bound_of, slab_of}
 use Rattle.cutter_slabs.proofs.Slabs.{slabs_grown}
 use Rattle.cutter_slabs.proofs.pair.rounded.Goals as goal
+
+-- the numbers of a cutter bound what is made of them
+radius_few : (r r2 d : ℕ) → r ≡ r2 → 2 * r2 ≤ d → d ≤ 200000 → r ≤ 100000
+radius_few r r2 d e corner width = omega (arith, e, corner, width)
+
+flat_few : (r r2 d d2 : ℕ) → r ≡ r2 → d ≡ d2 → 2 * r2 ≤ d2 → d2 ≤ 200000 → (2 * r ≤ d) × (d - 2 * r + 2 * r ≤ 200000)
+flat_few r r2 d d2 e f corner width = (omega (arith, e, f, corner), omega (arith, e, f, corner, width))
+
+high_within : (z r r2 d : ℕ) → z ≤ r → r ≡ r2 → 2 * r2 ≤ d → d ≤ 200000 → z ≤ 300000
+high_within z r r2 d l e corner width = omega (arith, l, e, corner, width)
+
+same_or_less : (a b m : ℕ) → a ≡ b → b ≤ m → a ≤ m
+same_or_less a b m e h = omega (arith, e, h)
+
+both_same : (a b x y : ℕ) → a ≡ x → b ≡ y → x ≤ y → a ≤ b
+both_same a b x y e f h = omega (arith, e, f, h)
+
+next_within : (j n : ℕ) → j < n → j + 1 ≤ n
+next_within j n h = omega (arith, h)
+
+pub overflow_sub-flat : goal.overflow_sub-flat
+overflow_sub-flat c =
+    let radius = c.corner_radius-radius in let d = c.diameter in let valid = d.ensures.valid in
+    (flat_few radius.result c.args.cutter.now.r d.result c.args.cutter.now.d radius.ensures.value d.ensures.value valid.corner valid.width).0
+
+pub bound-hi-requires : goal.bound-hi-requires
+bound-hi-requires c =
+    let radius = c.corner_radius-radius in let valid = radius.ensures.valid in
+    record {
+      radius = radius_few radius.result c.args.cutter.now.r c.args.cutter.now.d radius.ensures.value valid.corner valid.width;
+      some = c.requires.some;
+      few = c.requires.few;
+      within = next_within c.loop-j.j c.args.n c.loop-j-test.true;
+    }
+
+pub inner_diameter-requires : goal.inner_diameter-requires
+inner_diameter-requires c =
+    let radius = c.corner_radius-radius in let d = c.diameter in let valid = d.ensures.valid in
+    record {
+      flat = (flat_few radius.result c.args.cutter.now.r d.result c.args.cutter.now.d radius.ensures.value d.ensures.value valid.corner valid.width).1;
+      within = c.loop-j.invariant.1;
+    }
+
+pub outer_diameter-requires : goal.outer_diameter-requires
+outer_diameter-requires c =
+    let radius = c.corner_radius-radius in let d = c.diameter in let valid = d.ensures.valid in
+    record {
+      flat = (flat_few radius.result c.args.cutter.now.r d.result c.args.cutter.now.d radius.ensures.value d.ensures.value valid.corner valid.width).1;
+      within = c.bound-hi.ensures.below;
+    }
+
+pub push_slab-requires : goal.push_slab-requires
+push_slab-requires c =
+    let radius = c.corner_radius-radius in let valid = radius.ensures.valid in
+    record {
+      high = high_within c.bound-hi.result radius.result c.args.cutter.now.r c.args.cutter.now.d c.bound-hi.ensures.below radius.ensures.value valid.corner valid.width;
+      wide = c.inner_diameter.ensures.small;
+    }
+
+pub push_slab-requires-in-loop-j : goal.push_slab-requires-in-loop-j
+push_slab-requires-in-loop-j c =
+    let radius = c.corner_radius-radius in let valid = radius.ensures.valid in
+    record {
+      high = high_within c.bound-hi.result radius.result c.args.cutter.now.r c.args.cutter.now.d c.bound-hi.ensures.below radius.ensures.value valid.corner valid.width;
+      wide = c.outer_diameter.ensures.small;
+    }
+
+pub slab_between-top-requires : goal.slab_between-top-requires
+slab_between-top-requires c =
+    let radius = c.corner_radius-radius in let height = c.height in let d = c.diameter-2 in
+    record {
+      ordered = both_same radius.result height.result c.args.cutter.now.r c.args.cutter.now.h radius.ensures.value height.ensures.value height.ensures.valid.rounded;
+      high = same_or_less height.result c.args.cutter.now.h 300000 height.ensures.value height.ensures.valid.height;
+      wide = same_or_less d.result c.args.cutter.now.d 200000 d.ensures.value d.ensures.valid.width;
+    }
 
 pub loop-j-preserved : goal.loop-j-preserved
 loop-j-preserved c =

@@ -18,7 +18,8 @@ component_in z h = fits128 z side_limit h (omega arith)
 fits_between : (x y : ℤ) → unsigned_abs x ≤ 4 * 10 ^ 18 * side_limit → unsigned_abs y ≤ 4 * 10 ^ 18 * side_limit → FitsSigned w128 (x -ℤ y)
 fits_between x y h k = omega (arith, ints, h, k, abs_is x, abs_is y)
 
-small_between : (x y : ℤ) → unsigned_abs x ≤ 4 * 10 ^ 18 * side_limit → unsigned_abs y ≤ 4 * 10 ^ 18 * side_limit → unsigned_abs (x -ℤ y) ≤ 8 * 10 ^ 18 * side_limit
+small_between : (x y : ℤ) → unsigned_abs x ≤ 4 * 10 ^ 18 * side_limit → unsigned_abs y ≤ 4 * 10 ^ 18 * side_limit
+    → unsigned_abs (x -ℤ y) ≤ 8 * 10 ^ 18 * side_limit
 small_between x y h k = omega (arith, ints, h, k, abs_is x, abs_is y, abs_is (x -ℤ y))
 
 pub height_along-requires : goal.height_along-requires

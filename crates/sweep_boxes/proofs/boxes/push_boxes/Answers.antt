@@ -1,5 +1,4 @@
-use Rattle.std.proofs.Common.{◌≡◌, true, ◌+◌, ◌^◌, ℤ, pos, length, FitsSigned, arith, rules, subst, sym}
-use mir.Syntax.{w32}
+use Rattle.std.proofs.Common.{◌≡◌, true, ◌+◌, ◌^◌, ℤ, pos, length, arith, subst, sym}
 use Rattle.space.specs.Motion.{Motion}
 use Rattle.std.proofs.lemmas.Int.{to_z-of_z}
 use Rattle.space.specs.Reach.{is_in_reach}

@@ -15,7 +15,8 @@ length_few x n e h = omega (arith, ints, e, h, abs_is x)
 product_few : (n : ℕ) → n ≤ side_limit * side_limit → n ≤ 2 * (side_limit * side_limit)
 product_few n h = omega (arith, h)
 
-all_small : (x y z : ℤ) → unsigned_abs x ≤ 2 * (side_limit * side_limit) → unsigned_abs y ≤ side_limit * side_limit → unsigned_abs z ≤ side_limit * side_limit
+all_small : (x y z : ℤ) → unsigned_abs x ≤ 2 * (side_limit * side_limit) → unsigned_abs y ≤ side_limit * side_limit
+    → unsigned_abs z ≤ side_limit * side_limit
     → unsigned_abs ((x +ℤ y) +ℤ z) ≤ 4 * (side_limit * side_limit)
 all_small x y z h k l = omega (arith, ints, h, k, l, abs_is x, abs_is y, abs_is z, abs_is ((x +ℤ y) +ℤ z))
 

@@ -1,6 +1,4 @@
-use Rattle.std.proofs.Common.{FitsSigned, rules}
 use Rattle.std.proofs.lemmas.Int.{to_z-of_z}
-use mir.Syntax.{w128}
 use Rattle.space.specs.Vectors.{at}
 use Rattle.sweep_boxes.proofs.Numbers.{change_below, squares_below}
 use Rattle.sweep_boxes.proofs.Words.{at_x, at_y, at_z, fits_of, kept_small, kept_some}

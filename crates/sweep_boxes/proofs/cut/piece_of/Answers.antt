@@ -1,8 +1,8 @@
 use Rattle.std.proofs.Common.{◌≡◌, ◌≤◌, ◌<◌, ◌+◌, ◌*◌, ℕ, ℤ, List, unsigned_abs, arith}
 use Rattle.space.specs.Ranges.{IsWithin, axis_unit}
 use Rattle.space.specs.Vectors.{at}
-use Rattle.sweep_boxes.specs.Limits.{place_limit, side_limit}
-use Rattle.sweep_boxes.proofs.Words.{kept_at_most, kept_some}
+use Rattle.sweep_boxes.specs.Limits.{place_limit}
+use Rattle.sweep_boxes.proofs.Words.{kept_at_most, kept_some, tip_within}
 use Rattle.sweep_boxes.proofs.cut.piece_of.Goals as goal
 
 -- ends are no further than places, and axes that are taken times the scale than a side
@@ -16,16 +16,12 @@ axes_within v h = (axis (at v 0) h.0, axis (at v 1) h.1, axis (at v 2) h.2) wher
   axis : (z : ℤ) → unsigned_abs z ≤ axis_unit → unsigned_abs z ≤ 1000000
   axis z h = omega (arith, h)
 
-sides_within : (v : List ℤ) → IsWithin (128 * place_limit) v → IsWithin side_limit v
-sides_within v h = (side (at v 0) h.0, side (at v 1) h.1, side (at v 2) h.2) where
-  side : (z : ℤ) → unsigned_abs z ≤ 128 * place_limit → unsigned_abs z ≤ side_limit
-  side z h = omega (arith, h)
-
 -- the times of a part are within the whole
 parts_few : (parts : ℕ) → parts ≤ 64 → (parts ≤ 128) × (2 * parts ≤ 128)
 parts_few parts h = (omega (arith, h), omega (arith, h))
 
-time_in : (cell parts all : ℕ) → cell < all → parts ≡ all → (cell ≤ parts) × (cell + 1 ≤ parts) × (2 * cell + 1 ≤ 2 * parts) × (1 ≤ 2 * parts)
+time_in : (cell parts all : ℕ) → cell < all → parts ≡ all
+    → (cell ≤ parts) × (cell + 1 ≤ parts) × (2 * cell + 1 ≤ 2 * parts) × (1 ≤ 2 * parts)
 time_in cell parts all h e = (omega (arith, h, e), omega (arith, h, e), omega (arith, h, e), omega (arith, h, e))
 
 pub parts_of-parts-requires : goal.parts_of-parts-requires
@@ -78,7 +74,7 @@ pub difference-requires-2 : goal.difference-requires-2
 difference-requires-2 c = record { p = axes_within c.sweep.inside.axis_to c.sweep.invariant.axis_to; q = axes_within c.sweep.inside.axis_from c.sweep.invariant.axis_from }
 
 pub longer-requires : goal.longer-requires
-longer-requires c = record { first = sides_within c.places-first.result c.places-first.ensures.small; last = sides_within c.places-last.result c.places-last.ensures.small }
+longer-requires c = record { first = tip_within c.places-first.result c.places-first.ensures.small; last = tip_within c.places-last.result c.places-last.ensures.small }
 
 pub invariant_of-result : goal.invariant_of-result
 invariant_of-result c =
@@ -86,7 +82,7 @@ invariant_of-result c =
     record {
       scaled = ((time_in c.args.cell parts.result _ c.requires.cell parts.ensures.parts).3, (parts_few parts.result parts.ensures.few).1);
       tip_within = c.places.ensures.small;
-      axis_within = sides_within c.places-2.result c.places-2.ensures.small;
+      axis_within = tip_within c.places-2.result c.places-2.ensures.small;
       shift_within = c.difference.ensures.small;
       turn_within = c.difference-2.ensures.small;
       long = (kept_some longest.result longest.type_inv longest.ensures.some, kept_at_most longest.result _ longest.type_inv longest.ensures.small);

@@ -1,9 +1,5 @@
-use Rattle.std.proofs.Common.{◌≡◌, [], ◌∷◌, ℤ}
-use Rattle.sweep_boxes.proofs.Words.{at_x, at_y, at_z, kept_small, read_as}
+use Rattle.sweep_boxes.proofs.Words.{at_x, at_y, at_z, kept_small, read_as, three_same}
 use Rattle.sweep_boxes.proofs.cut.places.Goals as goal
-
-three_same : (x y z a b d : ℤ) → x ≡ a → y ≡ b → z ≡ d → x ∷ y ∷ z ∷ [] ≡ a ∷ b ∷ d ∷ []
-three_same x y z a b d e f g = cc (e, f, g)
 
 pub place-requires : goal.place-requires
 place-requires c = record { i = at_x; whole = c.requires.whole; time = c.requires.time; from = c.requires.from.0; to = c.requires.to.0 }

@@ -1,6 +1,5 @@
-use Rattle.std.proofs.Common.{FitsSigned, arith, rules}
+use Rattle.std.proofs.Common.{arith}
 use Rattle.std.proofs.lemmas.Int.{ints, to_z-of_z}
-use mir.Syntax.{w128}
 use borrow.Author.Differences.{abs_is}
 use Rattle.space.specs.Vectors.{dot}
 use Rattle.sweep_boxes.proofs.Numbers.{minus_fits}

@@ -1,6 +1,5 @@
-use Rattle.std.proofs.Common.{unsigned_abs, FitsSigned, rules}
+use Rattle.std.proofs.Common.{unsigned_abs}
 use Rattle.std.proofs.lemmas.Int.{to_z-of_z}
-use mir.Syntax.{w128}
 use Rattle.sweep_boxes.proofs.Numbers.{lifted}
 use Rattle.sweep_boxes.proofs.Words.{fits_of, kept_small, length_in, product_small}
 use Rattle.sweep_boxes.proofs.hold.lift_of.Goals as goal

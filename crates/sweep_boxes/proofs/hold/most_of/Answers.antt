@@ -1,6 +1,4 @@
-use Rattle.std.proofs.Common.{FitsSigned, rules}
 use Rattle.std.proofs.lemmas.Int.{to_z-of_z}
-use mir.Syntax.{w128}
 use Rattle.space.specs.Vectors.{dot}
 use Rattle.sweep_boxes.proofs.Numbers.{sum_fits}
 use Rattle.sweep_boxes.proofs.Words.{fits_of}

@@ -1,12 +1,11 @@
-use Rattle.std.proofs.Common.{◌≡◌, false, ◌≤ℤ◌, ◌+ℤ◌, ◌*ℤ◌, List, ℤ, pos, to_z, of_z, FitsSigned, arith, rules, subst, ap, ◌∙◌}
+use Rattle.std.proofs.Common.{◌≡◌, false, ◌≤ℤ◌, ◌*◌, ◌^◌, ◌+ℤ◌, ◌*ℤ◌, List, ℤ, pos, to_z, of_z, arith, subst, ap, ◌∙◌}
 use Rattle.std.specs.Int.Signed.{lt_z}
 use Rattle.std.proofs.lemmas.Int.{ints, to_z-of_z}
 use mir.Syntax.{w128}
-use borrow.Author.Differences.{abs_is}
 use Rattle.space.specs.Vectors.{dot}
 use Rattle.sweep_boxes.specs.Vectors.{cross, sum}
 use Rattle.sweep_boxes.proofs.Stepped.{ladder_as}
-use Rattle.sweep_boxes.proofs.Words.{fits_of, kept_at_most, kept_small, kept_some, long_in, long_some, summand, twice}
+use Rattle.sweep_boxes.proofs.Words.{fits_of, kept_at_most, kept_small, kept_some, long_fits, long_in, long_some, read_out, small_up_to, spare_some, summand, twice, two_read}
 use Rattle.sweep_boxes.proofs.shared.ladder_of.Goals as goal
 
 pub sizes-turn-requires : goal.sizes-turn-requires
@@ -72,13 +71,10 @@ invariant_of-result c =
 pub third_of_square-requires : goal.third_of_square-requires
 third_of_square-requires c =
     let change = c.change_limit-change in let bent = c.length_limit-bent in let two = c.sum in let spare = c.sum-spare in
-    let f1 = fits_of change.result change.type_inv in
-    let f2 = fits_of bent.result bent.type_inv in
-    let g2 = fits_of two.result two.type_inv in
-    let g3 = fits_of spare.result spare.type_inv in
-    let two_is : two.result ≡ bent.result +ℤ bent.result = simp to_z-of_z at two.ensures.value in
-    let spare_is : spare.result ≡ change.result +ℤ two.result = simp to_z-of_z at spare.ensures.value in
-    omega (arith, ints, two_is, spare_is, change.ensures.some, bent.ensures.some, c.if-spare-gt50000000000000000.false, abs_is spare.result)
+    let two_is : two.result ≡ bent.result +ℤ bent.result = two.ensures.value ∙ two_read bent.result bent.result bent.type_inv bent.type_inv in
+    let spare_is : spare.result ≡ change.result +ℤ two.result = spare.ensures.value ∙ two_read change.result two.result change.type_inv two.type_inv in
+    let some = spare_some spare.result change.result two.result bent.result spare_is two_is change.ensures.some bent.ensures.some in
+    small_up_to (to_z w128 (of_z w128 spare.result)) (5 * 10 ^ 16) (kept_some spare.result spare.type_inv some) c.if-spare-gt50000000000000000.false
 
 at_most_of : (a b c : ℤ) → a ≤ℤ b → b ≤ℤ c → a ≤ℤ c
 at_most_of a b c h k = omega (arith, ints, h, k)
@@ -98,12 +94,13 @@ returns c =
     let f6 = fits_of c.third_of_square.result c.third_of_square.type_inv in
     let f7 = fits_of c.stray_of.result c.stray_of.type_inv in
     let f8 = fits_of least.result least.type_inv in
-    let l : FitsSigned w128 piece.longest = search rules in
-    let two_is : two.result ≡ bent.result +ℤ bent.result = simp to_z-of_z at two.ensures.value in
-    let spare_is : spare.result ≡ change.result +ℤ two.result = simp to_z-of_z at spare.ensures.value in
-    let thirds : (spare.result *ℤ spare.result) ≤ℤ (pos 3 *ℤ c.third_of_square.result) = simp to_z-of_z at c.third_of_square.ensures.value in
-    let down : (c.root_down.result *ℤ c.root_down.result) ≤ℤ least.result = simp to_z-of_z at c.root_down.ensures.value in
-    let long : piece.longest ≤ℤ (c.root_up.result *ℤ c.root_up.result) = simp to_z-of_z at c.root_up.ensures.value in
+    let l = long_fits piece.longest piece.long.0 piece.long.1 in
+    let two_is : two.result ≡ bent.result +ℤ bent.result = two.ensures.value ∙ two_read bent.result bent.result bent.type_inv bent.type_inv in
+    let spare_is : spare.result ≡ change.result +ℤ two.result = spare.ensures.value ∙ two_read change.result two.result change.type_inv two.type_inv in
+    let thirds : (spare.result *ℤ spare.result) ≤ℤ (pos 3 *ℤ c.third_of_square.result) = read_out (λ (z : ℤ). (z *ℤ z) ≤ℤ (pos 3 *ℤ c.third_of_square.result)) spare.result spare.type_inv c.third_of_square.ensures.value in
+    let down : (c.root_down.result *ℤ c.root_down.result) ≤ℤ least.result = read_out (λ (z : ℤ). (c.root_down.result *ℤ c.root_down.result) ≤ℤ z) least.result least.type_inv c.root_down.ensures.value in
+    let long : piece.longest ≤ℤ (c.root_up.result *ℤ c.root_up.result) =
+    subst (λ (z : ℤ). z ≤ℤ (c.root_up.result *ℤ c.root_up.result)) (to_z-of_z w128 piece.longest l) c.root_up.ensures.value in
     ladder_as _ c.lift_of.result c.root_down.result c.root_up.result change.result bent.result c.short_square.result c.third_of_square.result c.stray_of.result piece side far
     record {
       lift_is = to_z-of_z w128 c.lift_of.result f0;

@@ -1,15 +1,11 @@
-use Rattle.std.proofs.Common.{◌≡◌, ◌≤◌, ◌≤ℤ◌, ◌+◌, ◌+ℤ◌, ◌*◌, ◌^◌, ℕ, List, ℤ, pos, unsigned_abs, arith, ap, ◌∙◌}
+use Rattle.std.proofs.Common.{◌≡◌, ◌≤◌, ◌≤ℤ◌, ◌+◌, ◌+ℤ◌, ◌*◌, ◌^◌, ℕ, ℤ, pos, unsigned_abs, arith, ap, ◌∙◌}
 use Rattle.std.proofs.lemmas.Int.{ints, to_z-of_z}
 use borrow.Author.Differences.{abs_is}
-use Rattle.space.specs.Ranges.{IsWithin}
 use Rattle.sweep_boxes.specs.Ladders.{IsStray}
-use Rattle.sweep_boxes.specs.Limits.{aim_limit, side_limit}
+use Rattle.sweep_boxes.specs.Limits.{side_limit}
 use Rattle.sweep_boxes.proofs.AlongSide.{stray_by}
-use Rattle.sweep_boxes.proofs.Words.{distance_below, distance_in, fits_of, kept, kept_some, kept_small}
+use Rattle.sweep_boxes.proofs.Words.{distance_below, distance_in, fits_of, kept, kept_small, kept_some, side_within}
 use Rattle.sweep_boxes.proofs.shared.stray_of.Goals as goal
-
-side_wider : (side : List ℤ) → IsWithin aim_limit side → IsWithin side_limit side
-side_wider side h = (omega (arith, h.0), omega (arith, h.1), omega (arith, h.2))
 
 reach_small : (n : ℕ) → n ≤ 3 * (side_limit * (2 * (side_limit * side_limit))) → n ≤ 10 ^ 37
 reach_small n h = omega (arith, h)
@@ -27,7 +23,7 @@ pub distance-requires : goal.distance-requires
 distance-requires c = kept_small c.tilt.result _ c.tilt.type_inv c.tilt.ensures.small
 
 pub cross-requires : goal.cross-requires
-cross-requires c = record { p = c.args.piece.now.turn_within; a = side_wider c.args.side.now c.requires.side }
+cross-requires c = record { p = c.args.piece.now.turn_within; a = side_within c.args.side.now c.requires.side }
 
 pub reach_of-requires : goal.reach_of-requires
 reach_of-requires c = record { far = c.requires.far; v = c.cross.ensures.small }
@@ -49,7 +45,8 @@ whole_small : (stray share reached bow : ℤ) (d b : ℕ) → stray ≡ (share +
     → pos 0 ≤ℤ reached → unsigned_abs reached ≤ 3 * (side_limit * (2 * (side_limit * side_limit))) → (pos 0 ≤ℤ stray) × (unsigned_abs stray ≤ 10 ^ 36)
 whole_small stray share reached bow d b is e h f k some l = (omega (arith, ints, is, e, f, some), omega (arith, ints, is, e, h, f, k, some, l, abs_is stray, abs_is reached))
 
-swing_small : (s a b : ℕ) → s ≤ a + b → a ≤ 48 * (side_limit * side_limit) → b ≤ 3 * (side_limit * (2 * (side_limit * side_limit))) → s ≤ 10 ^ 37
+swing_small : (s a b : ℕ) → s ≤ a + b → a ≤ 48 * (side_limit * side_limit) → b ≤ 3 * (side_limit * (2 * (side_limit * side_limit)))
+    → s ≤ 10 ^ 37
 swing_small s a b h k l = omega (arith, h, k, l)
 
 pub sum-requires : goal.sum-requires

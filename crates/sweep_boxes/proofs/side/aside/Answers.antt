@@ -10,7 +10,8 @@ height_small : (a : ℤ) → unsigned_abs a ≤ side_limit → unsigned_abs a �
 height_small a h = omega (arith, h)
 
 -- what is left of the square
-rest_of : (square along part : ℤ) → along ≡ part → part ≤ℤ square → unsigned_abs square ≤ 3 * (side_limit * side_limit) → unsigned_abs along ≤ 4 * 10 ^ 18 * side_limit
+rest_of : (square along part : ℤ) → along ≡ part → part ≤ℤ square → unsigned_abs square ≤ 3 * (side_limit * side_limit)
+    → unsigned_abs along ≤ 4 * 10 ^ 18 * side_limit
     → FitsSigned w128 (square -ℤ along) × (pos 0 ≤ℤ (square -ℤ along)) × (unsigned_abs (square -ℤ along) ≤ 10 ^ 36)
 rest_of square along part is most h k = (
   omega (arith, ints, h, k, abs_is square, abs_is along),

@@ -1,6 +1,6 @@
 use Rattle.std.proofs.Common.{◌≡◌, ◌≤◌, ◌≤ℤ◌, ◌*◌, ◌*ℤ◌, ◌-ℤ◌, ℤ, pos, unsigned_abs, FitsSigned, arith, rules, subst}
 use Rattle.std.proofs.lemmas.Int.{to_z-of_z}
-use mir.Syntax.{w32, w128}
+use mir.Syntax.{w128}
 use Rattle.space.proofs.Facts.{fits128}
 use Rattle.space.proofs.Naturals.{natural}
 use Rattle.sweep_boxes.specs.Limits.{side_limit}

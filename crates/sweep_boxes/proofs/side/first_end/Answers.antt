@@ -8,10 +8,12 @@ use Rattle.sweep_boxes.proofs.Lined.{first_of, not_beyond}
 use Rattle.sweep_boxes.proofs.Words.{fits32, fits_of, kept, kept_axis, kept_height, kept_in, kept_place, kept_square, kept_tip, place_fits}
 use Rattle.sweep_boxes.proofs.side.first_end.Goals as goal
 
-bound_fits : (bound margin : ℤ) → unsigned_abs bound ≤ 4 * 10 ^ 18 * side_limit → unsigned_abs margin ≤ 3 * 10 ^ 36 → FitsSigned w128 (bound -ℤ margin)
+bound_fits : (bound margin : ℤ) → unsigned_abs bound ≤ 4 * 10 ^ 18 * side_limit → unsigned_abs margin ≤ 3 * 10 ^ 36
+    → FitsSigned w128 (bound -ℤ margin)
 bound_fits bound margin h k = omega (arith, ints, h, k, abs_is bound, abs_is margin)
 
-bound_small : (bound margin : ℤ) → unsigned_abs bound ≤ 4 * 10 ^ 18 * side_limit → unsigned_abs margin ≤ 3 * 10 ^ 36 → unsigned_abs (bound -ℤ margin) ≤ 4 * 10 ^ 36
+bound_small : (bound margin : ℤ) → unsigned_abs bound ≤ 4 * 10 ^ 18 * side_limit → unsigned_abs margin ≤ 3 * 10 ^ 36
+    → unsigned_abs (bound -ℤ margin) ≤ 4 * 10 ^ 36
 bound_small bound margin h k = omega (arith, ints, h, k, abs_is bound, abs_is margin, abs_is (bound -ℤ margin))
 
 square_some : (square : ℤ) → unsigned_abs square ≤ 3 * (side_limit * side_limit) → pos 1 ≤ℤ square → pos 1 ≤ℤ to_z w128 (of_z w128 square)

@@ -1,6 +1,5 @@
-use Rattle.std.proofs.Common.{◌≡◌, ◌≤ℤ◌, ◌*ℤ◌, FitsSigned, arith, rules}
+use Rattle.std.proofs.Common.{◌≡◌, ◌≤ℤ◌, ◌*ℤ◌, arith}
 use Rattle.std.proofs.lemmas.Int.{ints, to_z-of_z}
-use mir.Syntax.{w128}
 use Rattle.sweep_boxes.proofs.Numbers.{product_anti, product_mono}
 use Rattle.sweep_boxes.proofs.Words.{fits_of}
 use Rattle.sweep_boxes.proofs.side.most_along.Goals as goal

@@ -6,7 +6,8 @@ use Rattle.sweep_boxes.proofs.Numbers.{product_fits, scaled_some}
 use Rattle.sweep_boxes.proofs.Words.{fits_of}
 use Rattle.sweep_boxes.proofs.side.scaled.Goals as goal
 
-fits_product : (scale : ℕ) (x square : ℤ) → x ≡ pos scale → scale ≤ 128 → unsigned_abs square ≤ 3 * (side_limit * side_limit) → FitsSigned w128 (x *ℤ square)
+fits_product : (scale : ℕ) (x square : ℤ) → x ≡ pos scale → scale ≤ 128 → unsigned_abs square ≤ 3 * (side_limit * side_limit)
+    → FitsSigned w128 (x *ℤ square)
 fits_product scale x square e h k = subst (λ (z : ℤ). FitsSigned w128 (z *ℤ square)) (sym e) (product_fits (pos scale) square 128 (3 * (side_limit * side_limit)) h k (omega arith))
 
 pub overflow_mul-result : goal.overflow_mul-result

@@ -1,13 +1,29 @@
-use Rattle.std.proofs.Common.{◌≤◌, ℤ, unsigned_abs, arith, rules, subst, sym}
-use Rattle.std.proofs.lemmas.Grind.{common_steps}
+use Rattle.std.proofs.Common.{◌≤◌, ◌*ℤ◌, ℤ, unsigned_abs, FitsSigned, arith, refl}
+use Rattle.std.proofs.lemmas.Int.{to_z-of_z}
+use mir.Syntax.{w128}
 use Rattle.space.specs.Vectors.{at}
-use Rattle.space.proofs.Naturals.{abs_mul}
+use Rattle.space.proofs.Facts.{fits128}
+use Rattle.space.proofs.Naturals.{abs_mul, square_not_negative}
+use Rattle.sweep_boxes.specs.Limits.{aim_limit}
+use Rattle.sweep_boxes.proofs.Numbers.{product_fits}
 use Rattle.sweep_boxes.proofs.spread.part_square.Goals as goal
 
-pub returns-clause-value : goal.returns-clause-value
-returns-clause-value c = first_of (search rules, grind (arith, common_steps))
+side_fits : (x : ℤ) → unsigned_abs x ≤ aim_limit → FitsSigned w128 x
+side_fits x h = fits128 x aim_limit h (omega arith)
 
-pub returns-clause-small : goal.returns-clause-small
-returns-clause-small c =
-    let x = at c.args.side.now c.args.i in
-    subst (λ (z : ℤ). unsigned_abs z ≤ 64) (sym (returns-clause-value c)) (abs_mul x x 8 8 c.requires.side c.requires.side)
+square_fits : (x : ℤ) → unsigned_abs x ≤ aim_limit → FitsSigned w128 (x *ℤ x)
+square_fits x h = product_fits x x aim_limit aim_limit h h (omega arith)
+
+pub overflow_mul-result : goal.overflow_mul-result
+overflow_mul-result c =
+    let x = at c.args.side.now c.args.i in let f = side_fits x c.requires.side in
+    simp to_z-of_z (square_fits x c.requires.side)
+
+pub returns : goal.returns
+returns c =
+    let x = at c.args.side.now c.args.i in let f = side_fits x c.requires.side in let fits = square_fits x c.requires.side in
+    record {
+      value = simp to_z-of_z refl;
+      some = simp to_z-of_z (square_not_negative x);
+      small = simp to_z-of_z (abs_mul x x aim_limit aim_limit c.requires.side c.requires.side);
+    }

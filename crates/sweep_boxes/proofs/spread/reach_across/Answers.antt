@@ -11,7 +11,8 @@ third_small : (n : ℕ) → n ≤ 10 ^ 33 → n ≤ 10 ^ 37
 third_small n h = omega (arith, h)
 
 -- what is added
-wide_of : (wide square third : ℤ) → wide ≡ square +ℤ third → pos 0 ≤ℤ square → pos 0 ≤ℤ third → unsigned_abs square ≤ 25 * 10 ^ 32 → unsigned_abs third ≤ 10 ^ 33
+wide_of : (wide square third : ℤ) → wide ≡ square +ℤ third → pos 0 ≤ℤ square → pos 0 ≤ℤ third → unsigned_abs square ≤ 25 * 10 ^ 32
+    → unsigned_abs third ≤ 10 ^ 33
     → (pos 0 ≤ℤ wide) × (unsigned_abs wide ≤ 35 * 10 ^ 32)
 wide_of wide square third is some more h k = (omega (arith, ints, is, some, more), omega (arith, ints, is, h, k, abs_is wide, abs_is square, abs_is third))
 

@@ -1,11 +1,49 @@
-use Rattle.std.proofs.Common.{arith}
+use Rattle.std.proofs.Common.{◌≤◌, ◌<◌, ◌≤ℤ◌, ◌+ℤ◌, ◌*◌, ◌+◌, ◌^◌, ℕ, ℤ, pos, unsigned_abs, FitsSigned, arith, subst, sym, ◌∙◌}
 use Rattle.std.proofs.lemmas.Int.{ints}
-use borrow.Author.Differences.{abs_is}
+use mir.Syntax.{w128}
+use Rattle.space.specs.Vectors.{dot}
+use Rattle.sweep_boxes.specs.Limits.{side_limit}
 use Rattle.sweep_boxes.proofs.AlongSide.{reach_below}
+use Rattle.sweep_boxes.proofs.Words.{at_x, at_y, at_z, same_sum, sum_read, three_fit, three_read, three_small, two_fit, two_read}
 use Rattle.sweep_boxes.proofs.spread.reach_of.Goals as goal
 
-pub returns-clause-value : goal.returns-clause-value
-returns-clause-value c p near =
+few : 3 * (side_limit * (2 * (side_limit * side_limit))) < 2 ^ 127
+few = omega arith
+
+as_sum : (n a b d : ℕ) → n ≤ (a + b) + d → pos n ≤ℤ ((pos a +ℤ pos b) +ℤ pos d)
+as_sum n a b d h = omega (arith, ints, h)
+
+sum_some : (a b d : ℕ) → pos 0 ≤ℤ ((pos a +ℤ pos b) +ℤ pos d)
+sum_some a b d = omega (arith, ints)
+
+pub reach_along-requires : goal.reach_along-requires
+reach_along-requires c = record { i = at_x; far = c.requires.far.0; v = c.requires.v.0 }
+
+pub reach_along-requires-2 : goal.reach_along-requires-2
+reach_along-requires-2 c = record { i = at_y; far = c.requires.far.1; v = c.requires.v.1 }
+
+pub reach_along-requires-3 : goal.reach_along-requires-3
+reach_along-requires-3 c = record { i = at_z; far = c.requires.far.2; v = c.requires.v.2 }
+
+pub overflow_add-result : goal.overflow_add-result
+overflow_add-result c =
+    let x = c.reach_along in let y = c.reach_along-2 in
+    subst (FitsSigned w128) (sym (two_read x.result y.result x.type_inv y.type_inv)) (two_fit x.result y.result _ x.ensures.small y.ensures.small few)
+
+pub overflow_add-result-2 : goal.overflow_add-result-2
+overflow_add-result-2 c =
     let x = c.reach_along in let y = c.reach_along-2 in let z = c.reach_along-3 in
-    let below = reach_below p c.args.far.now c.args.v.now near in
-    omega (arith, ints, below, x.ensures.value, y.ensures.value, z.ensures.value, x.ensures.small, y.ensures.small, z.ensures.small, abs_is x.result, abs_is y.result, abs_is z.result)
+    subst (FitsSigned w128) (sym (three_read x.result y.result z.result _ x.type_inv y.type_inv z.type_inv x.ensures.small y.ensures.small few))
+    (three_fit x.result y.result z.result _ x.ensures.small y.ensures.small z.ensures.small few)
+
+pub returns : goal.returns
+returns c =
+    let x = c.reach_along in let y = c.reach_along-2 in let z = c.reach_along-3 in
+    let read = sum_read x.result y.result z.result _ x.type_inv y.type_inv z.type_inv x.ensures.small y.ensures.small z.ensures.small few in
+    let same = read ∙ same_sum x.result y.result z.result _ _ _ x.ensures.value y.ensures.value z.ensures.value in
+    record {
+      value = λ p near. subst (λ (s : ℤ). pos (unsigned_abs (dot p c.args.v.now)) ≤ℤ s) (sym same) (as_sum _ _ _ _ (reach_below p c.args.far.now c.args.v.now near));
+      some = subst (λ (s : ℤ). pos 0 ≤ℤ s) (sym same) (sum_some _ _ _);
+      small = subst (λ (s : ℤ). unsigned_abs s ≤ 3 * (side_limit * (2 * (side_limit * side_limit)))) (sym read)
+          (three_small x.result y.result z.result _ x.ensures.small y.ensures.small z.ensures.small);
+    }

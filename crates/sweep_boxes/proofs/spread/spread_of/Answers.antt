@@ -1,12 +1,11 @@
-use Rattle.std.proofs.Common.{◌≡◌, ◌≤◌, ◌≤ℤ◌, ◌*◌, ◌^◌, ◌*ℤ◌, ◌+ℤ◌, ℕ, ℤ, pos, to_z, of_z, unsigned_abs, FitsSigned, arith, rules, subst, ap, ◌∙◌, List}
+use Rattle.std.proofs.Common.{◌≡◌, ◌≤◌, ◌≤ℤ◌, ◌*◌, ◌^◌, ◌*ℤ◌, ◌+ℤ◌, ℕ, ℤ, pos, to_z, of_z, unsigned_abs, arith, subst, ap, ◌∙◌, List}
 use Rattle.std.proofs.lemmas.Int.{ints, to_z-of_z}
-use mir.Syntax.{w32, w128}
-use borrow.Author.Differences.{abs_is}
+use mir.Syntax.{w128}
 use Rattle.space.specs.Vectors.{dot}
 use Rattle.sweep_boxes.specs.Held.{IsSpread}
 use Rattle.sweep_boxes.specs.Vectors.{cross, sum}
 use Rattle.sweep_boxes.proofs.AlongSide.{spread_by}
-use Rattle.sweep_boxes.proofs.Words.{fits_of, kept_small, kept_some, long_few, long_some, scale_few, small32_in, small_up_to, summand, twice}
+use Rattle.sweep_boxes.proofs.Words.{fits_of, kept, kept_small, kept_some, long_few, long_fits, long_some, read_out, scale_few, small32_in, small_up_to, spare_some, summand, twice, two_read}
 use Rattle.sweep_boxes.proofs.spread.spread_of.Goals as goal
 
 pub sizes-turn-requires : goal.sizes-turn-requires
@@ -70,13 +69,13 @@ sum-requires-2 c =
 pub third_of_square-requires : goal.third_of_square-requires
 third_of_square-requires c =
     let change = c.change_limit-change in let bent = c.length_limit-bent in let two = c.sum in let spare = c.sum-spare in
-    let f1 = fits_of change.result change.type_inv in
-    let f2 = fits_of bent.result bent.type_inv in
-    let g2 = fits_of two.result two.type_inv in
-    let g3 = fits_of spare.result spare.type_inv in
-    let two_is : two.result ≡ bent.result +ℤ bent.result = simp to_z-of_z at two.ensures.value in
-    let spare_is : spare.result ≡ change.result +ℤ two.result = simp to_z-of_z at spare.ensures.value in
-    omega (arith, ints, two_is, spare_is, change.ensures.some, bent.ensures.some, c.if-spare-gt50000000000000000.false, abs_is spare.result)
+    let two_is : two.result ≡ bent.result +ℤ bent.result = two.ensures.value ∙ two_read bent.result bent.result bent.type_inv bent.type_inv in
+    let spare_is : spare.result ≡ change.result +ℤ two.result = spare.ensures.value ∙ two_read change.result two.result change.type_inv two.type_inv in
+    let some = spare_some spare.result change.result two.result bent.result spare_is two_is change.ensures.some bent.ensures.some in
+    small_up_to (to_z w128 (of_z w128 spare.result)) (5 * 10 ^ 16) (kept_some spare.result spare.type_inv some) c.if-spare-gt50000000000000000.false
+
+whole_some : (whole a b : ℤ) → whole ≡ a +ℤ b → pos 0 ≤ℤ a → pos 0 ≤ℤ b → pos 0 ≤ℤ whole
+whole_some whole a b e h k = omega (arith, ints, e, h, k)
 
 pub returns-clause-some : goal.returns-clause-some
 returns-clause-some c =
@@ -84,9 +83,9 @@ returns-clause-some c =
     let a = fits_of reach.result reach.type_inv in
     let b = fits_of stray.result stray.type_inv in
     let d = fits_of whole.result whole.type_inv in
-    let whole_is : whole.result ≡ reach.result +ℤ stray.result = simp to_z-of_z at whole.ensures.value in
-    let some : pos 0 ≤ℤ whole.result = omega (arith, ints, whole_is, reach.ensures.some, stray.ensures.some) in
-    simp to_z-of_z some
+    let whole_is : whole.result ≡ reach.result +ℤ stray.result = whole.ensures.value ∙ two_read reach.result stray.result reach.type_inv stray.type_inv in
+    let some = whole_some whole.result reach.result stray.result whole_is reach.ensures.some stray.ensures.some in
+    kept_some whole.result whole.type_inv some
 
 pub returns-clause-value : goal.returns-clause-value
 returns-clause-value c = λ small.
@@ -104,12 +103,12 @@ returns-clause-value c = λ small.
     let f7 = fits_of reach.result reach.type_inv in
     let f8 = fits_of stray.result stray.type_inv in
     let f9 = fits_of whole.result whole.type_inv in
-    let w : FitsSigned w32 c.args.widest = search rules in
-    let l : FitsSigned w128 piece.longest = search rules in
-    let two_is : two.result ≡ bent.result +ℤ bent.result = simp to_z-of_z at two.ensures.value in
-    let spare_is : spare.result ≡ change.result +ℤ two.result = simp to_z-of_z at spare.ensures.value in
-    let whole_is : whole.result ≡ reach.result +ℤ stray.result = simp to_z-of_z at whole.ensures.value in
-    let thirds : (spare.result *ℤ spare.result) ≤ℤ (pos 3 *ℤ third.result) = simp to_z-of_z at third.ensures.value in
+    let w = c.ranges.widest in
+    let l = long_fits piece.longest piece.long.0 piece.long.1 in
+    let two_is : two.result ≡ bent.result +ℤ bent.result = two.ensures.value ∙ two_read bent.result bent.result bent.type_inv bent.type_inv in
+    let spare_is : spare.result ≡ change.result +ℤ two.result = spare.ensures.value ∙ two_read change.result two.result change.type_inv two.type_inv in
+    let whole_is : whole.result ≡ reach.result +ℤ stray.result = whole.ensures.value ∙ two_read reach.result stray.result reach.type_inv stray.type_inv in
+    let thirds : (spare.result *ℤ spare.result) ≤ℤ (pos 3 *ℤ third.result) = read_out (λ (z : ℤ). (z *ℤ z) ≤ℤ (pos 3 *ℤ third.result)) spare.result spare.type_inv third.ensures.value in
     let rooted : (short.result *ℤ (half.result *ℤ half.result +ℤ third.result)) ≤ℤ (reach.result *ℤ reach.result) = simp to_z-of_z at reach.ensures.value in
     let spread : IsSpread whole.result side piece c.args.widest far =
     spread_by whole.result half.result change.result bent.result third.result reach.result stray.result piece c.args.widest side far
@@ -128,4 +127,4 @@ returns-clause-value c = λ small.
       root = subst (λ (z : ℤ). (z *ℤ (half.result *ℤ half.result +ℤ third.result)) ≤ℤ (reach.result *ℤ reach.result)) short.ensures.value rooted;
       strays = stray.ensures.value;
     } in
-    simp to_z-of_z spread
+    kept (λ (z : ℤ). IsSpread z side piece c.args.widest far) whole.result whole.type_inv spread

@@ -13,7 +13,8 @@ third_small : (q n : ℤ) → ((p : ℤ) → n ≤ℤ (p *ℤ pos 3) → q ≤�
 third_small q n first small = first (pos (9 * 10 ^ 32)) (omega (arith, ints, small, abs_is n))
 
 -- the next number
-next_of : (q : ℤ) → pos 0 ≤ℤ q → q ≤ℤ pos (9 * 10 ^ 32) → FitsSigned w128 (q +ℤ pos 1) × (pos 0 ≤ℤ (q +ℤ pos 1)) × (unsigned_abs (q +ℤ pos 1) ≤ 10 ^ 33)
+next_of : (q : ℤ) → pos 0 ≤ℤ q → q ≤ℤ pos (9 * 10 ^ 32)
+    → FitsSigned w128 (q +ℤ pos 1) × (pos 0 ≤ℤ (q +ℤ pos 1)) × (unsigned_abs (q +ℤ pos 1) ≤ 10 ^ 33)
 next_of q some few = (omega (arith, ints, some, few), omega (arith, ints, some), omega (arith, ints, some, few, abs_is (q +ℤ pos 1)))
 
 square_below : (n square third : ℤ) → n ≡ square → n ≤ℤ third → square ≤ℤ third

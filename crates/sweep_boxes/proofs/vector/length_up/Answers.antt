@@ -7,7 +7,8 @@ use Rattle.sweep_boxes.proofs.Words.{fits_of, kept_small, kept_some, small_in}
 use Rattle.sweep_boxes.proofs.vector.length_up.Goals as goal
 
 -- the sums of the squares
-sums_of : (x y z : ℤ) → pos 0 ≤ℤ x → pos 0 ≤ℤ y → pos 0 ≤ℤ z → unsigned_abs x ≤ 4 * (side_limit * side_limit) * (4 * (side_limit * side_limit))
+sums_of : (x y z : ℤ) → pos 0 ≤ℤ x → pos 0 ≤ℤ y → pos 0 ≤ℤ z
+    → unsigned_abs x ≤ 4 * (side_limit * side_limit) * (4 * (side_limit * side_limit))
     → unsigned_abs y ≤ 4 * (side_limit * side_limit) * (4 * (side_limit * side_limit)) → unsigned_abs z ≤ 4 * (side_limit * side_limit) * (4 * (side_limit * side_limit))
     → FitsSigned w128 (x +ℤ y) × FitsSigned w128 ((x +ℤ y) +ℤ z) × (pos 0 ≤ℤ ((x +ℤ y) +ℤ z)) × (unsigned_abs ((x +ℤ y) +ℤ z) ≤ 10 ^ 36)
 sums_of x y z a b c h k l = (
@@ -17,7 +18,8 @@ sums_of x y z a b c h k l = (
   omega (arith, ints, h, k, l, abs_is x, abs_is y, abs_is z, abs_is ((x +ℤ y) +ℤ z)),
 )
 
-fits_sum : (x y : ℤ) → unsigned_abs x ≤ 4 * (side_limit * side_limit) * (4 * (side_limit * side_limit)) → unsigned_abs y ≤ 4 * (side_limit * side_limit) * (4 * (side_limit * side_limit))
+fits_sum : (x y : ℤ) → unsigned_abs x ≤ 4 * (side_limit * side_limit) * (4 * (side_limit * side_limit))
+    → unsigned_abs y ≤ 4 * (side_limit * side_limit) * (4 * (side_limit * side_limit))
     → FitsSigned w128 (x +ℤ y)
 fits_sum x y h k = omega (arith, ints, h, k, abs_is x, abs_is y)
 

@@ -12,7 +12,8 @@ fits_between x y h k = omega (arith, ints, h, k, abs_is x, abs_is y)
 same_between : (x y a b : ℤ) → x ≡ a → y ≡ b → x -ℤ y ≡ a -ℤ b
 same_between x y a b e f = cc (e, f)
 
-small_between : (x y : ℤ) → unsigned_abs x ≤ side_limit * side_limit → unsigned_abs y ≤ side_limit * side_limit → unsigned_abs (x -ℤ y) ≤ 2 * (side_limit * side_limit)
+small_between : (x y : ℤ) → unsigned_abs x ≤ side_limit * side_limit → unsigned_abs y ≤ side_limit * side_limit
+    → unsigned_abs (x -ℤ y) ≤ 2 * (side_limit * side_limit)
 small_between x y h k = omega (arith, ints, h, k, abs_is x, abs_is y, abs_is (x -ℤ y))
 
 pub product-requires : goal.product-requires

@@ -7,7 +7,8 @@ use Rattle.sweep_boxes.proofs.Words.{fits_of, kept_small, kept_some, small_in}
 use Rattle.sweep_boxes.proofs.vector.root_up.Goals as goal
 
 -- a root of how far a number is from zero
-root_of : (n r : ℤ) → FitsSigned w128 n → mag r < 2 ^ 127 → pos (unsigned_abs (to_z w128 (of_z w128 n))) ≤ℤ (r *ℤ r) → n ≤ℤ (to_z w128 (of_z w128 r) *ℤ to_z w128 (of_z w128 r))
+root_of : (n r : ℤ) → FitsSigned w128 n → mag r < 2 ^ 127 → pos (unsigned_abs (to_z w128 (of_z w128 n))) ≤ℤ (r *ℤ r)
+    → n ≤ℤ (to_z w128 (of_z w128 r) *ℤ to_z w128 (of_z w128 r))
 root_of n r fits few h =
     let f = fits_of r few in let root : pos (unsigned_abs n) ≤ℤ (r *ℤ r) = simp to_z-of_z at h in
     simp to_z-of_z (below n (r *ℤ r) root) where
