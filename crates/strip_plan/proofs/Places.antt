@@ -1,13 +1,13 @@
 -- The places of stacks, one more at a time.
-use Rattle.std.proofs.Common.{◌≡◌, ◌∙◌, ℕ, ◌+◌, ◌<◌, ◌≤◌, List, [], ◌∷◌, ◌++◌, ⊎_elim, length, take, slice_index, get_or, arith, ap, subst, sym}
+use Rattle.std.proofs.Common.{◌≡◌, ◌∙◌, All, ℕ, ◌+◌, ◌<◌, ◌≤◌, List, [], ◌∷◌, ◌++◌, ⊎_elim, length, take, slice_index, get_or, arith, ap, subst, sym}
 use Rattle.std.proofs.lemmas.Bool.{cases_lt}
-use Rattle.std.proofs.lemmas.List.{get_or-take, get_or_append_left, length-append, length-take}
+use Rattle.std.proofs.lemmas.List.{get_or-take, get_or_append_left, length-append, length-take, take-append-le, take_all}
 use Rattle.std.proofs.lemmas.Option.{get_or_from_slice_get}
 use Rattle.std.proofs.Math.Seq.{get_or-append_seam}
 use Rattle.cutter_slabs.specs.Cutter.{CutterSize}
 use Rattle.cutter_slabs.specs.Stacks.{StacksOf}
 use Rattle.job_model.specs.Tasks.{JobMove}
-use Rattle.strip_plan.specs.Cutters.{HasStacks, IsStackPlace}
+use Rattle.strip_plan.specs.Cutters.{HasSlabs, HasStacks, IsStackPlace}
 
 -- what is kept of a list has its place in a longer one
 pub longer : {X : Type 0} → (xs ys : List X) → take (length xs) ys ≡ xs → length xs ≤ length ys
@@ -44,3 +44,25 @@ one_more slabs moves stacks more places count next place has kept read is =
           subst (IsStackPlace more move.cutter slabs) (sym last) (subst (λ (m : JobMove). IsStackPlace more m.cutter slabs place) same is))
           (cases_lt n count);
     }
+
+-- stacks with others pushed: the first ones are kept, all have so many slabs, and the last place is that of the others
+pub kept_pushed : (stacks more : List StacksOf) (next : StacksOf) → more ≡ stacks ++ next ∷ [] → take (length stacks) more ≡ stacks
+kept_pushed stacks more next e =
+    ap (λ zs. take (length stacks) zs) e ∙ take-append-le (length stacks) stacks (next ∷ []) (omega arith) ∙ take_all (length stacks) stacks (omega arith)
+
+pub all_pushed : (slabs : ℕ) (stacks more : List StacksOf) (next : StacksOf) → more ≡ stacks ++ next ∷ [] → All (HasSlabs slabs) stacks → next.slabs ≡ slabs → All (HasSlabs slabs) more
+all_pushed slabs stacks more next e all own = λ k d low.
+    let read = ap (λ zs. get_or zs k d) e in let size = ap (λ zs. length zs) e in let long = length-append stacks (next ∷ []) in
+    ⊎_elim
+    (λ (less : k < length stacks). ap (λ (s : StacksOf). s.slabs) (read ∙ get_or_append_left stacks (next ∷ []) d k less) ∙ all k d less)
+    (λ (most : length stacks ≤ k).
+    let at : k ≡ length stacks = omega (arith, low, most, size, long) in
+    ap (λ (s : StacksOf). s.slabs) (read ∙ ap (λ i. get_or (stacks ++ next ∷ []) i d) at ∙ get_or-append_seam stacks next [] d) ∙ own)
+    (cases_lt k (length stacks))
+
+pub place_pushed : (cutter : CutterSize) (slabs place : ℕ) (stacks more : List StacksOf) (next : StacksOf) → more ≡ stacks ++ next ∷ [] → place ≡ length stacks
+    → next ≡ record { cutter = cutter; slabs = slabs } → IsStackPlace more cutter slabs place
+place_pushed cutter slabs place stacks more next e at own = record {
+  within = let size = ap (λ zs. length zs) e in let long = length-append stacks (next ∷ []) in omega (arith, at, size, long);
+  there = λ d. ap (λ zs. get_or zs place d) e ∙ ap (λ i. get_or (stacks ++ next ∷ []) i d) at ∙ get_or-append_seam stacks next [] d ∙ own;
+}

@@ -91,3 +91,6 @@ loop-at-preserved c =
 
 pub returns-clause-ahead : goal.returns-clause-ahead
 returns-clause-ahead c = λ x from to less. c.loop-at.invariant.ahead x from less
+
+pub returns-then-are_left_before-clause-ahead : goal.returns-then-are_left_before-clause-ahead
+returns-then-are_left_before-clause-ahead c = λ x from to less. c.are_left_before.ensures c.if-are_left_before.true c.args.first.now c.args.m c.after.ensures x to

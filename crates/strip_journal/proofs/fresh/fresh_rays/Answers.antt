@@ -1,5 +1,5 @@
 -- The count fits, since a strip has few points; and one ray more is fresh.
-use Rattle.std.proofs.Common.{◌<◌, length, arith}
+use Rattle.std.proofs.Common.{◌<◌, ◌∙◌, length, arith, sym}
 use Rattle.ray_grid.specs.Strips.{strip_at}
 use Rattle.strip_journal.proofs.FreshRays.{few_more, fresh_more, fresh_on, stock_more}
 use Rattle.strip_journal.proofs.fresh.fresh_rays.Goals as goal
@@ -28,3 +28,27 @@ loop-n-preserved g c =
           stock_more c.loop-n.rays.items c.push.new.self.items c.in_ok-ray.ray c.loop-n.points c.stock_count-points.result
           c.loop-n.invariant.points c.stock_count-points.ensures c.in_ok-push.ensures.items;
     }
+
+pub fresh_ray-requires-clause-part_grid : goal.fresh_ray-requires-clause-part_grid
+fresh_ray-requires-clause-part_grid g c = c.requires.part_grid ∙ sym c.requires.stock_grid
+
+pub fresh_ray-requires-clause-fixture_grid : goal.fresh_ray-requires-clause-fixture_grid
+fresh_ray-requires-clause-fixture_grid g c = c.requires.fixture_grid ∙ sym c.requires.stock_grid
+
+pub fresh_ray-requires-clause-stock_callable : goal.fresh_ray-requires-clause-stock_callable
+fresh_ray-requires-clause-stock_callable g c = c.requires.stock_callable
+
+pub fresh_ray-requires-clause-part_callable : goal.fresh_ray-requires-clause-part_callable
+fresh_ray-requires-clause-part_callable g c = c.requires.part_callable
+
+pub fresh_ray-requires-clause-fixture_callable : goal.fresh_ray-requires-clause-fixture_callable
+fresh_ray-requires-clause-fixture_callable g c = c.requires.fixture_callable
+
+pub fresh_ray-requires-clause-stock_gives : goal.fresh_ray-requires-clause-stock_gives
+fresh_ray-requires-clause-stock_gives g c = c.requires.stock_gives
+
+pub fresh_ray-requires-clause-part_gives : goal.fresh_ray-requires-clause-part_gives
+fresh_ray-requires-clause-part_gives g c = c.requires.part_gives
+
+pub fresh_ray-requires-clause-fixture_gives : goal.fresh_ray-requires-clause-fixture_gives
+fresh_ray-requires-clause-fixture_gives g c = c.requires.fixture_gives

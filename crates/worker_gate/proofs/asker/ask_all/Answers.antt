@@ -1,6 +1,8 @@
 use Rattle.std.proofs.Common.{arith, ap, sym, subst, List, [], length}
+use Rattle.std.proofs.lemmas.List.{take_all}
 use Rattle.std.proofs.lemmas.Grind.{common_steps}
 use Rattle.job_facts.specs.declared.totals.Answer.{Answer}
+use Rattle.edit_plan.specs.declared.query.Query.{Query}
 use Rattle.strip_turns.specs.Passes.{card}
 use Rattle.worker_gate.specs.Asking.{AskedAll}
 use Rattle.worker_gate.proofs.Answering.{logged_none, asked_none, asked_more, one_more}
@@ -32,3 +34,16 @@ loop-query-preserved g c =
     let asked = one_more (card b) c.args.queries.now i _ answers c.push_reserved.new.self.items c.in-Ok-ask.answer
     c.args.pass.now.seat.me.0 c.ask.new.pass.seat.me.0 c.loop-query-test.true e.items more in
     (c.in-Ok-ask.ensures.pass, asked, grind (arith, common_steps, e.items, inv.2), omega (arith, inv.3, e.capacity))
+
+pub push_reserved-requires : goal.push_reserved-requires
+push_reserved-requires g c =
+    let inv = c.loop-query.invariant in let size = c.loop-query.answers.ok.0 in omega (arith, c.loop-query-test.true, inv.2, inv.3, size)
+
+pub returns-in-Err-clause-pass : goal.returns-in-Err-clause-pass
+returns-in-Err-clause-pass g c = c.ask.ensures.pass
+
+pub returns-clause-told : goal.returns-clause-told
+returns-clause-told g c =
+    let inv = c.loop-query.invariant in let v = c.args.pass.now.seat.me.0 in let w = c.loop-query.pass.seat.me.0 in
+    subst (λ (qs : List Query). AskedAll (card c.args.board.now) qs c.loop-query.answers.items v w)
+    (take_all c.loop-query.query-index c.args.queries.now (omega (arith, c.loop-query-test.false))) inv.1

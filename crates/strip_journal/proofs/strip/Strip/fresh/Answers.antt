@@ -23,3 +23,21 @@ invariant_of-result g c =
       at = refl;
       done = refl;
     })
+
+pub fresh_rays-requires-clause-stock_callable : goal.fresh_rays-requires-clause-stock_callable
+fresh_rays-requires-clause-stock_callable g c = c.requires.stock_callable
+
+pub fresh_rays-requires-clause-part_callable : goal.fresh_rays-requires-clause-part_callable
+fresh_rays-requires-clause-part_callable g c = c.requires.part_callable
+
+pub fresh_rays-requires-clause-fixture_callable : goal.fresh_rays-requires-clause-fixture_callable
+fresh_rays-requires-clause-fixture_callable g c = c.requires.fixture_callable
+
+pub fresh_rays-requires-clause-stock_gives : goal.fresh_rays-requires-clause-stock_gives
+fresh_rays-requires-clause-stock_gives g c = c.requires.stock_gives
+
+pub fresh_rays-requires-clause-part_gives : goal.fresh_rays-requires-clause-part_gives
+fresh_rays-requires-clause-part_gives g c = c.requires.part_gives
+
+pub fresh_rays-requires-clause-fixture_gives : goal.fresh_rays-requires-clause-fixture_gives
+fresh_rays-requires-clause-fixture_gives g c = c.requires.fixture_gives
