@@ -147,14 +147,15 @@ fn is_moved(alloc: Global, ray: &mut Dexel, row: &Row) -> Result<bool, NoMemory>
     Ok(are_counts(&delta.counts, &row.counts) && shows(ray, row.sure_after, row.possible_after))
 }
 
-/// What the first row is that isn't so, or nothing where each is.
-fn first_other(alloc: Global) -> Result<&'static str, NoMemory> {
-    let mut ray = new_ray(alloc)?;
+/// What the first row is that isn't so on the ray, or nothing where each is.
+fn first_other(alloc: Global, ray: &mut Dexel) -> Result<&'static str, NoMemory>
+    requires { HaveBound 8 ray.old }
+{
     let mut sure_before = 0;
     let mut possible_before = 0;
     for row in &ROWS {
-        let is_back = comes_back(alloc, &ray, row, sure_before, possible_before)?;
-        if !is_moved(alloc, &mut ray, row)? || !is_back {
+        let is_back = comes_back(alloc, ray, row, sure_before, possible_before)?;
+        if !is_moved(alloc, ray, row)? || !is_back {
             return Ok(row.what);
         }
         sure_before = row.sure_after;
@@ -163,9 +164,15 @@ fn first_other(alloc: Global) -> Result<&'static str, NoMemory> {
     Ok("")
 }
 
+/// The same on a new ray.
+fn first_on_new(alloc: Global) -> Result<&'static str, NoMemory> {
+    let mut ray = new_ray(alloc)?;
+    first_other(alloc, &mut ray)
+}
+
 #[test]
 fn moves_on_one_ray(rt: HostRuntime) -> Result<(), Fail> {
-    assert_eq!(rt; first_other(rt.alloc())?, "");
+    assert_eq!(rt; first_on_new(rt.alloc())?, "");
     Ok(())
 }
 
