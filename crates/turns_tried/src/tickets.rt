@@ -121,23 +121,36 @@ fn tickets_of_two_threads(rt: HostRuntime) -> Result<(), Fail> {
     Ok(())
 }
 
-/// Whether one pass draws the first tickets, takes a strip to the end of its edits, and is told the answers that are due.
-fn is_told<R: Wait>(rt: &R, alloc: Global) -> Result<bool, NoMemory> {
-    let (board, mut pass) = board(alloc, 1)?;
-    let tickets = [
-        board.claim(&mut pass),
-        board.claim(&mut pass),
-        board.claim(&mut pass),
-    ];
-    let turned = board.turn(&mut pass, 0);
+/// Whether the first pass draws the first tickets, takes a strip to the end of its edits, and is told the answers that are due.
+fn are_told<R: Wait>(
+    rt: &R,
+    alloc: Global,
+    board: &Board,
+    pass: &mut Pass,
+) -> Result<bool, NoMemory>
+    requires pass { IsPass board.now pass.old }
+    requires view { pass.old.seat.me.0 ≡ fresh true 0 (Some (card board.now)) }
+    requires strips { length (strips_of board.now.plan.grid) ≡ 9 }
+    requires edits { length board.now.plan.edits ≡ 5 }
+    ensures pass { IsPass board.now pass.new }
+{
+    let tickets = [board.claim(pass), board.claim(pass), board.claim(pass)];
+    let turned = board.turn(pass, 0);
     let queries = queries(alloc, board.plan())?;
-    let told = asked(rt, alloc, &board, &mut pass, &queries)?;
-    board.finish(rt, &mut pass)?;
+    let told = asked(rt, alloc, board, pass, &queries)?;
     Ok(
         tickets == [0, 1, 2]
             && turned == Turned::Moved { from: 0, to: 5 }
             && told.as_slice() == answers().as_slice(),
     )
+}
+
+/// The same on a board of its own, which the pass finishes.
+fn is_told<R: Wait>(rt: &R, alloc: Global) -> Result<bool, NoMemory> {
+    let (board, mut pass) = board(alloc, 1)?;
+    let told = are_told(rt, alloc, &board, &mut pass)?;
+    board.finish(rt, &mut pass)?;
+    Ok(told)
 }
 
 /// Strip 0 is ahead of all queries but the last two, and the others come to each.
