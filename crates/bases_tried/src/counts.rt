@@ -1,7 +1,6 @@
 use edit_plan::Ask;
 use job_facts::{Answer, Counts, PointState, Totals};
 use ray_grid::{Family, Ray};
-use std::test::*;
 
 /// Counts of which one may be set.
 fn counts(place: u32) -> Counts {
@@ -20,20 +19,19 @@ fn counts(place: u32) -> Counts {
     counts
 }
 
+/// Whether a move is safe with one point at each of the counts, and with none.
+const SAFE: [bool; 9] = [true, true, true, false, true, false, true, false, true];
+
 #[test]
 fn safe_moves(rt: HostRuntime) {
-    let due = [true, true, true, false, true, false, true, false, true];
-    for (place, safe) in due.iter().enumerate() {
-        assert_eq!(rt;
-            counts(place as u32).is_safe(),
-            *safe,
-            "one point at the count {place}"
-        );
+    for (place, safe) in SAFE.iter().enumerate() {
+        let is_due = counts(place as u32).is_safe() == *safe;
+        assert!(rt; is_due, "one point at the count {place}");
     }
 }
 
-#[test]
-fn answers_of_the_questions_kind(rt: HostRuntime) {
+/// Whether these questions and answers are of one kind where they are due to be.
+fn are_of_their_kind() -> bool {
     let ray = Ray {
         family: Family::X,
         i: 0,
@@ -42,13 +40,13 @@ fn answers_of_the_questions_kind(rt: HostRuntime) {
     let probe = Ask::Probe { ray, l: 2 };
     let state = Answer::Probe(PointState::Kept);
     let totals = Answer::Count(Totals::none());
-    let rows = [
-        (probe, state, true),
-        (probe, totals, false),
-        (Ask::Count, state, false),
-        (Ask::Count, totals, true),
-    ];
-    for (ask, answer, due) in rows {
-        assert_eq!(rt; answer.is_to(&ask), due, "{answer:?} to {ask:?}");
-    }
+    state.is_to(&probe)
+        && !totals.is_to(&probe)
+        && !state.is_to(&Ask::Count)
+        && totals.is_to(&Ask::Count)
+}
+
+#[test]
+fn answers_of_the_questions_kind(rt: HostRuntime) {
+    assert!(rt; are_of_their_kind());
 }

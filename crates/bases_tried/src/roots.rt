@@ -10,12 +10,15 @@ const ROOTS: [(u128, u128, u128); 6] = [
     (1_000_000_000_000, 1_000_000, 1_000_000),
 ];
 
+/// Whether the number has these roots.
+fn are_roots(n: u128, floor: u128, ceil: u128) -> bool {
+    n <= 1_000_000_000_000 && isqrt_floor(n) == floor && isqrt_ceil(n) == ceil
+}
+
 #[test]
 fn roots(rt: HostRuntime) {
-    for (n, floor, ceil) in ROOTS {
-        assert!(rt; n <= 1_000_000_000_000);
-        assert_eq!(rt; isqrt_floor(n), floor, "floor at {n}");
-        assert_eq!(rt; isqrt_ceil(n), ceil, "ceiling at {n}");
+    for (n, floor, ceil) in &ROOTS {
+        assert!(rt; are_roots(*n, *floor, *ceil), "roots of {n}");
     }
 }
 
@@ -28,18 +31,23 @@ const SIGNS: [([i128; 3], bool, bool); 5] = [
     ([1, -2, 3], false, false),
 ];
 
+/// Whether forms of these coefficients, and of more with the same ones between, have these signs.
+fn have_signs(c: [i128; 3], positive: bool, negative: bool) -> bool {
+    let [first, middle, last] = c;
+    let form = Form2 { c };
+    let raised = Form4 {
+        c: [first, middle, middle, middle, last],
+    };
+    form.all_positive() == positive
+        && form.all_negative() == negative
+        && raised.all_positive() == positive
+        && raised.all_negative() == negative
+}
+
 #[test]
 fn signs(rt: HostRuntime) {
-    for (c, positive, negative) in SIGNS {
-        let form = Form2 { c };
-        assert_eq!(rt; form.all_positive(), positive, "above 0: {form:?}");
-        assert_eq!(rt; form.all_negative(), negative, "below 0: {form:?}");
-        let [first, middle, last] = c;
-        let raised = Form4 {
-            c: [first, middle, middle, middle, last],
-        };
-        assert_eq!(rt; raised.all_positive(), positive, "above 0: {raised:?}");
-        assert_eq!(rt; raised.all_negative(), negative, "below 0: {raised:?}");
+    for (c, positive, negative) in &SIGNS {
+        assert!(rt; have_signs(*c, *positive, *negative), "signs of {c:?}");
     }
     assert_ne!(rt; Form1 { c: [1, 2] }, Form1 { c: [2, 1] });
 }

@@ -1,8 +1,10 @@
-//! Tries of what marks points: cylinders, runs, words of a ray, and plans.
+//! Tries of what marks points: cylinders, runs, words of a ray, plans, and the moves of a file.
 #![tactic(auto)]
 
 #[cfg(test)]
 mod cylinders;
+#[cfg(test)]
+mod files;
 #[cfg(test)]
 mod levels;
 #[cfg(test)]

@@ -8,6 +8,3 @@ mod question;
 pub use cutters::{Usual, low_cutter, size, sweep_of};
 pub use marks::marks_of;
 pub use question::Question;
-
-#[cfg(test)]
-mod tests;

@@ -1,14 +1,18 @@
-ghost use Rattle.std.specs.Prelude.{◌<◌, ◌≤◌};
+ghost use Rattle.std.specs.Prelude.{◌+◌, ◌<◌, ◌≤◌, length};
+ghost use Rattle.strip_turns.specs.Plays.{IsAlone};
+ghost use Rattle.strip_turns.specs.Passes.{IsPass};
+ghost use Rattle.worker_gate.specs.Crew.{CanHire};
 
 use crate::again::crew_or_another;
+use crate::boards::board;
 use crate::meeting::Meeting;
-use sample_job::{answers, edits, plan, queries, stock, strips};
+use sample_job::{answers, queries};
 use std::alloc::Global;
 use std::sync::Wait;
 use std::test::Fail;
 use std::thread::Threads;
 use strip_journal::Strip;
-use strip_turns::Board;
+use strip_turns::{Board, Pass};
 use vf_io::NoMemory;
 use worker_gate::{Gate, Open};
 
@@ -20,6 +24,26 @@ fn are_at(strips: &[Strip], version: u32) -> bool {
         }
     }
     strips.len() == 9
+}
+
+/// Whether a crew on a board of the small job gives the answers that are due.
+fn is_told<R: Threads + Wait + Sync, G: Gate + Sync>(
+    rt: &R,
+    alloc: Global,
+    board: &Board,
+    pass: &mut Pass,
+    workers: u32,
+    gate: &G,
+) -> Result<bool, NoMemory>
+    requires workers { (0 < workers) × (workers ≤ 16) }
+    requires ready { CanHire board.now (workers + workers) pass.old }
+    requires edits { 5 ≤ length board.now.plan.edits }
+    ensures pass { IsPass board.now pass.new }
+    ensures alone { IsAlone pass.new.seat.me.0 }
+{
+    let queries = queries(alloc, board.plan())?;
+    let told = crew_or_another(rt, alloc, board, pass, &queries, workers, gate)?;
+    Ok(told.as_slice() == answers().as_slice())
 }
 
 /// Has a crew work on a board of the small job, with so many rounds of edits, and closes the board. Whether it gave the answers that are
@@ -35,14 +59,10 @@ fn is_crewed<R: Threads + Wait + Sync, G: Gate + Sync>(
     requires rounds { (0 < rounds) × (rounds ≤ 9) }
     requires workers { (0 < workers) × (workers ≤ 16) }
 {
-    let plan = plan(alloc, edits(alloc, rounds)?)?;
-    let queries = queries(alloc, &plan)?;
-    let strips = strips(alloc, &plan, &stock(alloc)?)?;
-    let (board, mut pass) = Board::new(alloc, plan, strips)?;
-    let due = answers();
-    let answers = crew_or_another(rt, alloc, &board, &mut pass, &queries, workers, gate);
+    let (board, mut pass) = board(alloc, rounds)?;
+    let told = is_told(rt, alloc, &board, &mut pass, workers, gate);
     let strips = board.close(alloc, pass)?;
-    Ok(answers?.as_slice() == due.as_slice() && are_at(&strips, version))
+    Ok(told? && are_at(&strips, version))
 }
 
 /// Two workers wait for each other ahead of their first turns, so neither comes on where one thread makes all turns.

@@ -1,4 +1,5 @@
-ghost use Rattle.std.specs.Prelude.{All, length};
+ghost use Rattle.std.specs.Prelude.{◌≡◌, All, length};
+ghost use Rattle.ray_grid.specs.Strips.{strips_of};
 ghost use Rattle.edit_plan.specs.Queries.{IsQuery};
 ghost use Rattle.turn_core.specs.World.{IsStepOf};
 
@@ -39,13 +40,24 @@ fn are_at(strips: &[Strip], versions: &[u32; 9]) -> bool {
     strips.len() == 9
 }
 
-/// Whether a short order of steps, a long one and none give the answers that are due.
-fn orders(alloc: Global) -> Result<[bool; 3], NoMemory> {
-    let plan = plan(alloc, edits(alloc, 1)?)?;
-    let queries = queries(alloc, &plan)?;
-    let due = answers();
-    let short = [Step::Turn(8), Step::Ask(0)];
-    let long = [
+/// Whether a short order of steps gives the answers that are due.
+fn is_short_played(alloc: Global, plan: &Plan, queries: &[Query]) -> Result<bool, NoMemory>
+    requires strips { length (strips_of plan.now.grid) ≡ 9 }
+    requires many { length queries.now ≡ 6 }
+    requires each { All (IsQuery plan.now.grid (length plan.now.edits)) queries.now }
+{
+    let steps = [Step::Turn(8), Step::Ask(0)];
+    let behind = [2, 0, 0, 0, 0, 0, 0, 0, 5];
+    are_played(alloc, plan, queries, &steps, &[answers()[0]], &behind)
+}
+
+/// Whether a long one does.
+fn is_long_played(alloc: Global, plan: &Plan, queries: &[Query]) -> Result<bool, NoMemory>
+    requires strips { length (strips_of plan.now.grid) ≡ 9 }
+    requires many { length queries.now ≡ 6 }
+    requires each { All (IsQuery plan.now.grid (length plan.now.edits)) queries.now }
+{
+    let steps = [
         Step::Turn(8),
         Step::Ask(5),
         Step::Ask(0),
@@ -53,13 +65,29 @@ fn orders(alloc: Global) -> Result<[bool; 3], NoMemory> {
         Step::Ask(2),
         Step::Ask(3),
     ];
+    let due = answers();
     let told = [due[5], due[0], due[2], due[3]];
-    let behind = [2, 0, 0, 0, 0, 0, 0, 0, 5];
+    are_played(alloc, plan, queries, &steps, &told, &[5; 9])
+}
+
+/// Whether both do, and no steps give no answers.
+fn are_orders_played(alloc: Global, plan: &Plan, queries: &[Query]) -> Result<[bool; 3], NoMemory>
+    requires strips { length (strips_of plan.now.grid) ≡ 9 }
+    requires many { length queries.now ≡ 6 }
+    requires each { All (IsQuery plan.now.grid (length plan.now.edits)) queries.now }
+{
     Ok([
-        are_played(alloc, &plan, &queries, &short, &[due[0]], &behind)?,
-        are_played(alloc, &plan, &queries, &long, &told, &[5; 9])?,
-        are_played(alloc, &plan, &queries, &[], &[], &[0; 9])?,
+        is_short_played(alloc, plan, queries)?,
+        is_long_played(alloc, plan, queries)?,
+        are_played(alloc, plan, queries, &[], &[], &[0; 9])?,
     ])
+}
+
+/// The same on the small job.
+fn orders(alloc: Global) -> Result<[bool; 3], NoMemory> {
+    let plan = plan(alloc, edits(alloc, 1)?)?;
+    let queries = queries(alloc, &plan)?;
+    are_orders_played(alloc, &plan, &queries)
 }
 
 #[test]

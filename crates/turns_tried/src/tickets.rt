@@ -4,9 +4,10 @@ ghost use Rattle.edit_plan.specs.Queries.{IsQuery};
 ghost use Rattle.strip_turns.specs.Passes.{card, IsPass};
 ghost use Rattle.strip_turns.specs.Views.{fresh};
 
+use crate::boards::board;
 use edit_plan::Query;
 use job_facts::Answer;
-use sample_job::{answers, edits, plan, queries, stock, strips};
+use sample_job::{answers, queries};
 use std::alloc::Global;
 use std::sync::Wait;
 use std::test::Fail;
@@ -15,18 +16,6 @@ use std::thread::Threads;
 use strip_journal::Strip;
 use strip_turns::{Board, Pass, Turned};
 use vf_io::NoMemory;
-
-/// A board of the small job, with five edits for each of its nine strips, and its first pass.
-fn board(alloc: Global) -> Result<(Board, Pass), NoMemory>
-    ensures pass { IfOk result (λ b. IsPass b.0 b.1) }
-    ensures view { IfOk result (λ b. b.1.seat.me.0 ≡ fresh true 0 (Some (card b.0))) }
-    ensures strips { IfOk result (λ b. length (strips_of b.0.plan.grid) ≡ 9) }
-    ensures edits { IfOk result (λ b. length b.0.plan.edits ≡ 5) }
-{
-    let plan = plan(alloc, edits(alloc, 1)?)?;
-    let strips = strips(alloc, &plan, &stock(alloc)?)?;
-    Board::new(alloc, plan, strips)
-}
 
 /// Draws a hundred tickets, and does nothing else.
 fn hundred(board: &Board, pass: &mut Pass) -> [u64; 100]
@@ -117,7 +106,7 @@ fn are_fresh(strips: &[Strip]) -> bool {
 
 /// Whether two threads draw all tickets on a board, and turn none of its strips.
 fn is_drawn<R: Threads + Sync>(rt: &R, alloc: Global) -> Result<bool, NoMemory> {
-    let (board, mut pass) = board(alloc)?;
+    let (board, mut pass) = board(alloc, 1)?;
     let mut other = board.split(&mut pass);
     let (one, two) = drawn_by_two(rt, &board, &mut pass, &mut other);
     board.merge(&mut pass, other);
@@ -132,23 +121,36 @@ fn tickets_of_two_threads(rt: HostRuntime) -> Result<(), Fail> {
     Ok(())
 }
 
-/// Whether one pass draws the first tickets, takes a strip to the end of its edits, and is told the answers that are due.
-fn is_told<R: Wait>(rt: &R, alloc: Global) -> Result<bool, NoMemory> {
-    let (board, mut pass) = board(alloc)?;
-    let tickets = [
-        board.claim(&mut pass),
-        board.claim(&mut pass),
-        board.claim(&mut pass),
-    ];
-    let turned = board.turn(&mut pass, 0);
+/// Whether the first pass draws the first tickets, takes a strip to the end of its edits, and is told the answers that are due.
+fn are_told<R: Wait>(
+    rt: &R,
+    alloc: Global,
+    board: &Board,
+    pass: &mut Pass,
+) -> Result<bool, NoMemory>
+    requires pass { IsPass board.now pass.old }
+    requires view { pass.old.seat.me.0 ≡ fresh true 0 (Some (card board.now)) }
+    requires strips { length (strips_of board.now.plan.grid) ≡ 9 }
+    requires edits { length board.now.plan.edits ≡ 5 }
+    ensures pass { IsPass board.now pass.new }
+{
+    let tickets = [board.claim(pass), board.claim(pass), board.claim(pass)];
+    let turned = board.turn(pass, 0);
     let queries = queries(alloc, board.plan())?;
-    let told = asked(rt, alloc, &board, &mut pass, &queries)?;
-    board.finish(rt, &mut pass)?;
+    let told = asked(rt, alloc, board, pass, &queries)?;
     Ok(
         tickets == [0, 1, 2]
             && turned == Turned::Moved { from: 0, to: 5 }
             && told.as_slice() == answers().as_slice(),
     )
+}
+
+/// The same on a board of its own, which the pass finishes.
+fn is_told<R: Wait>(rt: &R, alloc: Global) -> Result<bool, NoMemory> {
+    let (board, mut pass) = board(alloc, 1)?;
+    let told = are_told(rt, alloc, &board, &mut pass)?;
+    board.finish(rt, &mut pass)?;
+    Ok(told)
 }
 
 /// Strip 0 is ahead of all queries but the last two, and the others come to each.

@@ -2,11 +2,12 @@ ghost use Rattle.std.specs.Prelude.{◌≤◌, length};
 ghost use Rattle.cl_lines.specs.Texts.{most_bytes};
 ghost use Rattle.point_marks.specs.Questions.{IsQuestion};
 
-use crate::{Question, Usual, low_cutter, marks_of};
 use axis_cells::Mark;
 use cl_moves::read_program;
+use point_marks::{Question, Usual, low_cutter, marks_of};
 use std::alloc::Global;
 use std::test::Fail;
+use vf_io::NoMemory;
 
 /// A move without a cutter has none, and a cutter without a height is as high as one may be.
 const USUAL: Usual = Usual {
@@ -14,19 +15,24 @@ const USUAL: Usual = Usual {
     height: 300_000,
 };
 
-/// The marks of the moves of a file.
-fn marks(alloc: Global, file: &[u8], question: &Question) -> Result<Vec<Option<Mark>>, Fail>
+/// Whether the file is a program whose cutters are high enough, and its moves have these marks.
+fn are_marked(
+    alloc: Global,
+    file: &[u8],
+    question: &Question,
+    due: &[Option<Mark>],
+) -> Result<bool, NoMemory>
     requires file { length file.now ≤ most_bytes }
     requires question { IsQuestion question.now }
 {
     let Ok(program) = read_program(alloc, file) else {
-        return Err(Fail::from("the file is a program"));
+        return Ok(false);
     };
     let moves = program.moves.as_slice();
-    if let Some(_line) = low_cutter(&USUAL, moves) {
-        return Err(Fail::from("the cutters are high enough"));
+    if low_cutter(&USUAL, moves).is_some() {
+        return Ok(false);
     }
-    Ok(marks_of(alloc, &USUAL, moves, question)?)
+    Ok(marks_of(alloc, &USUAL, moves, question)?.as_slice() == due)
 }
 
 /// A move without a cutter, then a thin cutter, a thick one, and the thin one again.
@@ -47,7 +53,6 @@ fn marks_each_move_by_its_cutter(rt: HostRuntime) -> Result<(), Fail> {
         depth: 0,
         slabs: 16,
     };
-    let marks = marks(rt.alloc(), CUTTERS, &beside)?;
     let due = [
         None,
         Some(Mark::Clear),
@@ -55,7 +60,7 @@ fn marks_each_move_by_its_cutter(rt: HostRuntime) -> Result<(), Fail> {
         Some(Mark::Removed),
         Some(Mark::Clear),
     ];
-    assert_eq!(rt; marks.as_slice(), due.as_slice());
+    assert!(rt; are_marked(rt.alloc(), CUTTERS, &beside, &due)?);
     Ok(())
 }
 
@@ -69,22 +74,14 @@ fn marks_at_the_height_where_the_file_gives_none(rt: HostRuntime) -> Result<(), 
         depth: 0,
         slabs: 16,
     };
-    let at = marks(rt.alloc(), BALL, &at_its_top)?;
-    assert_eq!(rt;
-        at.as_slice(),
-        [Some(Mark::Removed)].as_slice(),
-        "at its top"
-    );
+    let at = are_marked(rt.alloc(), BALL, &at_its_top, &[Some(Mark::Removed)])?;
+    assert!(rt; at, "at its top");
     let above_it = Question {
         point: [0, 0, 300_001],
         depth: 0,
         slabs: 16,
     };
-    let above = marks(rt.alloc(), BALL, &above_it)?;
-    assert_eq!(rt;
-        above.as_slice(),
-        [Some(Mark::Clear)].as_slice(),
-        "above it"
-    );
+    let above = are_marked(rt.alloc(), BALL, &above_it, &[Some(Mark::Clear)])?;
+    assert!(rt; above, "above it");
     Ok(())
 }
