@@ -1,4 +1,4 @@
-ghost use Rattle.std.specs.Prelude.{◌≡◌, All, IfOk, Some, length, true};
+ghost use Rattle.std.specs.Prelude.{◌≡◌, All, Some, length, true};
 ghost use Rattle.ray_grid.specs.Strips.{strips_of};
 ghost use Rattle.edit_plan.specs.Queries.{IsQuery};
 ghost use Rattle.strip_turns.specs.Passes.{card, IsPass};
