@@ -40,3 +40,17 @@ returns-clause-told g c =
 pub returns-clause-alone : goal.returns-clause-alone
 returns-clause-alone g c =
     crews_alone (card c.args.board.now) c.args.queries.now c.args.workers (Ok c.in-Ok-answers.answers) _ _ (returns-clause-told g c) c.requires.ready.alone
+
+pub merge_all-short-requires-clause-pass : goal.merge_all-short-requires-clause-pass
+merge_all-short-requires-clause-pass g c = c.ask_beside-answers.ensures.pass
+
+pub finish-requires : goal.finish-requires
+finish-requires g c = record { pass = c.merge_all-short.ensures.pass }
+
+pub returns-in_default-answers-clause-told : goal.returns-in_default-answers-clause-told
+returns-in_default-answers-clause-told g c =
+    let e = c.ask_beside-answers.ensures in
+    stopped_by (card c.args.board.now) c.args.queries.now c.ask_beside-answers.result.0 c.args.workers _ c.merge_all-short.result
+    c.args.pass.now.seat.me.0 c.hire.new.pass.seat.me.0 c.ask_beside-answers.new.pass.seat.me.0 c.merge_all-short.new.pass.seat.me.0
+    c.in-Ok.ensures.split e.told c.merge_all-short.ensures.merged (e.worked.many ∙ c.in-Ok.ensures.fresh.1)
+    c.merge_all-short.ensures.out c.requires.ready.alone.out
