@@ -1,5 +1,5 @@
 -- A strip out of its slot, and back.
-use Rattle.std.proofs.Common.{◌≡◌, ℕ, ◌+◌, ◌*◌, ◌^◌, ◌≤◌, List, [], ◌∷◌, Option, Some, None, MatchOption, max, arith, sym, ap, ◌∙◌, subst}
+use Rattle.std.proofs.Common.{◌≡◌, ℕ, ◌+◌, ◌*◌, ◌^◌, ◌≤◌, List, [], ◌∷◌, Option, Some, None, Bool, true, false, MatchBool, MatchOption, max, arith, sym, ap, ◌∙◌, subst}
 use mathlib.Core.Option.{none}
 use Rattle.atomic_table.specs.Table.{Me, step, rest}
 use Rattle.atomic_table.specs.declared.shared.Seat.{Seat}
@@ -10,8 +10,8 @@ use Rattle.strip_turns.specs.declared.board.Board.{Board}
 use Rattle.strip_turns.specs.Views.{with_strip, with_trip}
 use Rattle.strip_turns.specs.Log.{seen}
 use Rattle.strip_turns.specs.Cards.{start, last, IsCase}
-use Rattle.strip_turns.specs.Plays.{Took, Gives}
-use Rattle.strip_turns.specs.Passes.{card, IsIdle, Holds, TookOut, RaisedOut, IsOut, IsBack, Tripped}
+use Rattle.strip_turns.specs.Plays.{Took, Missed, Gives}
+use Rattle.strip_turns.specs.Passes.{card, IsIdle, Holds, TookOut, TookIn, RaisedOut, IsOut, IsIn, IsBack, Tripped}
 use Rattle.strip_turns.specs.Asks.{Raised}
 
 heads : {A : Type 0} (a b : A) (xs ys : List A) → a ∷ xs ≡ b ∷ ys → a ≡ b
@@ -39,22 +39,44 @@ taken_out b k X old mid new x idle t own has me =
       of_case = t.1.of_case;
     })
 
-pub put_back_told : (b : Board) (slots k from word new found : ℕ) (old mid seat : Seat (Option StripOf) View) (s : StripOf)
-    → IsOut b k from old → mid.me ≡ (old.me.0, (k, Some s) ∷ rest old.me.1) → new ≡ (s.done + 1) * 2 ^ 40
-    → Gives (step slots word new 0 none) mid.me found seat.me → seat.table_id ≡ b.table.shared.table_id
-    → IsBack b k from s.done old seat
-put_back_told b slots k from word new found old mid seat s h is value g own =
-    let v : mid.me.0 ≡ old.me.0 = ap (λ m. m.0) is in
-    let e : mid.me.1 ≡ (k, Some s) ∷ rest old.me.1 = ap (λ m. m.1) is in
-    let named = ap (λ z. z.card) v ∙ h.named in
-    let held = ap (λ z. z.held) v ∙ h.held in
-    let t = g (card b) (record { strip = k; at = from }) s.done named held value in
+-- what a step on the word of a strip told, of the strip in its slot
+pub held_told : (b : Board) (k : ℕ) (r : Bool) (old new : Seat (Option StripOf) View) → IsIdle b old → new.table_id ≡ b.table.shared.table_id
+    → MatchBool r ((s : StripOf) × Took (card b) k old.me new.me s) (Missed k old.me new.me)
+    → MatchBool r ((s : StripOf) × TookIn b k old new s) (Missed k old.me new.me)
+held_told b k true old new idle own t =
+    let s = t.0 in (
+      s,
+      record {
+        own = own;
+        me = t.1.me ∙ (λ i. (with_strip k s.done old.me.0, (k, Some s) ∷ idle.slots i));
+        seen = t.1.seen;
+        of_case = t.1.of_case;
+      },
+    )
+held_told b k false old new idle own t = t
+
+-- the strip in the seat's slot went home
+pub given_told : (b : Board) (slots k from to word new found : ℕ) (old seat : Seat (Option StripOf) View) (s : StripOf)
+    → IsIn b k from to old s → new ≡ (to + 1) * 2 ^ 40 → Gives (step slots word new 0 none) old.me found seat.me
+    → seat.table_id ≡ b.table.shared.table_id → IsBack b k from to old seat
+given_told b slots k from to word new found old seat s h value g own =
+    let t = g (card b) (record { strip = k; at = from }) to h.named h.held value in
     record {
       own = own;
       met = t.0;
-      me = t.1.me ∙ (λ i. (with_trip k from s.done t.0 (v i), (ap rest e ∙ ap rest h.slots) i));
+      me = t.1.me ∙ (λ i. (with_trip k from to t.0 old.me.0, ap rest h.slots i));
       seen = t.1.seen;
     }
+
+-- it doesn't matter what lay in the slot
+pub back_from : (b : Board) (k from to : ℕ) (old mid seat : Seat (Option StripOf) View) → mid.me.0 ≡ old.me.0
+    → IsBack b k from to mid seat → IsBack b k from to old seat
+back_from b k from to old mid seat v h = record {
+  own = h.own;
+  met = h.met;
+  me = h.me ∙ (λ i. (with_trip k from to h.met (v i), []));
+  seen = h.seen;
+}
 
 -- a seat after a step that changed nothing
 pub still_idle : (b : Board) (old seat : Seat (Option StripOf) View) → IsIdle b old → seat.table_id ≡ old.table_id

@@ -1,7 +1,10 @@
 -- A pass of a board, and what the board's calls do to it.
-use Rattle.std.specs.Prelude.{◌≡◌, ℕ, ◌≤◌, [], ◌∷◌, Option, Some, None, max}
+use Rattle.std.specs.Prelude.{◌≡◌, ℕ, ◌+◌, ◌≤◌, [], ◌∷◌, Option, Some, None, Result, Ok, Err, length, max, min}
+use Rattle.atomic_table.specs.Table.{Me}
 use Rattle.atomic_table.specs.declared.shared.Seat.{Seat}
+use Rattle.job_model.specs.Tasks.{PlanOf}
 use Rattle.strip_journal.specs.Strips.{StripOf}
+use Rattle.turn_core.specs.Turns.{IsRaised, IsStopped}
 use Rattle.strip_turns.specs.declared.view.View.{View}
 use Rattle.strip_turns.specs.declared.view.Card.{Card}
 use Rattle.strip_turns.specs.declared.view.Entry.TheVariants.{Trip}
@@ -37,6 +40,24 @@ pub record TookOut (b : Board) (k : ℕ) (old seat : Seat (Option StripOf) View)
   pub out : Holds b k strip.done old seat
   pub of_case : IsCase (card b) k strip.done strip
 
+-- the strip was taken, and lies as it was in the slot that the seat holds
+pub record TookIn (b : Board) (k : ℕ) (old seat : Seat (Option StripOf) View) (strip : StripOf) : Type 0 where
+  pub own : seat.table_id ≡ b.table.shared.table_id
+  pub me : seat.me ≡ (with_strip k strip.done old.me.0, (k, Some strip) ∷ [])
+  pub seen : seen k (start (card b) k) old.me.0.log ≤ strip.done
+  pub of_case : IsCase (card b) k strip.done strip
+
+-- the seat holds the slot of the strip k alone, and in it a strip of which P holds
+abbrev pub HasStrip : Me (Option StripOf) View → ℕ → (StripOf → Type 0) → Type 0
+HasStrip me k P = (strip : StripOf) × (me.1 ≡ (k, Some strip) ∷ []) × P strip
+
+-- what `turn_strip` did on a strip
+abbrev pub Worked : PlanOf → StripOf → StripOf → Result (ℕ × ℕ) (ℕ × ℕ) → Type 0
+Worked plan before after (Ok turn) = (turn.0 ≡ before.done) × (turn.1 ≡ after.done)
+    × IsRaised before after (min (before.done + 8) (length plan.edits))
+Worked plan before after (Err turn) = (turn.0 ≡ before.done) × (turn.1 ≡ after.done)
+    × IsStopped before after (min (before.done + 8) (length plan.edits))
+
 -- it was taken out at `from`, and raised to a version that it wasn't past
 pub record RaisedOut (b : Board) (k from version : ℕ) (old seat : Seat (Option StripOf) View) (strip : StripOf) : Type 0 where
   pub out : Holds b k from old seat
@@ -48,6 +69,16 @@ pub record IsOut (b : Board) (k from : ℕ) (seat : Seat (Option StripOf) View) 
   pub named : seat.me.0.card ≡ Some (card b)
   pub held : seat.me.0.held ≡ Some (record { strip = k; at = from })
   pub slots : seat.me.1 ≡ (k, None) ∷ []
+
+-- the strip k is with the seat, which took it at `from`, and lies at `to` in the slot that the seat holds
+pub record IsIn (b : Board) (k from to : ℕ) (seat : Seat (Option StripOf) View) (strip : StripOf) : Type 0 where
+  pub own : seat.table_id ≡ b.table.shared.table_id
+  pub named : seat.me.0.card ≡ Some (card b)
+  pub held : seat.me.0.held ≡ Some (record { strip = k; at = from })
+  pub slots : seat.me.1 ≡ (k, Some strip) ∷ []
+  pub of_case : IsCase (card b) k strip.done strip
+  pub at : strip.done ≡ to
+  pub further : from ≤ to
 
 -- the strip k was put back at `to`
 pub record IsBack (b : Board) (k from to : ℕ) (old seat : Seat (Option StripOf) View) : Type 0 where

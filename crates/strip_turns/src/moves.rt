@@ -1,10 +1,11 @@
-ghost use Rattle.std.specs.Prelude.{◌≡◌, ◌+◌, ◌*◌, ◌<◌, ◌≤◌, ◌^◌, length, MatchOption};
+ghost use Rattle.std.specs.Prelude.{◌≡◌, ◌+◌, ◌*◌, ◌<◌, ◌≤◌, ◌^◌, length, MatchBool, MatchOption};
 ghost use Rattle.ray_grid.specs.Strips.{strips_of};
 ghost use Rattle.edit_plan.specs.Limits.{most_edits};
+ghost use Rattle.strip_journal.specs.Strips.{StripOf};
 ghost use Rattle.strip_turns.specs.Cards.{IsCase};
 ghost use Rattle.strip_turns.specs.Plays.{Missed, Looked};
 ghost use Rattle.strip_turns.specs.Sound.{word_of};
-ghost use Rattle.strip_turns.specs.Passes.{card, IsIdle, TookOut, IsOut, IsBack};
+ghost use Rattle.strip_turns.specs.Passes.{card, IsIdle, TookOut, TookIn, IsOut, IsIn, IsBack};
 
 use crate::board::Board;
 use crate::rule::{Adding, Giving, Looking, Trying};
@@ -36,20 +37,18 @@ pub(crate) fn home_word(done: u32) -> u64
     (u64::from(done) + 1) * VERSION
 }
 
-/// Takes the strip where it is home, and else counts a miss.
-pub(crate) fn take(board: &Board, seat: &mut Seat<Option<Strip>, View>, strip: u32) -> Option<Strip>
+/// Takes the strip where it is home, and else counts a miss. A strip that was taken lies in its slot, which the seat holds.
+pub(crate) fn hold(board: &Board, seat: &mut Seat<Option<Strip>, View>, strip: u32) -> bool
     requires idle { IsIdle board.now seat.old }
     requires strip { strip < length (strips_of board.now.plan.grid) }
     requires few { seat.old.me.0.missed < 2 ^ 32 }
     ensures own { seat.new.table_id ≡ seat.old.table_id }
-    ensures told { MatchOption result (Missed strip seat.old.me seat.new.me) (λ piece. TookOut board.now strip seat.old seat.new piece) }
+    ensures told { MatchBool result ((piece : StripOf) × TookIn board.now strip seat.old seat.new piece)
+        (Missed strip seat.old.me seat.new.me) }
 {
     let word = word_at(strip);
     let found = board.table.shared.fetch_add::<Adding>(seat, word, 1);
-    if found % VERSION != 0 {
-        return None;
-    }
-    board.table.shared.exchange(seat, strip as usize, None)
+    found % VERSION == 0
 }
 
 /// Takes the strip, and waits until it is home.
@@ -108,13 +107,28 @@ pub(crate) fn put(
     requires further { from ≤ piece.done }
     ensures { IsBack board.now strip from piece.done seat.old seat.new }
 {
-    let home = home_word(piece.done());
-    let word = word_at(strip);
+    let to = piece.done();
     board
         .table
         .shared
         .exchange(seat, strip as usize, Some(piece));
-    board.table.shared.swap::<Giving>(seat, word, home);
+    give_back(board, seat, strip, from, to);
+}
+
+/// Gives back the strip in the seat's slot, that was taken at `from` and now is at `to`.
+pub(crate) fn give_back(
+    board: &Board,
+    seat: &mut Seat<Option<Strip>, View>,
+    strip: u32,
+    from: u32,
+    to: u32,
+)
+    requires strip { strip < length (strips_of board.now.plan.grid) }
+    requires held { (piece : StripOf) × IsIn board.now strip from to seat.old piece }
+    ensures { IsBack board.now strip from to seat.old seat.new }
+{
+    let word = word_at(strip);
+    board.table.shared.swap::<Giving>(seat, word, home_word(to));
 }
 
 /// Learns what the pass may know. Nothing changes.

@@ -1,10 +1,14 @@
-ghost use Rattle.std.specs.Prelude.{◌<◌, ◌^◌, length};
+ghost use Rattle.std.specs.Prelude.{◌≡◌, ◌<◌, ◌^◌, length, IsSomeAnd};
 ghost use Rattle.ray_grid.specs.Strips.{strips_of};
-ghost use Rattle.strip_turns.specs.Passes.{card, IsPass};
+ghost use Rattle.strip_turns.specs.Passes.{card, IsPass, HasStrip, Worked};
 ghost use Rattle.strip_turns.specs.Turns.{Turns};
 
 use crate::board::{Board, Pass};
-use crate::moves::{put, take};
+use crate::moves::{give_back, hold};
+use crate::view::View;
+use atomic_table::Seat;
+use strip_journal::Strip;
+use strip_plan::Plan;
 use turn_core::turn_strip;
 
 /// How a turn ended.
@@ -19,7 +23,7 @@ pub enum Turned {
 }
 
 impl Board {
-    /// Takes the strip where it is home, does its next edits, at most eight, and puts it back. It doesn't wait.
+    /// Takes the strip where it is home, does its next edits, at most eight, in its slot, and gives it back. It doesn't wait.
     pub fn turn(&self, pass: &mut Pass, strip: u32) -> Turned
         requires pass { IsPass self.now pass.old }
         requires strip { strip < length (strips_of self.now.plan.grid) }
@@ -27,15 +31,46 @@ impl Board {
         ensures pass { IsPass self.now pass.new }
         ensures told { Turns (card self.now) strip result pass.old.seat.me.0 pass.new.seat.me.0 }
     {
-        let Some(mut piece) = take(self, &mut pass.seat, strip) else {
+        if !hold(self, &mut pass.seat, strip) {
             return Turned::Busy;
-        };
-        let at = piece.done();
-        let turned = turn_strip(&mut piece, &self.plan);
-        put(self, &mut pass.seat, strip, at, piece);
-        match turned {
-            Ok((from, to)) => Turned::Moved { from, to },
-            Err((from, to)) => Turned::NoMemory { from, to },
         }
+        match turn_held(self, &mut pass.seat, strip) {
+            Ok((from, to)) => {
+                give_back(self, &mut pass.seat, strip, from, to);
+                Turned::Moved { from, to }
+            }
+            Err((from, to)) => {
+                give_back(self, &mut pass.seat, strip, from, to);
+                Turned::NoMemory { from, to }
+            }
+        }
+    }
+}
+
+/// Does the next edits on the strip in the seat's slot.
+fn turn_held(
+    board: &Board,
+    seat: &mut Seat<Option<Strip>, View>,
+    strip: u32,
+) -> Result<(u32, u32), (u32, u32)>
+    requires own { seat.old.table_id ≡ board.now.table.shared.table_id }
+    requires held { HasStrip seat.old.me strip (λ piece. piece.job.plan ≡ board.now.plan) }
+    ensures own { seat.new.table_id ≡ seat.old.table_id }
+    ensures view { seat.new.me.0 ≡ seat.old.me.0 }
+    ensures worked { HasStrip seat.old.me strip (λ before. HasStrip seat.new.me strip (λ after.
+        Worked board.now.plan before after result)) }
+{
+    let slot = seat.slot_mut(&board.table.shared, strip as usize);
+    turn_slot(slot, &board.plan)
+}
+
+/// Does the next edits on the strip in a slot.
+fn turn_slot(slot: &mut Option<Strip>, plan: &Plan) -> Result<(u32, u32), (u32, u32)>
+    requires { IsSomeAnd slot.old (λ piece. piece.job.plan ≡ plan.now) }
+    ensures { IsSomeAnd slot.old (λ before. IsSomeAnd slot.new (λ after. Worked plan.now before after result)) }
+{
+    match slot {
+        Some(piece) => turn_strip(piece, plan),
+        None => unreachable!(),
     }
 }
