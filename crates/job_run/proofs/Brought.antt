@@ -1,7 +1,5 @@
 -- The strips that a crew leaves are all at the last version.
-use Rattle.std.proofs.Common.{◌≡◌, ℕ, ◌<◌, ◌≤◌, List, Some, length, arith, sym, ap, ◌∙◌, subst}
-use Rattle.std.specs.List.{slice_get}
-use Rattle.std.proofs.lemmas.Option.{slice_get_within}
+use Rattle.std.proofs.Common.{◌≡◌, ℕ, ◌<◌, List, length, arith, sym, ap, ◌∙◌, subst}
 use Rattle.ray_grid.specs.Strips.{strips_of}
 use Rattle.job_model.specs.Tasks.{Job, PlanOf}
 use Rattle.strip_journal.specs.Strips.{StripOf}

@@ -1,4 +1,4 @@
-use Rattle.std.proofs.Common.{◌≡◌, ◌∙◌, length, map, refl, sym, ap, subst}
+use Rattle.std.proofs.Common.{◌≡◌, ◌∙◌, length, map, refl, ap}
 use Rattle.std.proofs.lemmas.List.{length-map}
 use Rattle.job_facts.specs.Facts.{are_answered}
 use Rattle.job_model.specs.Report.{answered}
