@@ -10,6 +10,7 @@ ghost use Rattle.strip_journal.specs.Steps.{CanStand, FitsEntry, HasRoom, HasSam
 use crate::entry::{Entry, Hits};
 use crate::journal::Journal;
 use crate::rays::turn_all;
+use crate::room::reserve_more;
 use std::mem;
 use strip_marks::{Marked, mark_strip};
 use strip_plan::Plan;
@@ -37,8 +38,8 @@ impl Journal {
         if self.changes.len() > MOST_CHANGES || changes > MOST_CHANGES - self.changes.len() {
             return Err(NoMemory);
         }
-        self.changes.reserve(changes)?;
-        self.entries.reserve(1)?;
+        reserve_more(&mut self.changes, changes)?;
+        reserve_more(&mut self.entries, 1)?;
         Ok(())
     }
 

@@ -9,6 +9,7 @@ mod fresh;
 mod journal;
 mod passing;
 mod rays;
+mod room;
 mod strip;
 mod turning;
 

@@ -9,6 +9,7 @@ ghost use Rattle.strip_journal.specs.Steps.{AreRaysTurned, HasSameEdits, HasSame
 use crate::entry::{Entry, Hits};
 use crate::journal::Journal;
 use crate::rays::turn_all;
+use crate::room::reserve_more;
 use edit_plan::Edit;
 use ray_words::WordRay;
 use strip_marks::WordChange;
@@ -54,7 +55,7 @@ impl Journal {
         ensures edits { OnErr result (HasSameEdits self.old self.new) }
         ensures rays { OnErr result (self.new.rays.items ≡ self.old.rays.items) }
     {
-        self.entries.reserve(1)?;
+        reserve_more(&mut self.entries, 1)?;
         let (removed, possible) = self.totals_again(place, is_undo);
         let source = self.entries[place];
         turn_changes(&mut self.rays, self.changes.as_slice(), &source, is_undo);
