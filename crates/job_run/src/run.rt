@@ -13,8 +13,10 @@ use crate::versions::bring_up;
 use edit_plan::{Ask, Query};
 use job_facts::{Answer, Facts};
 use std::alloc::Global;
+use std::mem;
 use std::sync::Wait;
 use std::thread::Threads;
+use strip_journal::Strip;
 use strip_plan::Plan;
 use vf_io::NoMemory;
 use worker_gate::Gate;
@@ -35,7 +37,14 @@ fn answered(
     Ok(pairs)
 }
 
-/// Does a whole job by so many workers, and gives what is reported of it. Fails only for want of memory.
+/// Leaves what strips hold to the system, which takes it back as a whole when the program ends: a program does one job, and to free the
+/// lists of each ray one by one takes a fiftieth of the job's time.
+fn leave(strips: Vec<Strip>) {
+    mem::forget(strips);
+}
+
+/// Does a whole job by so many workers, and gives what is reported of it. Fails only for want of memory. Where it doesn't fail, what its
+/// strips hold isn't freed before the program ends.
 pub fn run_job<R: Threads + Wait + Sync, G: Gate + Sync>(
     rt: &R,
     alloc: Global,
@@ -59,6 +68,7 @@ pub fn run_job<R: Threads + Wait + Sync, G: Gate + Sync>(
     let (answers, strips) = bring_up(rt, alloc, plan, strips, queries, workers, gate)?;
     let left = found_moves(alloc, &left, &strips)?;
     let totals = last_totals(edits, &strips);
+    leave(strips);
     let answers = answered(alloc, queries, &answers)?;
     Ok(Facts {
         moves,
