@@ -5,7 +5,7 @@ ghost use Rattle.edit_plan.specs.Limits.{most_edits};
 use axis_cells::Sweep;
 use cutter_slabs::Cutter;
 use edit_plan::{Edit, Edits};
-use ray_grid::{Family, Grid, Ray};
+use ray_grid::{Family, Grid};
 use std::alloc::Global;
 use std::test::Fail;
 use strip_plan::{Plan, PlanMove};
@@ -103,20 +103,10 @@ fn is_rapid(plan: &Plan, number: u32) -> Option<bool> {
     }
 }
 
-/// The window of a move on a ray, where the plan has both.
-fn ray_window(plan: &Plan, number: u32, family: Family, i: u32) -> Option<(u32, u32)> {
-    let ray = Ray { family, i, j: 0 };
-    if number < plan.moves() && plan.grid().has_point(&ray, 0) {
-        Some(plan.ray_window(number, &ray))
-    } else {
-        None
-    }
-}
-
-/// The window of a move on all rays of a family, where the plan has the move and the move has one.
-fn common_window(plan: &Plan, number: u32, family: Family) -> Option<(u32, u32)> {
+/// The window of a move on all rays of a strip, where the plan has the move.
+fn strip_along(plan: &Plan, number: u32, family: Family, i: u32) -> Option<(u32, u32)> {
     if number < plan.moves() {
-        plan.common_window(number, family)
+        Some(plan.strip_along(number, family, i))
     } else {
         None
     }
@@ -149,23 +139,23 @@ fn what_a_plan_has(rt: HostRuntime) -> Result<(), Fail> {
     Ok(())
 }
 
-/// Where a move is possible: on a ray, on all rays of a family, in a strip.
+/// Where a move is possible: along the rays of a strip, and on which of a strip's rays.
 #[derive(Clone, Copy)]
 enum Place {
-    Ray(Family, u32),
-    Rays(Family),
+    Along(Family, u32),
     Strip(u32),
 }
 
 /// Moves, and their windows.
-const WINDOWS: [(u32, Place, Option<(u32, u32)>); 11] = [
-    (0, Place::Ray(Family::X, 0), Some((0, 4))),
-    (0, Place::Ray(Family::X, 7), Some((0, 0))),
-    (1, Place::Ray(Family::X, 3), Some((13, 16))),
-    (2, Place::Ray(Family::X, 7), Some((0, 16))),
-    (2, Place::Rays(Family::X), None),
-    (3, Place::Rays(Family::X), Some((0, 3))),
-    (3, Place::Rays(Family::Y), Some((12, 16))),
+const WINDOWS: [(u32, Place, Option<(u32, u32)>); 12] = [
+    (0, Place::Along(Family::X, 0), Some((0, 4))),
+    (0, Place::Along(Family::X, 7), Some((0, 0))),
+    (1, Place::Along(Family::X, 3), Some((13, 16))),
+    (2, Place::Along(Family::X, 7), Some((0, 16))),
+    (2, Place::Along(Family::Y, 3), Some((12, 16))),
+    (3, Place::Along(Family::X, 7), Some((0, 3))),
+    (3, Place::Along(Family::Y, 0), Some((12, 16))),
+    (4, Place::Along(Family::X, 0), None),
     (0, Place::Strip(0), Some((0, 1))),
     (0, Place::Strip(5), Some((0, 0))),
     (2, Place::Strip(8), Some((0, 0))),
@@ -176,8 +166,7 @@ const WINDOWS: [(u32, Place, Option<(u32, u32)>); 11] = [
 fn first_other(plan: &Plan) -> Option<usize> {
     for (row, (number, place, due)) in WINDOWS.iter().enumerate() {
         let window = match *place {
-            Place::Ray(family, i) => ray_window(plan, *number, family, i),
-            Place::Rays(family) => common_window(plan, *number, family),
+            Place::Along(family, i) => strip_along(plan, *number, family, i),
             Place::Strip(strip) => strip_window(plan, *number, strip),
         };
         if window != *due {

@@ -24,12 +24,13 @@ pub record IsPossibleAt (plan : PlanOf) (move : JobMove) (ray : Ray) (l : ℕ) :
 abbrev pub HoldsPossible : PlanOf → JobMove → Ray → ℕ → ℕ → Type 0
 HoldsPossible plan move ray lo hi = (l : ℕ) → IsPossibleAt plan move ray l → IsFrom lo hi l
 
--- a window for all rays of a family: on each of them it holds the indices at which the plan's move with a number is possible
-pub record IsCommonWindow (plan : PlanOf) (number : ℕ) (family : Family) (window : ℕ × ℕ) : Type 0 where
+-- a window for all rays of a family with a first node: on each of them it holds the indices at which the plan's move with a number is
+-- possible
+pub record IsAlongStrip (plan : PlanOf) (number : ℕ) (family : Family) (i : ℕ) (window : ℕ × ℕ) : Type 0 where
   pub order : window.0 ≤ window.1
   pub within : window.1 ≤ points_of plan.grid family
-  pub holds : (move : JobMove) (ray : Ray) → HasNumber plan number move → ray.family ≡ family
-      → HoldsPossible plan move ray window.0 window.1
+  pub holds : (move : JobMove) (j : ℕ) → HasNumber plan number move
+      → HoldsPossible plan move record { family = family; i = i; j = j } window.0 window.1
 
 -- each ray of the strip with a point at which the move is possible has one of these numbers
 abbrev pub HoldsEntered : PlanOf → JobMove → ℕ → ℕ → ℕ → Type 0

@@ -98,14 +98,14 @@ impl IndexBox {
         }
     }
 
-    /// From the one index to the other lie the points of a ray that the box has.
+    /// From the one index to the other lie the points that the box has on the rays of a strip: on those of a family's rays with the
+    /// first node `i`.
     #[inline]
-    pub fn ray_window(&self, ray: &Ray) -> (u32, u32)
-        ensures range { (grid : GridSize) → IsBoxOf grid self.now → IsRangeOf (points_of grid ray.now.family) result }
-        ensures has { (l : ℕ) → HasPoint self.now ray.now l → IsIn result l }
+    pub fn strip_along(&self, family: Family, i: u32) -> (u32, u32)
+        ensures range { (grid : GridSize) → IsBoxOf grid self.now → IsRangeOf (points_of grid family) result }
+        ensures has { (j l : ℕ) → HasPoint self.now record { family = family; i = i; j = j } l → IsIn result l }
     {
-        let family = ray.family;
-        if is_in(self.first(family), ray.i) && is_in(self.second(family), ray.j) {
+        if is_in(self.first(family), i) {
             self.along(family)
         } else {
             (0, 0)

@@ -1,13 +1,11 @@
 ghost use Rattle.std.specs.Prelude.{◌≡◌, ◌+◌, ◌<◌, ◌≤◌, All, Some, IfOk, length, slice_get};
-ghost use Rattle.std.specs.Option.{IfSome};
 ghost use Rattle.edit_plan.specs.Edits.{AppliesBelow};
 ghost use Rattle.edit_plan.specs.Limits.{most_edits, most_script_moves};
-ghost use Rattle.ray_grid.specs.Lattice.{IsRay, points_of};
 ghost use Rattle.ray_grid.specs.Strips.{strip_at, strips_of};
 ghost use Rattle.job_model.specs.Tasks.{IsPlan, JobMove};
 ghost use Rattle.strip_plan.specs.Passing.{ArePassed};
 ghost use Rattle.strip_plan.specs.Plans.{HasNumber, move_in};
-ghost use Rattle.strip_plan.specs.Windows.{HoldsEntered, HoldsMet, HoldsPossible, IsCommonWindow};
+ghost use Rattle.strip_plan.specs.Windows.{HoldsEntered, HoldsMet, IsAlongStrip};
 
 use crate::boxes::{Boxes, boxes_of};
 use crate::cutters::{Cutters, cutters_of};
@@ -16,7 +14,7 @@ use crate::index_box::IndexBox;
 use crate::passing::{count_alone, groups_of};
 use crate::plan_move::PlanMove;
 use crate::ready_moves::ready_moves_of;
-use crate::windows::{boxes_ray_window, boxes_strip_window, row};
+use crate::windows::{boxes_strip_along, boxes_strip_window, row};
 use edit_plan::{Edit, Edits};
 use ray_grid::{Family, Grid, Ray};
 use std::alloc::Global;
@@ -167,34 +165,18 @@ impl Plan {
         )
     }
 
-    /// From the one index of a ray to the other lie all at which a move is possible. The second is excluded.
-    pub fn ray_window(&self, number: u32, ray: &Ray) -> (u32, u32)
-        requires number { number < length self.now.moves }
-        requires ray { IsRay self.now.grid ray.now }
-        ensures order { result.0 ≤ result.1 }
-        ensures within { result.1 ≤ points_of self.now.grid ray.now.family }
-        ensures holds { (move : JobMove) → HasNumber self.now number move → HoldsPossible self.now move ray.now result.0 result.1 }
+    /// From the one index to the other lie, on every ray of a strip, that of a family's rays with the first node `i`, all at which a move
+    /// is possible. The second is excluded.
+    pub fn strip_along(&self, number: u32, family: Family, i: u32) -> (u32, u32)
+        requires { number < length self.now.moves }
+        ensures { IsAlongStrip self.now number family i result }
     {
         let start = self.boxes.starts[number as usize];
         let end = self.boxes.starts[number as usize + 1];
         if start == end {
-            return self.boxes.hulls[number as usize].ray_window(ray);
+            return self.boxes.hulls[number as usize].along(family);
         }
-        boxes_ray_window(&self.boxes.boxes, start, end, ray)
-    }
-
-    /// From the one index to the other lie, on every ray of a family, all at which a move is possible. The second is excluded. Of a
-    /// move with several boxes nothing is told: it may have others on each ray.
-    pub fn common_window(&self, number: u32, family: Family) -> Option<(u32, u32)>
-        requires { number < length self.now.moves }
-        ensures { IfSome result (IsCommonWindow self.now number family) }
-    {
-        let start = self.boxes.starts[number as usize];
-        let end = self.boxes.starts[number as usize + 1];
-        if start != end {
-            return None;
-        }
-        Some(self.boxes.hulls[number as usize].along(family))
+        boxes_strip_along(&self.boxes.boxes, start, end, family, i)
     }
 
     /// The cylinder that holds the points of the lattice at which a move is possible.

@@ -9,7 +9,7 @@ ghost use Rattle.strip_plan.specs.Ranges.{IsIn, IsRangeOf};
 
 use crate::index_box::IndexBox;
 use crate::ranges::hull;
-use ray_grid::{Family, Grid, Ray};
+use ray_grid::{Family, Grid};
 
 /// The family and the first node of a strip's rays.
 pub fn row(grid: &Grid, strip: u32) -> (Family, u32)
@@ -22,61 +22,47 @@ pub fn row(grid: &Grid, strip: u32) -> (Family, u32)
     (first.family, first.i)
 }
 
-/// From the one to the other index lie the points of a ray that are in one of the boxes from a place on and ahead of another.
+/// From the one to the other index lie the points, on the rays of a strip, that of a family's rays with the first node `i`, that are in
+/// one of the boxes from a place on and ahead of another.
 // Written into each of its calls, so that the family is not asked for each box.
 #[inline(always)]
-fn ray_window_of(boxes: &[IndexBox], start: usize, end: usize, ray: &Ray) -> (u32, u32)
+fn strip_along_of(
+    boxes: &[IndexBox],
+    start: usize,
+    end: usize,
+    family: Family,
+    i: u32,
+) -> (u32, u32)
     requires { end ≤ length boxes.now }
-    ensures range { (grid : GridSize) → AreBoxesOf grid boxes.now → IsRangeOf (points_of grid ray.now.family) result }
-    ensures has { (l : ℕ) → IsInOneOf boxes.now start end ray.now l → IsIn result l }
+    ensures range { (grid : GridSize) → AreBoxesOf grid boxes.now → IsRangeOf (points_of grid family) result }
+    ensures has { (j l : ℕ) → IsInOneOf boxes.now start end record { family = family; i = i; j = j } l → IsIn result l }
 {
     let mut window = (0, 0);
     for place in start..end {
-        window = hull(window, boxes[place].ray_window(ray));
+        window = hull(window, boxes[place].strip_along(family, i));
     }
     window
 }
 
-/// From the one to the other index lie the points of a ray that are in one of the boxes from a place on and ahead of another.
+/// From the one to the other index lie the points, on the rays of a strip, that of a family's rays with the first node `i`, that are in
+/// one of the boxes from a place on and ahead of another.
 // Most moves have one box, and shall not pay for the loops.
 #[inline(never)]
-pub fn boxes_ray_window(boxes: &[IndexBox], start: usize, end: usize, ray: &Ray) -> (u32, u32)
+pub fn boxes_strip_along(
+    boxes: &[IndexBox],
+    start: usize,
+    end: usize,
+    family: Family,
+    i: u32,
+) -> (u32, u32)
     requires { end ≤ length boxes.now }
-    ensures range { (grid : GridSize) → AreBoxesOf grid boxes.now → IsRangeOf (points_of grid ray.now.family) result }
-    ensures has { (l : ℕ) → IsInOneOf boxes.now start end ray.now l → IsIn result l }
+    ensures range { (grid : GridSize) → AreBoxesOf grid boxes.now → IsRangeOf (points_of grid family) result }
+    ensures has { (j l : ℕ) → IsInOneOf boxes.now start end record { family = family; i = i; j = j } l → IsIn result l }
 {
-    let (i, j) = (ray.i, ray.j);
-    match ray.family {
-        Family::X => ray_window_of(
-            boxes,
-            start,
-            end,
-            &Ray {
-                family: Family::X,
-                i,
-                j,
-            },
-        ),
-        Family::Y => ray_window_of(
-            boxes,
-            start,
-            end,
-            &Ray {
-                family: Family::Y,
-                i,
-                j,
-            },
-        ),
-        Family::Z => ray_window_of(
-            boxes,
-            start,
-            end,
-            &Ray {
-                family: Family::Z,
-                i,
-                j,
-            },
-        ),
+    match family {
+        Family::X => strip_along_of(boxes, start, end, Family::X, i),
+        Family::Y => strip_along_of(boxes, start, end, Family::Y, i),
+        Family::Z => strip_along_of(boxes, start, end, Family::Z, i),
     }
 }
 

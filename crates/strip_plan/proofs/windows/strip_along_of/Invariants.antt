@@ -4,9 +4,9 @@ use Rattle.ray_grid.specs.Lattice.{points_of}
 use Rattle.strip_plan.specs.Boxed.{IsInOneOf}
 use Rattle.strip_plan.specs.IndexBoxes.{AreBoxesOf}
 use Rattle.strip_plan.specs.Ranges.{IsIn, IsRangeOf}
-use Rattle.strip_plan.proofs.windows.ray_window_of.Given as goal
+use Rattle.strip_plan.proofs.windows.strip_along_of.Given as goal
 
 abbrev pub invariant-loop-place : goal.invariant-loop-place
 invariant-loop-place l =
-    ((grid : GridSize) → AreBoxesOf grid l.boxes → IsRangeOf (points_of grid l.ray.family) l.window)
-    × ((x : ℕ) → IsInOneOf l.boxes l.start l.place l.ray x → IsIn l.window x)
+    ((grid : GridSize) → AreBoxesOf grid l.boxes → IsRangeOf (points_of grid l.family) l.window)
+    × ((j x : ℕ) → IsInOneOf l.boxes l.start l.place (record { family = l.family; i = l.i; j = j }) x → IsIn l.window x)
