@@ -213,3 +213,9 @@ sum_window f lo n all le before after =
     ∙ none_plus (plus (sum_over f lo n) (sum_over f (lo + n) rest))
     ∙ ap (plus (sum_over f lo n)) (sum_none f (lo + n) rest (λ k ge lt. after k ge (omega arith)))
     ∙ plus_none (sum_over f lo n)
+
+-- counts that are the same at each of the numbers have the same sum
+pub sum_as : (f g : ℕ → Counts) (a n : ℕ) → ((k : ℕ) → a ≤ k → k < a + n → f k ≡ g k) → sum_over f a n ≡ sum_over g a n
+sum_as f g a zero same = refl
+sum_as f g a (suc n) same =
+    ap₂ plus (same a (omega arith) (omega arith)) (sum_as f g (a + 1) n (λ k le lt. same k (omega arith) (omega arith)))

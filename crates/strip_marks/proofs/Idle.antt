@@ -1,5 +1,5 @@
 -- Points at which a move changes nothing and finds nothing: it is not possible there, or there is no need to ask it.
-use Rattle.std.proofs.Common.{◌≡◌, ℕ, ◌-◌, ◌*◌, ◌^◌, ◌<◌, ◌≤◌, Bool, true, false, not, ◌&&◌, ◌||◌, IsTrue, List, [], length, arith, refl, sym, ap, ap₂, ◌∙◌, ⊎_elim}
+use Rattle.std.proofs.Common.{◌≡◌, ℕ, ◌-◌, ◌*◌, ◌<◌, ◌≤◌, Bool, true, false, not, ◌&&◌, ◌||◌, IsTrue, List, [], length, arith, refl, sym, ap, ap₂, ◌∙◌, ⊎_elim}
 use Rattle.std.proofs.lemmas.Bool.{and_right, cases_lt}
 use Rattle.std.proofs.lemmas.List.{get_or_past}
 use Rattle.std.proofs.lemmas.List.Elements.{All-nil}
@@ -8,9 +8,9 @@ use Rattle.job_facts.specs.Counts.{no_counts}
 use Rattle.dexel_rays.specs.Findings.{met, none_met}
 use Rattle.dexel_rays.specs.Sets.{HaveBound, Sets}
 use Rattle.dexel_rays.proofs.Laws.{no_more, outside_meets_none, point, settled_meets_none}
-use Rattle.ray_words.specs.Rays.{KeptSets, is_wanted_at}
+use Rattle.ray_words.specs.Rays.{is_wanted_at}
 use Rattle.strip_marks.specs.Marks.{seen_on}
-use Rattle.strip_marks.specs.RayMarks.{AreWordsMarked, IsChangeIn, IsChangeOf, IsIdle, IsRayMarked}
+use Rattle.strip_marks.specs.RayMarks.{AreWordsMarked, IsChangeIn, IsIdle}
 use Rattle.strip_marks.proofs.Counting.{found_none}
 use Rattle.strip_marks.proofs.Lists.{order_few}
 
@@ -65,21 +65,21 @@ module _ (d : Sets) (sure possible : ℕ → Bool) (rapid : Bool) (ordered : (l 
   settled_at : (l : ℕ) → is_wanted_at d l ≡ false → IsSettled (has d.part l) (has d.fixture l) (has d.sure l) (has d.possible l)
   settled_at l e = settled (has d.part l) (has d.fixture l) (has d.sure l) (has d.possible l) e (ordered l)
 
-  idle_sure : (l : ℕ) → IsIdle d sure possible l → (sure l && not (has d.sure l)) ≡ false
+  pub idle_sure : (l : ℕ) → IsIdle d sure possible l → (sure l && not (has d.sure l)) ≡ false
   idle_sure l idle =
       ⊎_elim
       (λ (e : is_wanted_at d l ≡ false). ap (λ x. sure l && not x) (settled_at l e).sure_before ∙ no_more (sure l))
       (λ (none : (sure l ≡ false) × (possible l ≡ false)). ap (λ x. x && not (has d.sure l)) none.0)
       idle
 
-  idle_possible : (l : ℕ) → IsIdle d sure possible l → (possible l && not (has d.possible l)) ≡ false
+  pub idle_possible : (l : ℕ) → IsIdle d sure possible l → (possible l && not (has d.possible l)) ≡ false
   idle_possible l idle =
       ⊎_elim
       (λ (e : is_wanted_at d l ≡ false). ap (λ x. possible l && not x) (settled_at l e).possible_before ∙ no_more (possible l))
       (λ (none : (sure l ≡ false) × (possible l ≡ false)). ap (λ x. x && not (has d.possible l)) none.1)
       idle
 
-  idle_met : (l : ℕ) → IsIdle d sure possible l → met (seen_on d sure possible rapid l) ≡ none_met
+  pub idle_met : (l : ℕ) → IsIdle d sure possible l → met (seen_on d sure possible rapid l) ≡ none_met
   idle_met l idle =
       ⊎_elim
       (λ (e : is_wanted_at d l ≡ false). settled_meets_none (has d.stock l) (has d.part l) (has d.fixture l) (has d.sure l)
@@ -104,21 +104,3 @@ module _ (d : Sets) (sure possible : ℕ → Bool) (rapid : Bool) (ordered : (l 
         (λ l ge lt. ⊎_elim (λ (within : l < length d.stock). idle_met l (idle l ge (omega arith) within))
         (λ (beyond : length d.stock ≤ l). past_meets_none d sure possible rapid l bound beyond) (cases_lt l (length d.stock))));
   }
-
--- a ray of which each point is such a one
-pub idle_ray : (after : KeptSets) (sure possible : ℕ → Bool) (rapid : Bool) (n : ℕ)
-    → ((l : ℕ) → has after.sets.sure l ≡ true → has after.sets.possible l ≡ true) → length after.sets.stock < 2 ^ 32
-    → ((l : ℕ) → l < length after.sets.stock → IsIdle after.sets sure possible l)
-    → IsRayMarked after sure possible rapid n [] no_counts
-idle_ray after sure possible rapid n ordered few idle =
-    let d = after.sets in
-    record {
-      new_sure = λ l lt. sym (idle_sure d sure possible rapid ordered l (idle l lt));
-      new_possible = λ l lt. sym (idle_possible d sure possible rapid ordered l (idle l lt));
-      each = All-nil (IsChangeOf after n);
-      order = order_few [] (omega arith);
-      found =
-          sym (found_none (seen_on d sure possible rapid) 0 (length d.stock)
-          (λ l ge lt. idle_met d sure possible rapid ordered l (idle l (omega arith))));
-      few = few;
-    }

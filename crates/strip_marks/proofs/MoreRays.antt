@@ -2,7 +2,7 @@
 use Rattle.std.proofs.Common.{◌≡◌, ◌≢◌, ℕ, ◌+◌, ◌-◌, ◌^◌, ◌<◌, ◌≤◌, Bool, not, ◌&&◌, ◌||◌, List, [], ◌++◌, length, get_or, set, arith, refl, sym, ap, ap₂, ◌∙◌, subst, ⊎_elim}
 use Rattle.std.specs.List.{All, range_with_len}
 use Rattle.std.proofs.lemmas.Bool.{cases_eq, cases_lt}
-use Rattle.std.proofs.lemmas.List.{get_or-set_other, get_or-set_same, length-set}
+use Rattle.std.proofs.lemmas.List.{get_or_default, get_or-set_other, get_or-set_same, length-set}
 use Rattle.std.proofs.lemmas.List.Elements.{All-append, All-nil}
 use Rattle.vf_spans.specs.Members.{has}
 use Rattle.job_facts.specs.declared.counts.Counts.{Counts}
@@ -53,6 +53,14 @@ same_with rays n ray lt h = record {
       (λ (ne : m ≢ n). subst (λ (r : KeptSets). IsKept r k) (sym (get_or-set_other rays n m ray no_sets ne)) kept)
       (cases_eq m n);
 }
+
+-- and so have all of them, and those that they are the same as
+pub same_set : (before rays : List KeptSets) (n : ℕ) (d ray : KeptSets) → HaveSameSets before rays → n < length before
+    → HasSameSets (get_or rays n d) ray → HaveSameSets before (set rays n ray)
+same_set before rays n d ray same lt h =
+    let within : n < length rays = omega (arith, lt, same.many) in
+    same_again before rays (set rays n ray) same
+    (same_with rays n ray within (subst (λ (r : KeptSets). HasSameSets r ray) (get_or_default rays n d no_sets within) h))
 
 -- a change on one of the rays is one on the same rays later
 pub change_stays : (before after : List KeptSets) (change : WordChange) → HaveSameSets before after → IsChangeOn before change

@@ -1,7 +1,6 @@
 -- What a move is asked about on the rays of a strip, by its cylinder.
-use Rattle.std.proofs.Common.{◌≡◌, ℕ, ◌+◌, ◌^◌, ◌<◌, ◌≤◌, List, [], Some, length, arith, refl, sym, ap, ◌∙◌, subst}
+use Rattle.std.proofs.Common.{◌≡◌, ℕ, ◌<◌, ◌≤◌, Some, length, arith, refl, sym, ap, ◌∙◌, subst}
 use Rattle.std.specs.List.{slice_get}
-use Rattle.std.proofs.lemmas.List.{set-get_or}
 use Rattle.sweep_boxes.specs.declared.cylinder.BoundingCylinder.{BoundingCylinder}
 use Rattle.sweep_boxes.specs.Cylinders.{IsInCylinder}
 use Rattle.ray_grid.specs.Grids.{GridSize}
@@ -9,25 +8,20 @@ use Rattle.ray_grid.specs.declared.ray.Ray.{Ray}
 use Rattle.ray_grid.specs.Families.{second_axis}
 use Rattle.ray_grid.specs.Lattice.{IsRay, nodes_of, point_of, points_of}
 use Rattle.ray_grid.specs.Strips.{strip_at, strips_of}
+use Rattle.ray_grid.proofs.Rows.{length-strip}
 use Rattle.vf_spans.specs.Words.{words_below}
 use Rattle.near_points.specs.Rays.{NearRayOf, NearStripOf, near_ray_at}
 use Rattle.ray_words.specs.Rays.{KeptSets}
-use Rattle.job_facts.specs.Counts.{no_counts}
 use Rattle.dexel_rays.specs.Sets.{Sets}
 use Rattle.job_model.specs.Tasks.{JobMove, PlanOf}
 use Rattle.strip_plan.specs.Plans.{HasNumber}
 use Rattle.strip_plan.specs.Windows.{HoldsMet}
-use Rattle.strip_marks.specs.Marks.{AreRays, kept_of, points_at, possible_there, ray_of, sets_of, sure_there}
-use Rattle.strip_marks.specs.declared.marked.Marked.{Marked}
-use Rattle.strip_marks.specs.RayMarks.{Adds, HasNoneAsked, IsIdle, IsNearOf, IsRayMarked, IsUnasked, IsWindow}
-use Rattle.strip_marks.specs.RowMarks.{AreRaysMarked, AreSetsAt, IsNearStripOf}
+use Rattle.strip_marks.specs.Marks.{points_at, possible_there, ray_of, sure_there}
+use Rattle.strip_marks.specs.RayMarks.{HasNoneAsked, IsIdle, IsNearOf, IsUnasked, IsWindow}
+use Rattle.strip_marks.specs.RowMarks.{AreSetsAt, IsNearStripOf}
 use Rattle.strip_marks.proofs.AtWords.{idle_unasked, in_range_below}
-use Rattle.strip_marks.proofs.Counting.{plus_none}
-use Rattle.strip_marks.proofs.Growing.{adds_none}
-use Rattle.strip_marks.proofs.Idle.{idle_ray}
-use Rattle.strip_marks.proofs.MoreRays.{no_sets, rays_more, same_self}
 use Rattle.strip_marks.proofs.OneRay.{sets_for}
-use Rattle.strip_marks.proofs.OnStrips.{move_on, nodes_enough, on_grid, ray_is, row_of_ray}
+use Rattle.strip_marks.proofs.OnStrips.{move_on, on_grid, ray_is, row_of_ray}
 
 -- the cylinder on ray n of the strip is one of the move there
 pub near_on : (plan : PlanOf) (number strip n : ℕ) (move : JobMove) (s : NearStripOf) → IsNearStripOf plan number strip s → HasNumber plan number move
@@ -43,10 +37,15 @@ near_on plan number strip n move s h has within lt =
           (subst (λ (g : GridSize). IsInCylinder s.cylinder (point_of g (ray_of plan.grid strip n) l)) (sym h.grid) met);
     }
 
+-- the strip has a ray at each of its nodes
+pub near_nodes : (plan : PlanOf) (number strip : ℕ) (s : NearStripOf) → IsNearStripOf plan number strip s
+    → length (strip_at plan.grid strip) ≡ nodes_of s.grid (second_axis s.family)
+near_nodes plan number strip s h =
+    ap length h.rays ∙ length-strip plan.grid s.family s.i ∙ ap (λ (g : GridSize). nodes_of g (second_axis s.family)) (sym h.grid)
+
 pub near_node : (plan : PlanOf) (number strip n : ℕ) (s : NearStripOf) → IsNearStripOf plan number strip s → n < length (strip_at plan.grid strip)
     → n < nodes_of s.grid (second_axis s.family)
-near_node plan number strip n s h lt =
-    subst (λ (g : GridSize). n < nodes_of g (second_axis s.family)) (sym h.grid) (nodes_enough plan.grid strip n s.family s.i h.rays lt)
+near_node plan number strip n s h lt = omega (arith, lt, near_nodes plan number strip s h)
 
 -- the ray has as many points
 pub near_points_of : (plan : PlanOf) (number strip n : ℕ) (s : NearStripOf) → IsNearStripOf plan number strip s → n < length (strip_at plan.grid strip)
@@ -77,25 +76,3 @@ pub idle_on : (plan : PlanOf) (number strip n lo hi : ℕ) (move : JobMove) (s :
 idle_on plan number strip n lo hi move s ray h has within lt sets w none l less =
     idle_unasked (near_ray_at s n) (move_on plan move strip n) ray.sets lo hi l (sets_for plan move strip n (move_on plan move strip n) ray refl sets) w
     (near_on plan number strip n move s h has within lt) less (none l)
-
--- on one idle ray more nothing is marked
-pub rays_idle : (plan : PlanOf) (move : JobMove) (strip lo n : ℕ) (rays : List KeptSets) → AreRays plan.grid strip rays → lo ≤ n → n < length rays
-    → length (sets_of rays n).stock < 2 ^ 32 → AreRaysMarked plan move strip rays rays lo n [] no_counts
-    → ((l : ℕ) → l < length (sets_of rays n).stock → IsIdle (sets_of rays n) (sure_there plan move strip n) (possible_there plan move strip n) l)
-    → AreRaysMarked plan move strip rays rays lo (n + 1) [] no_counts
-rays_idle plan move strip lo n rays are from lt few h idle =
-    let next = idle_ray (kept_of rays n) (sure_there plan move strip n) (possible_there plan move strip n) move.rapid n (λ l. are.possible n l lt) few idle in
-    subst (λ (xs : List KeptSets). AreRaysMarked plan move strip rays xs lo (n + 1) [] no_counts) (set-get_or rays n no_sets)
-    (rays_more plan move strip lo n rays rays (kept_of rays n) [] [] no_counts no_counts are (same_self rays) (record { sets = refl; kept = λ k kept. kept }) from lt h
-    next no_counts [] (sym (plus_none no_counts)) refl)
-
--- on an idle ray a move changes nothing
-pub untouched : (plan : PlanOf) (move : JobMove) (strip n : ℕ) (ray : KeptSets) (marked : Marked) → AreSetsAt plan.grid strip n ray.sets
-    → ((l : ℕ) → l < length ray.sets.stock → IsIdle ray.sets (sure_there plan move strip n) (possible_there plan move strip n) l)
-    → length ray.sets.stock < 2 ^ 32
-    → Adds marked marked (λ added found. IsRayMarked ray (sure_there plan move strip n)
-    (possible_there plan move strip n) move.rapid n added found)
-untouched plan move strip n ray marked h idle few =
-    adds_none marked
-    (λ added found. IsRayMarked ray (sure_there plan move strip n) (possible_there plan move strip n) move.rapid n added found)
-    (idle_ray ray (sure_there plan move strip n) (possible_there plan move strip n) move.rapid n h.ordered few idle)

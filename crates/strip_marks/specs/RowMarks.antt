@@ -1,5 +1,5 @@
 -- What a move changes on neighbouring rays of a strip, and what it finds there.
-use Rattle.std.specs.Prelude.{◌≡◌, ℕ, ◌-◌, ◌<◌, ◌≤◌, true, not, ◌&&◌, List, [], length, map, All}
+use Rattle.std.specs.Prelude.{◌≡◌, ℕ, ◌-◌, ◌<◌, ◌≤◌, true, not, ◌&&◌, List, [], map, All}
 use Rattle.std.specs.List.{range_with_len}
 use Rattle.std.specs.Option.{IfSome}
 use Rattle.vf_spans.specs.Members.{has}
@@ -9,7 +9,7 @@ use Rattle.ray_grid.specs.Strips.{strip_at, strip_of}
 use Rattle.job_facts.specs.declared.counts.Counts.{Counts}
 use Rattle.job_facts.specs.Counts.{no_counts}
 use Rattle.dexel_rays.specs.Sets.{HaveBound, Sets}
-use Rattle.ray_words.specs.Rays.{KeptSets}
+use Rattle.ray_words.specs.Rays.{HasAllWanted, KeptSets}
 use Rattle.near_points.specs.Rays.{NearRayOf, NearStripOf, near_ray_at}
 use Rattle.wanted_marks.specs.Strips.{StripOf}
 use Rattle.job_model.specs.Sums.{sum_counts}
@@ -17,9 +17,10 @@ use Rattle.job_model.specs.Tasks.{JobMove, PlanOf}
 use Rattle.strip_plan.specs.Plans.{HasNumber, move_in}
 use Rattle.strip_plan.specs.Windows.{HoldsMet, HoldsPossible, IsCommonWindow}
 use Rattle.strip_marks.specs.declared.asked_word.AskedRay.{AskedRay}
+use Rattle.strip_marks.specs.declared.asked_word.AskedWord.{AskedWord}
 use Rattle.strip_marks.specs.declared.change.WordChange.{WordChange}
 use Rattle.strip_marks.specs.declared.shared.Shared.{Shared}
-use Rattle.strip_marks.specs.RayMarks.{IsFirstAsked, IsIdle}
+use Rattle.strip_marks.specs.RayMarks.{IsFirstAsked, IsUnasked}
 use Rattle.strip_marks.specs.Marks.{AreInOrder, IsChangeOn, among, points_at, possible_of, possible_there, ray_found, ray_of, sets_of, sure_of, sure_there}
 
 -- the sets are those of ray n of the strip, and no point is sure that isn't possible
@@ -44,18 +45,34 @@ pub record IsShared (plan : PlanOf) (number : ℕ) (family : Family) (shared : S
   pub window : IfSome shared.window (IsCommonWindow plan number family)
   pub rapid : (move : JobMove) → HasNumber plan number move → shared.rapid ≡ move.rapid
 
--- what a move is asked about on ray n of a strip: by its window there, which holds each point at which it is possible
-pub record IsAskedRay (plan : PlanOf) (number strip n : ℕ) (near : NearRayOf) (d : Sets) (asked : AskedRay) : Type 0 where
-  pub order : asked.window.0 ≤ asked.window.1
-  pub within : asked.window.1 ≤ points_at plan.grid strip n
-  pub holds : (move : JobMove) → HasNumber plan number move
-      → HoldsPossible plan move (ray_of plan.grid strip n) asked.window.0 asked.window.1
-  pub start : IsFirstAsked near d asked.window asked.first
+-- on none of the rays from the one number on and below the other is there an index of the window that the move has to be asked about
+abbrev pub AreUnasked : NearStripOf → List KeptSets → ℕ × ℕ → ℕ → ℕ → Type 0
+AreUnasked near rays window lo hi = (n : ℕ) → lo ≤ n → n < hi → IsUnasked (near_ray_at near n) (sets_of rays n) window
 
--- the move changes and finds nothing on ray n of a strip, by the ray's sets
-abbrev pub IsIdleRay : PlanOf → ℕ → ℕ → ℕ → Sets → Type 0
-IsIdleRay plan number strip n d = (move : JobMove) → HasNumber plan number move → (l : ℕ) → l < length d.stock
-    → IsIdle d (sure_there plan move strip n) (possible_there plan move strip n) l
+-- one of those rays, with no such index on the rays ahead of it; what is left of the window there has each index that is wanted
+pub record IsOpenRay (near : NearStripOf) (rays : List KeptSets) (window : ℕ × ℕ) (lo hi : ℕ) (found : ℕ × (ℕ × ℕ)) : Type 0 where
+  pub from : lo ≤ found.0
+  pub below : found.0 < hi
+  pub ahead : AreUnasked near rays window lo found.0
+  pub left : HasAllWanted (sets_of rays found.0) window found.1
+
+-- the first of those rays with such an index, and its first word with one
+pub record IsFirstIn (near : NearStripOf) (rays : List KeptSets) (window : ℕ × ℕ) (lo hi : ℕ) (found : ℕ × AskedWord) : Type 0 where
+  pub from : lo ≤ found.0
+  pub below : found.0 < hi
+  pub ahead : AreUnasked near rays window lo found.0
+  pub asked : IsFirstAsked (near_ray_at near found.0) (sets_of rays found.0) window found.1
+
+-- a window of the plan's move with a number on ray n of a strip: it holds each point at which the move is possible
+pub record IsRayWindow (plan : PlanOf) (number strip n : ℕ) (window : ℕ × ℕ) : Type 0 where
+  pub order : window.0 ≤ window.1
+  pub within : window.1 ≤ points_at plan.grid strip n
+  pub holds : (move : JobMove) → HasNumber plan number move → HoldsPossible plan move (ray_of plan.grid strip n) window.0 window.1
+
+-- what a move is asked about on ray n of a strip: by its window there
+pub record IsAskedRay (plan : PlanOf) (number strip n : ℕ) (near : NearRayOf) (d : Sets) (asked : AskedRay) : Type 0 where
+  pub window : IsRayWindow plan number strip n asked.window
+  pub start : IsFirstAsked near d asked.window asked.first
 
 -- a change on one of the rays from the one number on and below the other
 pub record IsChangeFrom (rays : List KeptSets) (lo hi : ℕ) (change : WordChange) : Type 0 where

@@ -4,6 +4,7 @@
 mod asked;
 mod asked_word;
 mod change;
+mod first;
 mod marked;
 mod ray;
 mod shared;

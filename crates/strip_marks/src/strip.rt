@@ -1,17 +1,20 @@
 ghost use Rattle.std.specs.Prelude.{◌≡◌, [], ◌<◌, ◌≤◌, ◌^◌, IfOk, OnOk, length};
-ghost use Rattle.std.specs.Option.{IfNone, IfSome};
-ghost use Rattle.job_facts.specs.Counts.{no_counts};
+ghost use Rattle.ray_grid.specs.Families.{second_axis};
+ghost use Rattle.ray_grid.specs.Lattice.{nodes_of};
 ghost use Rattle.ray_grid.specs.Strips.{strip_at, strips_of};
 ghost use Rattle.job_model.specs.Tasks.{IsPlan, JobMove};
 ghost use Rattle.near_points.specs.Rays.{near_ray_at};
+ghost use Rattle.wanted_marks.specs.Rays.{is_possible_at, is_sure_at};
+ghost use Rattle.wanted_marks.specs.Strips.{ray_at};
 ghost use Rattle.strip_plan.specs.Plans.{HasNumber};
-ghost use Rattle.strip_marks.specs.Marks.{AreRays, HaveSameSets, IsMarkedStrip, possible_there, sure_there};
-ghost use Rattle.strip_marks.specs.RayMarks.{Adds, CanCount, HasSameSets, IsRayMarked};
-ghost use Rattle.strip_marks.specs.RowMarks.{AreRaysMarked, AreSetsAt, IsAskedRay, IsFirstRay, IsMarkerOf, IsNearStripOf, IsShared};
+ghost use Rattle.strip_marks.specs.Marks.{AreRays, HaveSameSets, IsMarkedStrip};
+ghost use Rattle.strip_marks.specs.Words.{AreSetsOf};
+ghost use Rattle.strip_marks.specs.RayMarks.{Adds, CanCount, HasSameSets, IsFirstAsked, IsNearOf, IsRayMarked, IsWindow};
+ghost use Rattle.strip_marks.specs.RowMarks.{AreRaysMarked};
 
-use crate::asked::asked_at;
 use crate::asked_word::AskedRay;
 use crate::change::WordChange;
+use crate::first::first_ray;
 use crate::marked::Marked;
 use crate::ray::mark_ray;
 use crate::shared::{Shared, shared_by};
@@ -22,87 +25,39 @@ use strip_plan::Plan;
 use vf_io::NoMemory;
 use wanted_marks::StripMarker;
 
-/// Takes in what the move changes on ray n of the strip, and what it finds there. A ray on which it is asked about no point isn't made
-/// ready for marks. What it is asked about there is given where it is known already.
-fn mark_at<'x>(
+/// Takes in what a move changes on ray n of a strip, and what it finds there, by what it is asked about.
+fn mark_asked<'x>(
     marker: &'x StripMarker<'x>,
-    near: &'x NearStrip<'x>,
+    near: &NearStrip<'_>,
     ray: &mut WordRay,
-    plan: &Plan,
-    number: u32,
-    strip: u32,
     n: u32,
-    shared: Shared,
-    known: Option<AskedRay>,
+    asked: AskedRay,
+    rapid: bool,
     marked: &mut Marked,
 ) -> Result<(), NoMemory>
-    requires plan { IsPlan plan.now }
-    requires number { number < length plan.now.moves }
-    requires strip { strip < length (strips_of plan.now.grid) }
-    requires n { n < length (strip_at plan.now.grid strip) }
-    requires ray { AreSetsAt plan.now.grid strip n ray.old.sets }
-    requires marker { IsMarkerOf plan.now number strip marker.now }
-    requires near { IsNearStripOf plan.now number strip near.now }
-    requires shared { IsShared plan.now number near.now.family shared }
-    requires known { IfSome known (IsAskedRay plan.now number strip n (near_ray_at near.now n) ray.old.sets) }
+    requires ray { AreSetsOf (ray_at marker.now n) ray.old.sets }
+    requires window { IsWindow (ray_at marker.now n) asked.window.0 asked.window.1 }
+    requires node { n < nodes_of marker.now.grid (second_axis marker.now.family) }
+    requires n { n < nodes_of near.now.grid (second_axis near.now.family) }
+    requires near { IsNearOf (near_ray_at near.now n) (ray_at marker.now n) }
+    requires first { IsFirstAsked (near_ray_at near.now n) ray.old.sets asked.window asked.first }
     requires room { CanCount (2 ^ 33) marked.old.counts }
     ensures same { HasSameSets ray.old ray.new }
-    ensures marked { OnOk result ((move : JobMove) → HasNumber plan.now number move → Adds marked.old marked.new (λ added found.
-        IsRayMarked ray.new (sure_there plan.now move strip n) (possible_there plan.now move strip n) move.rapid n added found)) }
+    ensures marked { OnOk result (Adds marked.old marked.new (λ added found.
+        IsRayMarked ray.new (is_sure_at (ray_at marker.now n)) (is_possible_at (ray_at marker.now n)) rapid n added found)) }
 {
-    // The bound fits.
-    let _bound = ray.bound();
-    match asked_at(known, near, ray, plan, number, strip, n, shared) {
-        None => Ok(()),
-        Some(asked) => {
-            let on_ray = marker.on_ray(n);
-            mark_ray(
-                &on_ray,
-                near,
-                ray,
-                n,
-                asked.first,
-                asked.window,
-                shared.rapid,
-                marked,
-            )?;
-            Ok(())
-        }
-    }
-}
-
-/// The first ray of a strip, from the one number on and below the other, on which a move is asked about a point, and what it is asked
-/// about there: on the rays ahead of it the move changes and finds nothing. Where there is none, on all of them.
-fn first_ray<'x>(
-    near: &'x NearStrip<'x>,
-    rays: &[WordRay],
-    plan: &Plan,
-    number: u32,
-    strip: u32,
-    shared: Shared,
-    window: (u32, u32),
-) -> Option<(u32, AskedRay)>
-    requires plan { IsPlan plan.now }
-    requires number { number < length plan.now.moves }
-    requires strip { strip < length (strips_of plan.now.grid) }
-    requires rays { AreRays plan.now.grid strip rays.now }
-    requires near { IsNearStripOf plan.now number strip near.now }
-    requires shared { IsShared plan.now number near.now.family shared }
-    requires order { window.0 ≤ window.1 }
-    requires within { window.1 ≤ length rays.now }
-    ensures none { IfNone result ((move : JobMove) → HasNumber plan.now number move
-        → AreRaysMarked plan.now move strip rays.now rays.now window.0 window.1 [] no_counts) }
-    ensures some { IfSome result (IsFirstRay plan.now number strip near.now rays.now window.0 window.1) }
-{
-    for n in window.0..window.1 {
-        let ray = &rays[n as usize];
-        // The bound fits.
-        let _bound = ray.bound();
-        if let Some(asked) = asked_at(None, near, ray, plan, number, strip, n, shared) {
-            return Some((n, asked));
-        }
-    }
-    None
+    let on_ray = marker.on_ray(n);
+    mark_ray(
+        &on_ray,
+        near,
+        ray,
+        n,
+        asked.first,
+        asked.window,
+        rapid,
+        marked,
+    )?;
+    Ok(())
 }
 
 /// What the move changes on the rays of the strip from the one number on and below the other, and what it finds there. A move
@@ -136,27 +91,23 @@ fn mark_rays(
         changes: room,
         counts: Counts::none(),
     };
-    let (from, asked) = match first_ray(&near, rays, plan, number, strip, shared, window) {
-        None => return Ok(marked),
-        Some(found) => found,
-    };
+    let mut next = first_ray(&near, rays, plan, number, strip, shared, window);
+    if next.is_none() {
+        return Ok(marked);
+    }
     let mover = plan.marker(number);
     let marker = mover.on_strip(grid, first.family, first.i);
-    let mut known = Some(asked);
-    for n in from..window.1 {
-        mark_at(
+    while let Some((n, asked)) = next {
+        mark_asked(
             &marker,
             &near,
             &mut rays[n as usize],
-            plan,
-            number,
-            strip,
             n,
-            shared,
-            known,
+            asked,
+            shared.rapid,
             &mut marked,
         )?;
-        known = None;
+        next = first_ray(&near, rays, plan, number, strip, shared, (n + 1, window.1));
     }
     Ok(marked)
 }

@@ -1,19 +1,26 @@
-use Rattle.std.proofs.Common.{rules, IfSome, ◌≡◌, ℕ, ◌+◌, ◌-◌, ◌*◌, ◌<◌, List, [], length, get_or, arith, sym, subst}
+use Rattle.std.proofs.Common.{◌≡◌, ℕ, ◌+◌, ◌-◌, ◌*◌, ◌<◌, List, [], length, get_or, set, arith, refl, sym, subst}
 use Rattle.std.proofs.lemmas.List.{get_or_default}
 use Rattle.job_facts.specs.declared.counts.Counts.{Counts}
 use Rattle.job_facts.specs.Counts.{AreWithin, most_count, no_counts}
 use Rattle.job_model.specs.Tasks.{JobMove, PlanOf}
+use Rattle.strip_plan.specs.Plans.{HasNumber}
 use Rattle.near_points.specs.Rays.{near_ray_at}
+use Rattle.ray_grid.specs.Strips.{strip_at}
 use Rattle.ray_words.specs.Rays.{KeptSets}
 use Rattle.strip_marks.specs.declared.change.WordChange.{WordChange}
-use Rattle.strip_marks.specs.Marks.{kept_of}
-use Rattle.strip_marks.specs.RayMarks.{HasSameSets}
-use Rattle.strip_marks.specs.RowMarks.{AreRaysMarked, AreSetsAt, IsAskedRay}
+use Rattle.strip_marks.specs.Marks.{kept_of, possible_there, sure_there}
+use Rattle.wanted_marks.specs.Strips.{ray_at}
+use Rattle.strip_marks.specs.Words.{AreSetsOf}
+use Rattle.strip_marks.specs.RayMarks.{Adds, HasSameSets, IsFirstAsked, IsRayMarked}
+use Rattle.strip_marks.specs.RowMarks.{AreRaysMarked}
 use Rattle.strip_marks.proofs.Counting.{within_more}
-use Rattle.strip_marks.proofs.MoreRays.{no_sets, same_again, same_self, same_with, sets_at}
-use Rattle.strip_marks.proofs.NearRays.{near_of}
-use Rattle.strip_marks.proofs.OneRay.{rays_step, within_next}
-use Rattle.strip_marks.proofs.OnStrips.{marker_of, some_move}
+use Rattle.strip_marks.proofs.MoreRays.{no_rays_to, no_sets, same_self, same_set, sets_at}
+use Rattle.strip_marks.proofs.NearRays.{near_node, near_of}
+use Rattle.strip_marks.proofs.NextRays.{IsNextRay, are_rays_still, fewer_left, next_more, nothing_more}
+use Rattle.strip_marks.proofs.OneRay.{marked_by, rays_step, within_next}
+use Rattle.strip_marks.proofs.OnStrips.{marker_is, marker_of, node_within, some_move}
+use Rattle.strip_marks.proofs.ReadyRays.{ready_at}
+use Rattle.strip_marks.proofs.Told.{none_told, some_told}
 use Rattle.strip_marks.proofs.strip.mark_rays.Goals as goal
 
 -- a ray is the same as the one that stands at its number
@@ -40,102 +47,138 @@ none_within = record {
   rapid_possible = omega arith;
 }
 
-pub mark_at-requires-clause-marker : goal.mark_at-requires-clause-marker
-mark_at-requires-clause-marker c =
-    let a = c.args in
-    marker_of a.plan.now a.number a.strip c.on_strip-marker.result c.marker-mover.result c.grid-grid.result.now c.strip_ray-first.result
-    c.on_strip-marker.ensures c.grid-grid.ensures
-    c.strip_ray-first.ensures.there c.strip_ray-first.ensures.ray c.marker-mover.ensures.marker
-
-pub mark_at-requires-clause-ray : goal.mark_at-requires-clause-ray
-mark_at-requires-clause-ray c =
-    let a = c.args in
-    let k = c.loop-n in
-    subst (λ (r : KeptSets). AreSetsAt a.plan.now.grid a.strip k.n r.sets)
-    (sym (get_or_default k.rays k.n c.index-rays-n.result no_sets (omega arith)))
-    (sets_at a.plan.now.grid a.strip a.rays.now k.rays k.n c.requires.rays k.invariant.same (omega arith))
-
-pub mark_at-requires-clause-room : goal.mark_at-requires-clause-room
-mark_at-requires-clause-room c =
-    let k = c.loop-n in
-    within_more ((k.n - c.args.window.0) * 4294967295) (most_count - 8589934592) k.marked.counts (omega arith) k.invariant.within
-
-pub returns-in_err-mark_at-clause-same : goal.returns-in_err-mark_at-clause-same
-returns-in_err-mark_at-clause-same c =
-    let k = c.loop-n in
-    same_again c.args.rays.now k.rays _ k.invariant.same
-    (same_with k.rays k.n c.mark_at.new.ray (omega arith)
-    (own_of k.rays k.n c.index-rays-n.result c.mark_at.new.ray (omega arith) c.in_err-mark_at.ensures.same))
-
-pub loop-n-preserved : goal.loop-n-preserved
-loop-n-preserved c =
-    let a = c.args in
-    let k = c.loop-n in
-    let span = (k.n - a.window.0) * 4294967295 in
-    let some = some_move a.plan.now a.number c.requires.number in
-    let own = own_of k.rays k.n c.index-rays-n.result c.mark_at.new.ray (omega arith) c.in_ok-mark_at.ensures.same in
-    record {
-      from = omega (arith, k.invariant.from);
-      to = omega arith;
-      known = search rules;
-      same = same_again a.rays.now k.rays _ k.invariant.same (same_with k.rays k.n c.mark_at.new.ray (omega arith) own);
-      within =
-          within_more (span + 4294967295) ((k.n + 1 - a.window.0) * 4294967295) c.mark_at.new.marked.counts (omega arith)
-          (within_next a.plan.now some.0 a.strip k.n span c.mark_at.new.ray k.marked c.mark_at.new.marked k.invariant.within
-          (c.in_ok-mark_at.ensures.marked some.0 some.1));
-      marked = λ move has.
-          rays_step a.plan.now move a.strip a.window.0 k.n a.rays.now k.rays c.mark_at.new.ray k.marked c.mark_at.new.marked
-          c.requires.rays k.invariant.same own (omega arith) (omega arith) (k.invariant.marked move has)
-          (c.in_ok-mark_at.ensures.marked move has);
-    }
-
-pub returns-clause-marked : goal.returns-clause-marked
-returns-clause-marked c = λ move has.
-    let a = c.args in
-    let e : c.loop-n.n ≡ a.window.1 = omega arith in
-    subst (λ (n : ℕ). AreRaysMarked a.plan.now move a.strip a.rays.now c.loop-n.rays a.window.0 n c.loop-n.marked.changes.items
-    c.loop-n.marked.counts)
-    e (c.loop-n.invariant.marked move has)
-
-pub first_ray-requires-clause-near : goal.first_ray-requires-clause-near
-first_ray-requires-clause-near c =
+pub first_ray-next-requires-clause-near : goal.first_ray-next-requires-clause-near
+first_ray-next-requires-clause-near c =
     let a = c.args in
     near_of a.plan.now a.number a.strip c.new-near.result c.cylinder.result.now c.grid-grid.result.now c.strip_ray-first.result
     c.new-near.ensures c.grid-grid.ensures c.strip_ray-first.ensures.there c.strip_ray-first.ensures.ray c.cylinder.ensures
 
-pub returns-in-None-clause-marked : goal.returns-in-None-clause-marked
-returns-in-None-clause-marked c = λ move has.
+pub returns-then-is_none-clause-marked : goal.returns-then-is_none-clause-marked
+returns-then-is_none-clause-marked c = λ move has.
     let a = c.args in
-    nothing_yet a.plan.now move a.strip a.window.0 a.window.1 a.rays.now c.args.room.items c.none.result c.requires.room c.none.ensures
-    (c.in-None.ensures.none move has)
+    nothing_yet a.plan.now move a.strip a.window.0 a.window.1 a.rays.now a.room.items c.none.result c.requires.room c.none.ensures
+    (none_told ((m : JobMove) → HasNumber a.plan.now a.number m
+    → AreRaysMarked a.plan.now m a.strip a.rays.now a.rays.now a.window.0 a.window.1 [] no_counts)
+    c.first_ray-next.result c.first_ray-next.ensures.none c.if-is_none.ensures move has)
 
-pub loop-n-init : goal.loop-n-init
-loop-n-init c =
+pub loop-next-init : goal.loop-next-init
+loop-next-init c =
     let a = c.args in
-    let found = c.in-Some.ensures.some in
-    let from = c.in-Some.found.0 in
+    let lo = a.window.0 in
+    let begun = λ (move : JobMove) (has : HasNumber a.plan.now a.number move).
+    no_rays_to a.plan.now move a.strip lo lo a.rays.now a.rays.now a.room.items c.none.result refl c.requires.room c.none.ensures in
     record {
-      from = found.from;
-      to = omega (arith, found.below);
-      known = found.asked;
       same = same_self a.rays.now;
-      within =
-          within_more 0 ((from - a.window.0) * 4294967295) c.none.result (omega arith)
-          (subst (λ (n : Counts). AreWithin 0 n) (sym c.none.ensures) none_within);
-      marked = λ move has.
-          nothing_yet a.plan.now move a.strip a.window.0 from a.rays.now c.args.room.items c.none.result c.requires.room c.none.ensures
-          (found.nothing move has);
+      none = nothing_more a.plan.now a.number a.strip a.rays.now a.rays.now (record { changes = a.room; counts = c.none.result }) lo lo a.window.1
+          c.first_ray-next.result (same_self a.rays.now) (omega arith) (omega arith) c.requires.within begun c.first_ray-next.ensures.none;
+      some = next_more a.plan.now a.number a.strip c.new-near.result a.rays.now a.rays.now (record { changes = a.room; counts = c.none.result })
+          lo lo a.window.1 c.first_ray-next.result (same_self a.rays.now) (omega arith) c.requires.within
+          (within_more 0 ((lo - lo) * 4294967295) c.none.result (omega arith)
+          (subst (λ (n : Counts). AreWithin 0 n) (sym c.none.ensures) none_within)) begun c.first_ray-next.ensures.some;
     }
 
-pub mark_at-requires-clause-known : goal.mark_at-requires-clause-known
-mark_at-requires-clause-known c =
+pub mark_asked-requires : goal.mark_asked-requires
+mark_asked-requires c =
     let a = c.args in
-    let k = c.loop-n in
-    subst (λ (r : KeptSets). IfSome k.known (IsAskedRay a.plan.now a.number a.strip k.n (near_ray_at c.new-near.result k.n) r.sets))
-    (sym (get_or_default k.rays k.n c.index-rays-n.result no_sets (omega arith))) k.invariant.known
+    let k = c.loop-next in
+    let n = c.in-Some.n in
+    let next = some_told (IsNextRay a.plan.now a.number a.strip c.new-near.result a.rays.now k.rays k.marked a.window.0 a.window.1) k.next
+    (n, c.in-Some.asked) k.invariant.some c.in-Some.is in
+    let lt : n < length a.rays.now = omega (arith, next.below, c.requires.within) in
+    let on_strip : n < length (strip_at a.plan.now.grid a.strip) = omega (arith, lt, c.requires.rays.many) in
+    let own : kept_of k.rays n ≡ get_or k.rays n c.index-rays-n.result =
+    sym (get_or_default k.rays n c.index-rays-n.result no_sets (omega (arith, lt, k.invariant.same.many))) in
+    let marker = marker_of a.plan.now a.number a.strip c.on_strip-marker.result c.marker-mover.result c.grid-grid.result.now
+    c.strip_ray-first.result c.on_strip-marker.ensures c.grid-grid.ensures c.strip_ray-first.ensures.there c.strip_ray-first.ensures.ray
+    c.marker-mover.ensures.marker in
+    let near = near_of a.plan.now a.number a.strip c.new-near.result c.cylinder.result.now c.grid-grid.result.now c.strip_ray-first.result
+    c.new-near.ensures c.grid-grid.ensures c.strip_ray-first.ensures.there c.strip_ray-first.ensures.ray c.cylinder.ensures in
+    let ready = ready_at a.plan.now a.number a.strip n c.on_strip-marker.result c.new-near.result (kept_of k.rays n) c.in-Some.asked.window
+    c.requires.plan c.requires.number c.requires.strip on_strip marker near
+    (sets_at a.plan.now.grid a.strip a.rays.now k.rays n c.requires.rays k.invariant.same lt) next.asked.window in
+    record {
+      ray = subst (λ (r : KeptSets). AreSetsOf (ray_at c.on_strip-marker.result n) r.sets) own ready.sets;
+      window = ready.window;
+      node = node_within a.plan.now a.number a.strip n c.on_strip-marker.result marker on_strip;
+      n = near_node a.plan.now a.number a.strip n c.new-near.result near on_strip;
+      near = ready.near;
+      first = subst (λ (r : KeptSets). IsFirstAsked (near_ray_at c.new-near.result n) r.sets c.in-Some.asked.window c.in-Some.asked.first) own
+          next.asked.start;
+      room = within_more ((n - a.window.0) * 4294967295) (most_count - 8589934592) k.marked.counts (omega arith) next.within;
+    }
 
-pub mark_at-requires-clause-near : goal.mark_at-requires-clause-near
-mark_at-requires-clause-near c =
+pub returns-in_err-mark_asked-clause-same : goal.returns-in_err-mark_asked-clause-same
+returns-in_err-mark_asked-clause-same c =
+    let a = c.args in
+    let k = c.loop-next in
+    let n = c.in-Some.n in
+    let next = some_told (IsNextRay a.plan.now a.number a.strip c.new-near.result a.rays.now k.rays k.marked a.window.0 a.window.1) k.next
+    (n, c.in-Some.asked) k.invariant.some c.in-Some.is in
+    same_set a.rays.now k.rays n c.index-rays-n.result c.mark_asked.new.ray k.invariant.same (omega (arith, next.below, c.requires.within))
+    c.in_err-mark_asked.ensures.same
+
+pub first_ray-next-requires-in-Some-clause-rays : goal.first_ray-next-requires-in-Some-clause-rays
+first_ray-next-requires-in-Some-clause-rays c =
+    let a = c.args in
+    let k = c.loop-next in
+    let n = c.in-Some.n in
+    let next = some_told (IsNextRay a.plan.now a.number a.strip c.new-near.result a.rays.now k.rays k.marked a.window.0 a.window.1) k.next
+    (n, c.in-Some.asked) k.invariant.some c.in-Some.is in
+    are_rays_still a.plan.now.grid a.strip a.rays.now _ c.requires.rays
+    (same_set a.rays.now k.rays n c.index-rays-n.result c.mark_asked.new.ray k.invariant.same (omega (arith, next.below, c.requires.within))
+    c.in_ok-mark_asked.ensures.same)
+
+pub first_ray-next-requires-in-Some-clause-near : goal.first_ray-next-requires-in-Some-clause-near
+first_ray-next-requires-in-Some-clause-near c =
     let a = c.args in
     near_of a.plan.now a.number a.strip c.new-near.result c.cylinder.result.now c.grid-grid.result.now c.strip_ray-first.result
     c.new-near.ensures c.grid-grid.ensures c.strip_ray-first.ensures.there c.strip_ray-first.ensures.ray c.cylinder.ensures
+
+pub loop-next-smaller : goal.loop-next-smaller
+loop-next-smaller c =
+    let a = c.args in
+    let k = c.loop-next in
+    let n = c.in-Some.n in
+    let next = some_told (IsNextRay a.plan.now a.number a.strip c.new-near.result a.rays.now k.rays k.marked a.window.0 a.window.1) k.next
+    (n, c.in-Some.asked) k.invariant.some c.in-Some.is in
+    fewer_left a.plan.now a.number a.strip c.new-near.result _ n a.window.1 c.in-Some.asked k.next c.first_ray-next-in-Some.result
+    c.in-Some.is next.below c.first_ray-next-in-Some.ensures.some
+
+pub loop-next-preserved : goal.loop-next-preserved
+loop-next-preserved c =
+    let a = c.args in
+    let k = c.loop-next in
+    let n = c.in-Some.n in
+    let lo = a.window.0 in
+    let hi = a.window.1 in
+    let ray = c.mark_asked.new.ray in
+    let after = c.mark_asked.new.marked in
+    let span = (n - lo) * 4294967295 in
+    let next = some_told (IsNextRay a.plan.now a.number a.strip c.new-near.result a.rays.now k.rays k.marked lo hi) k.next
+    (n, c.in-Some.asked) k.invariant.some c.in-Some.is in
+    let lt : n < length a.rays.now = omega (arith, next.below, c.requires.within) in
+    let own = own_of k.rays n c.index-rays-n.result ray (omega (arith, lt, k.invariant.same.many)) c.in_ok-mark_asked.ensures.same in
+    let same = same_set a.rays.now k.rays n c.index-rays-n.result ray k.invariant.same lt c.in_ok-mark_asked.ensures.same in
+    let marker = marker_of a.plan.now a.number a.strip c.on_strip-marker.result c.marker-mover.result c.grid-grid.result.now
+    c.strip_ray-first.result c.on_strip-marker.ensures c.grid-grid.ensures c.strip_ray-first.ensures.there c.strip_ray-first.ensures.ray
+    c.marker-mover.ensures.marker in
+    let adds : (move : JobMove) → HasNumber a.plan.now a.number move → Adds k.marked after (λ added found.
+    IsRayMarked ray (sure_there a.plan.now move a.strip n) (possible_there a.plan.now move a.strip n) move.rapid n added found) =
+    λ move has. marked_by a.plan.now move a.strip n (ray_at c.on_strip-marker.result n) c.shared_by-shared.result.rapid ray k.marked after
+    (marker_is a.plan.now a.number a.strip n move c.on_strip-marker.result marker has (omega (arith, lt, c.requires.rays.many)))
+    (c.shared_by-shared.ensures.rapid move has) c.in_ok-mark_asked.ensures.marked in
+    let some = some_move a.plan.now a.number c.requires.number in
+    let within = within_more (span + 4294967295) ((n + 1 - lo) * 4294967295) after.counts (omega (arith, next.from))
+    (within_next a.plan.now some.0 a.strip n span ray k.marked after next.within (adds some.0 some.1)) in
+    let done : (move : JobMove) → HasNumber a.plan.now a.number move
+    → AreRaysMarked a.plan.now move a.strip a.rays.now (set k.rays n ray) lo (n + 1) after.changes.items after.counts =
+    λ move has. rays_step a.plan.now move a.strip lo n a.rays.now k.rays ray k.marked after c.requires.rays k.invariant.same own
+    next.from lt (next.ahead move has) (adds move has) in
+    record {
+      same = same;
+      none = nothing_more a.plan.now a.number a.strip a.rays.now (set k.rays n ray) after lo (n + 1) hi c.first_ray-next-in-Some.result same
+          (omega (arith, next.from)) (omega (arith, next.below)) c.requires.within done c.first_ray-next-in-Some.ensures.none;
+      some = next_more a.plan.now a.number a.strip c.new-near.result a.rays.now (set k.rays n ray) after lo (n + 1) hi
+          c.first_ray-next-in-Some.result same (omega (arith, next.from)) c.requires.within within done
+          c.first_ray-next-in-Some.ensures.some;
+    }
