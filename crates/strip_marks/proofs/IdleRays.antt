@@ -1,29 +1,25 @@
 -- Rays on which a move changes nothing and finds nothing, one after the other.
-use Rattle.std.proofs.Common.{◌≡◌, ◌≢◌, ℕ, ◌+◌, ◌-◌, ◌<◌, ◌≤◌, true, List, [], length, arith, sym, ap, subst, ⊎_elim}
-use Rattle.std.proofs.lemmas.Bool.{cases_eq}
+use Rattle.std.proofs.Common.{◌≡◌, ℕ, ◌-◌, ◌<◌, ◌≤◌, true, List, [], length, Option, None, Some, IfNone, IfSome, arith, sym}
 use Rattle.std.proofs.lemmas.List.Elements.{All-nil}
 use Rattle.vf_spans.specs.Members.{has}
 use Rattle.job_facts.specs.Counts.{no_counts}
-use Rattle.ray_grid.specs.declared.ray.Family.{Family}
-use Rattle.ray_grid.specs.declared.ray.Ray.{Ray}
-use Rattle.ray_grid.specs.Lattice.{points_of}
 use Rattle.ray_grid.specs.Strips.{strip_at, strips_of}
 use Rattle.near_points.specs.Rays.{NearStripOf, near_ray_at}
 use Rattle.ray_words.specs.Rays.{KeptSets}
 use Rattle.dexel_rays.specs.Sets.{Sets}
 use Rattle.job_model.specs.Tasks.{IsPlan, JobMove, PlanOf}
 use Rattle.strip_plan.specs.Plans.{HasNumber}
-use Rattle.strip_plan.specs.Windows.{IsCommonWindow}
 use Rattle.strip_marks.specs.declared.asked_word.AskedWord.{AskedWord}
-use Rattle.strip_marks.specs.Marks.{AreRays, kept_of, points_at, possible_there, ray_found, ray_of, seen_on, sets_of, sure_there}
+use Rattle.strip_marks.specs.Marks.{AreRays, kept_of, points_at, possible_there, ray_found, seen_on, sets_of, sure_there}
 use Rattle.strip_marks.specs.RayMarks.{IsFirstAsked, IsIdle, IsUnasked}
-use Rattle.strip_marks.specs.RowMarks.{AreRaysMarked, AreUnasked, IsChangeFrom, IsFirstRay, IsNearStripOf, IsRayWindow}
+use Rattle.strip_marks.specs.RowMarks.{AreRaysMarked, AreUnasked, IsChangeFrom, IsFirstIn, IsNearStripOf}
+use Rattle.strip_marks.proofs.AlongRays.{IsAlong, IsRayWindow, along_on}
 use Rattle.strip_marks.proofs.Counting.{found_none, sum_none}
 use Rattle.strip_marks.proofs.Idle.{idle_met, idle_possible, idle_sure}
 use Rattle.strip_marks.proofs.Lists.{order_few}
 use Rattle.strip_marks.proofs.MoreRays.{same_self, sets_at}
 use Rattle.strip_marks.proofs.NearRays.{idle_on}
-use Rattle.strip_marks.proofs.OnStrips.{ray_is, window_on}
+use Rattle.strip_marks.proofs.OnStrips.{window_on}
 
 -- the move changes and finds nothing on ray n of a strip, by the ray's sets
 abbrev pub IsIdleRay : PlanOf → ℕ → ℕ → ℕ → Sets → Type 0
@@ -70,42 +66,45 @@ idle_unasked_ray plan number strip n s rays window valid there are near lt w non
     (sets_at plan.grid strip rays rays n are (same_self rays) lt)
     (window_on plan number move strip n window.0 window.1 valid has there on_strip w.order w.within (w.holds move has)) none
 
--- a window for all rays of the family is one on each of them
-pub common_on : (plan : PlanOf) (number strip n : ℕ) (s : NearStripOf) (window : ℕ × ℕ) → IsNearStripOf plan number strip s
-    → n < length (strip_at plan.grid strip) → IsCommonWindow plan number s.family window → IsRayWindow plan number strip n window
-common_on plan number strip n s window near lt w =
-    let family : (ray_of plan.grid strip n).family ≡ s.family =
-    ap (λ (r : Ray). r.family) (ray_is plan.grid strip n s.family s.i near.rays lt) in
-    record {
-      order = w.order;
-      within = subst (λ (f : Family). window.1 ≤ points_of plan.grid f) (sym family) w.within;
-      holds = λ move has. w.holds move (ray_of plan.grid strip n) has family;
-    }
-
--- one idle ray more
-pub idle_more : (plan : PlanOf) (number strip lo n : ℕ) (rays : List KeptSets) → AreIdleRays plan number strip rays lo n
-    → IsIdleRay plan number strip n (sets_of rays n) → AreIdleRays plan number strip rays lo (n + 1)
-idle_more plan number strip lo n rays h here k ge lt =
-    ⊎_elim (λ (e : n ≡ k). subst (λ (j : ℕ). IsIdleRay plan number strip j (sets_of rays j)) e here)
-    (λ (ne : n ≢ k). h k ge (omega arith)) (cases_eq n k)
-
 -- so rays with no point of it that the move has to be asked about are idle
-pub idle_common : (plan : PlanOf) (number strip lo hi : ℕ) (s : NearStripOf) (rays : List KeptSets) (window : ℕ × ℕ) → IsPlan plan
+pub idle_along : (plan : PlanOf) (number strip lo hi : ℕ) (s : NearStripOf) (rays : List KeptSets) (window : ℕ × ℕ) → IsPlan plan
     → strip < length (strips_of plan.grid) → AreRays plan.grid strip rays → IsNearStripOf plan number strip s → hi ≤ length rays
-    → IsCommonWindow plan number s.family window → AreUnasked s rays window lo hi → AreIdleRays plan number strip rays lo hi
-idle_common plan number strip lo hi s rays window valid there are near within w none n ge lt =
+    → IsAlong plan number s window → AreUnasked s rays window lo hi → AreIdleRays plan number strip rays lo hi
+idle_along plan number strip lo hi s rays window valid there are near within w none n ge lt =
     let less : n < length rays = omega (arith, lt, within) in
     idle_unasked_ray plan number strip n s rays window valid there are near less
-    (common_on plan number strip n s window near (omega (arith, less, are.many)) w) (none n ge lt)
+    (along_on plan number strip n s window near (omega (arith, less, are.many)) w) (none n ge lt)
 
--- the first ray behind idle ones on which the move is asked about a point
-pub first_behind : (plan : PlanOf) (number strip lo hi n : ℕ) (s : NearStripOf) (rays : List KeptSets) (window : ℕ × ℕ) (first : AskedWord)
-    → AreRays plan.grid strip rays → hi ≤ length rays → lo ≤ n → n < hi → AreIdleRays plan number strip rays lo n
-    → IsRayWindow plan number strip n window → IsFirstAsked (near_ray_at s n) (sets_of rays n) window first
-    → IsFirstRay plan number strip s rays lo hi (n, record { window = window; first = first })
-first_behind plan number strip lo hi n s rays window first are within from below idle w start = record {
-  from = from;
-  below = below;
-  nothing = λ move has. none_marked plan number move strip lo n rays are has (omega (arith, below, within)) idle;
-  asked = record { window = w; start = start };
-}
+-- the first of the rays from the one number on and below the other on which the move is asked about a point: ahead of it nothing is marked
+pub record IsFirstRay (plan : PlanOf) (number strip : ℕ) (s : NearStripOf) (rays : List KeptSets) (window : ℕ × ℕ) (lo hi : ℕ)
+    (found : ℕ × AskedWord) : Type 0 where
+  pub from : lo ≤ found.0
+  pub below : found.0 < hi
+  pub nothing : (move : JobMove) → HasNumber plan number move → AreRaysMarked plan move strip rays rays lo found.0 [] no_counts
+  pub asked : IsFirstAsked (near_ray_at s found.0) (sets_of rays found.0) window found.1
+
+-- so is one that is found by the cylinder and the sets alone
+pub first_found : (plan : PlanOf) (number strip lo hi : ℕ) (s : NearStripOf) (rays : List KeptSets) (window : ℕ × ℕ)
+    (next : Option (ℕ × AskedWord)) → IsPlan plan → strip < length (strips_of plan.grid) → AreRays plan.grid strip rays
+    → IsNearStripOf plan number strip s → hi ≤ length rays → IsAlong plan number s window → IfSome next (IsFirstIn s rays window lo hi)
+    → IfSome next (IsFirstRay plan number strip s rays window lo hi)
+first_found plan number strip lo hi s rays window None valid there are near within w found = tt
+first_found plan number strip lo hi s rays window (Some next) valid there are near within w found =
+    let within_ahead : next.0 ≤ length rays = omega (arith, found.below, within) in
+    record {
+      from = found.from;
+      below = found.below;
+      nothing = λ move has. none_marked plan number move strip lo next.0 rays are has within_ahead
+          (idle_along plan number strip lo next.0 s rays window valid there are near within_ahead w found.ahead);
+      asked = found.asked;
+    }
+
+-- and where none is found, nothing is marked on any of them
+pub none_found : (plan : PlanOf) (number strip lo hi : ℕ) (s : NearStripOf) (rays : List KeptSets) (window : ℕ × ℕ)
+    (next : Option (ℕ × AskedWord)) → IsPlan plan → strip < length (strips_of plan.grid) → AreRays plan.grid strip rays
+    → IsNearStripOf plan number strip s → hi ≤ length rays → IsAlong plan number s window → IfNone next (AreUnasked s rays window lo hi)
+    → IfNone next ((move : JobMove) → HasNumber plan number move → AreRaysMarked plan move strip rays rays lo hi [] no_counts)
+none_found plan number strip lo hi s rays window None valid there are near within w none = λ move has.
+    none_marked plan number move strip lo hi rays are has within
+    (idle_along plan number strip lo hi s rays window valid there are near within w none)
+none_found plan number strip lo hi s rays window (Some next) valid there are near within w none = tt

@@ -11,11 +11,13 @@ use Rattle.near_points.specs.Rays.{NearStripOf, near_ray_at}
 use Rattle.ray_words.specs.Rays.{KeptSets}
 use Rattle.job_model.specs.Tasks.{JobMove, PlanOf}
 use Rattle.strip_plan.specs.Plans.{HasNumber}
-use Rattle.strip_marks.specs.declared.asked_word.AskedRay.{AskedRay}
+use Rattle.strip_marks.specs.declared.asked_word.AskedWord.{AskedWord}
 use Rattle.strip_marks.specs.declared.change.WordChange.{WordChange}
 use Rattle.strip_marks.specs.declared.marked.Marked.{Marked}
 use Rattle.strip_marks.specs.Marks.{AreRays, HaveSameSets, among, points_at, possible_of, possible_there, ray_found, seen_on, sets_of, sure_of, sure_there}
-use Rattle.strip_marks.specs.RowMarks.{AreRaysMarked, IsAskedRay, IsFirstRay}
+use Rattle.strip_marks.specs.RayMarks.{IsFirstAsked}
+use Rattle.strip_marks.specs.RowMarks.{AreRaysMarked}
+use Rattle.strip_marks.proofs.IdleRays.{IsFirstRay}
 use Rattle.strip_marks.proofs.Counting.{plus_none, sum_as, sum_over, sum_split, within_more}
 use Rattle.strip_marks.proofs.Lists.{among_none, other_ray}
 use Rattle.std.specs.List.{range_with_len}
@@ -78,27 +80,27 @@ module _ (plan : PlanOf) (move : JobMove) (strip lo n m : ℕ) (before mid : Lis
   }
 
 -- how many rays are left from the next one on
-pub rays_left : Option (ℕ × AskedRay) → ℕ → ℕ
+pub rays_left : Option (ℕ × AskedWord) → ℕ → ℕ
 rays_left None hi = 0
 rays_left (Some next) hi = hi - next.0
 
 -- up to the next ray on which the move is asked about a point the rays are marked
-pub record IsNextRay (plan : PlanOf) (number strip : ℕ) (near : NearStripOf) (before rays : List KeptSets) (marked : Marked) (lo hi : ℕ)
-    (next : ℕ × AskedRay) : Type 0 where
+pub record IsNextRay (plan : PlanOf) (number strip : ℕ) (near : NearStripOf) (window : ℕ × ℕ) (before rays : List KeptSets) (marked : Marked)
+    (lo hi : ℕ) (next : ℕ × AskedWord) : Type 0 where
   pub from : lo ≤ next.0
   pub below : next.0 < hi
   pub within : AreWithin ((next.0 - lo) * 4294967295) marked.counts
   pub ahead : (move : JobMove) → HasNumber plan number move
       → AreRaysMarked plan move strip before rays lo next.0 marked.changes.items marked.counts
-  pub asked : IsAskedRay plan number strip next.0 (near_ray_at near next.0) (sets_of rays next.0) next.1
+  pub asked : IsFirstAsked (near_ray_at near next.0) (sets_of rays next.0) window next.1
 
 -- the first such ray behind those that are marked is the next one
-pub next_behind : (plan : PlanOf) (number strip : ℕ) (near : NearStripOf) (before rays : List KeptSets) (marked : Marked) (lo n hi : ℕ)
-    (next : ℕ × AskedRay) → HaveSameSets before rays → lo ≤ n → hi ≤ length before → AreWithin ((n - lo) * 4294967295) marked.counts
+pub next_behind : (plan : PlanOf) (number strip : ℕ) (near : NearStripOf) (window : ℕ × ℕ) (before rays : List KeptSets) (marked : Marked) (lo n hi : ℕ)
+    (next : ℕ × AskedWord) → HaveSameSets before rays → lo ≤ n → hi ≤ length before → AreWithin ((n - lo) * 4294967295) marked.counts
     → ((move : JobMove) → HasNumber plan number move
     → AreRaysMarked plan move strip before rays lo n marked.changes.items marked.counts)
-    → IsFirstRay plan number strip near rays n hi next → IsNextRay plan number strip near before rays marked lo hi next
-next_behind plan number strip near before rays marked lo n hi next same from to within h first = record {
+    → IsFirstRay plan number strip near rays window n hi next → IsNextRay plan number strip near window before rays marked lo hi next
+next_behind plan number strip near window before rays marked lo n hi next same from to within h first = record {
   from = omega (arith, from, first.from);
   below = first.below;
   within = within_more ((n - lo) * 4294967295) ((next.0 - lo) * 4294967295) marked.counts (omega (arith, from, first.from)) within;
@@ -109,16 +111,16 @@ next_behind plan number strip near before rays marked lo n hi next same from to 
 }
 
 -- the same of what is told of a first one, if there is one; where there is none, all rays are marked
-pub next_more : (plan : PlanOf) (number strip : ℕ) (near : NearStripOf) (before rays : List KeptSets) (marked : Marked) (lo n hi : ℕ)
-    (next : Option (ℕ × AskedRay)) → HaveSameSets before rays → lo ≤ n → hi ≤ length before → AreWithin ((n - lo) * 4294967295) marked.counts
+pub next_more : (plan : PlanOf) (number strip : ℕ) (near : NearStripOf) (window : ℕ × ℕ) (before rays : List KeptSets) (marked : Marked) (lo n hi : ℕ)
+    (next : Option (ℕ × AskedWord)) → HaveSameSets before rays → lo ≤ n → hi ≤ length before → AreWithin ((n - lo) * 4294967295) marked.counts
     → ((move : JobMove) → HasNumber plan number move
     → AreRaysMarked plan move strip before rays lo n marked.changes.items marked.counts)
-    → IfSome next (IsFirstRay plan number strip near rays n hi) → IfSome next (IsNextRay plan number strip near before rays marked lo hi)
-next_more plan number strip near before rays marked lo n hi None same from to within h first = tt
-next_more plan number strip near before rays marked lo n hi (Some next) same from to within h first =
-    next_behind plan number strip near before rays marked lo n hi next same from to within h first
+    → IfSome next (IsFirstRay plan number strip near rays window n hi) → IfSome next (IsNextRay plan number strip near window before rays marked lo hi)
+next_more plan number strip near window before rays marked lo n hi None same from to within h first = tt
+next_more plan number strip near window before rays marked lo n hi (Some next) same from to within h first =
+    next_behind plan number strip near window before rays marked lo n hi next same from to within h first
 
-pub nothing_more : (plan : PlanOf) (number strip : ℕ) (before rays : List KeptSets) (marked : Marked) (lo n hi : ℕ) (next : Option (ℕ × AskedRay))
+pub nothing_more : (plan : PlanOf) (number strip : ℕ) (before rays : List KeptSets) (marked : Marked) (lo n hi : ℕ) (next : Option (ℕ × AskedWord))
     → HaveSameSets before rays → lo ≤ n → n ≤ hi → hi ≤ length before
     → ((move : JobMove) → HasNumber plan number move
     → AreRaysMarked plan move strip before rays lo n marked.changes.items marked.counts)
@@ -130,12 +132,12 @@ nothing_more plan number strip before rays marked lo n hi None same from to with
 nothing_more plan number strip before rays marked lo n hi (Some next) same from to within h idle = tt
 
 -- with each one fewer rays are left
-pub fewer_left : (plan : PlanOf) (number strip : ℕ) (near : NearStripOf) (rays : List KeptSets) (n hi : ℕ) (asked : AskedRay)
-    (last next : Option (ℕ × AskedRay)) → last ≡ Some (n, asked) → n < hi → IfSome next (IsFirstRay plan number strip near rays (n + 1) hi)
+pub fewer_left : (plan : PlanOf) (number strip : ℕ) (near : NearStripOf) (window : ℕ × ℕ) (rays : List KeptSets) (n hi : ℕ) (asked : AskedWord)
+    (last next : Option (ℕ × AskedWord)) → last ≡ Some (n, asked) → n < hi → IfSome next (IsFirstRay plan number strip near rays window (n + 1) hi)
     → rays_left next hi < rays_left last hi
 unfolding rays_left
-fewer_left plan number strip near rays n hi asked last None e lt first =
-    let left : rays_left last hi ≡ hi - n = ap (λ (o : Option (ℕ × AskedRay)). rays_left o hi) e in omega (arith, left)
-fewer_left plan number strip near rays n hi asked last (Some next) e lt first =
-    let left : rays_left last hi ≡ hi - n = ap (λ (o : Option (ℕ × AskedRay)). rays_left o hi) e in
+fewer_left plan number strip near window rays n hi asked last None e lt first =
+    let left : rays_left last hi ≡ hi - n = ap (λ (o : Option (ℕ × AskedWord)). rays_left o hi) e in omega (arith, left)
+fewer_left plan number strip near window rays n hi asked last (Some next) e lt first =
+    let left : rays_left last hi ≡ hi - n = ap (λ (o : Option (ℕ × AskedWord)). rays_left o hi) e in
     omega (arith, left, first.from, first.below)

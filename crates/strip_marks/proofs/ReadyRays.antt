@@ -7,7 +7,8 @@ use Rattle.wanted_marks.specs.Rays.{RayOf}
 use Rattle.wanted_marks.specs.Strips.{StripOf, ray_at}
 use Rattle.job_model.specs.Tasks.{IsPlan, PlanOf}
 use Rattle.strip_marks.specs.RayMarks.{IsNearOf, IsWindow}
-use Rattle.strip_marks.specs.RowMarks.{AreSetsAt, IsMarkerOf, IsNearStripOf, IsRayWindow}
+use Rattle.strip_marks.specs.RowMarks.{AreSetsAt, IsMarkerOf, IsNearStripOf}
+use Rattle.strip_marks.proofs.AlongRays.{IsRayWindow}
 use Rattle.strip_marks.specs.Words.{AreSetsOf}
 use Rattle.strip_marks.proofs.NearRays.{near_on}
 use Rattle.strip_marks.proofs.OneRay.{sets_for}

@@ -1,25 +1,21 @@
 -- What a move changes on neighbouring rays of a strip, and what it finds there.
 use Rattle.std.specs.Prelude.{◌≡◌, ℕ, ◌-◌, ◌<◌, ◌≤◌, true, not, ◌&&◌, List, [], map, All}
 use Rattle.std.specs.List.{range_with_len}
-use Rattle.std.specs.Option.{IfSome}
 use Rattle.vf_spans.specs.Members.{has}
 use Rattle.ray_grid.specs.Grids.{GridSize}
-use Rattle.ray_grid.specs.declared.ray.Family.{Family}
 use Rattle.ray_grid.specs.Strips.{strip_at, strip_of}
 use Rattle.job_facts.specs.declared.counts.Counts.{Counts}
 use Rattle.job_facts.specs.Counts.{no_counts}
 use Rattle.dexel_rays.specs.Sets.{HaveBound, Sets}
 use Rattle.ray_words.specs.Rays.{HasAllWanted, KeptSets}
-use Rattle.near_points.specs.Rays.{NearRayOf, NearStripOf, near_ray_at}
+use Rattle.near_points.specs.Rays.{NearStripOf, near_ray_at}
 use Rattle.wanted_marks.specs.Strips.{StripOf}
 use Rattle.job_model.specs.Sums.{sum_counts}
 use Rattle.job_model.specs.Tasks.{JobMove, PlanOf}
 use Rattle.strip_plan.specs.Plans.{HasNumber, move_in}
-use Rattle.strip_plan.specs.Windows.{HoldsMet, HoldsPossible, IsCommonWindow}
-use Rattle.strip_marks.specs.declared.asked_word.AskedRay.{AskedRay}
+use Rattle.strip_plan.specs.Windows.{HoldsMet}
 use Rattle.strip_marks.specs.declared.asked_word.AskedWord.{AskedWord}
 use Rattle.strip_marks.specs.declared.change.WordChange.{WordChange}
-use Rattle.strip_marks.specs.declared.shared.Shared.{Shared}
 use Rattle.strip_marks.specs.RayMarks.{IsFirstAsked, IsUnasked}
 use Rattle.strip_marks.specs.Marks.{AreInOrder, IsChangeOn, among, points_at, possible_of, possible_there, ray_found, ray_of, sets_of, sure_of, sure_there}
 
@@ -40,11 +36,6 @@ pub record IsNearStripOf (plan : PlanOf) (number strip : ℕ) (s : NearStripOf) 
   pub rays : strip_at plan.grid strip ≡ strip_of plan.grid s.family s.i
   pub holds : (move : JobMove) → HasNumber plan number move → HoldsMet plan move s.cylinder
 
--- what the plan's move with a number has on all rays of a family: its window, where one is told, and whether it is in rapid motion
-pub record IsShared (plan : PlanOf) (number : ℕ) (family : Family) (shared : Shared) : Type 0 where
-  pub window : IfSome shared.window (IsCommonWindow plan number family)
-  pub rapid : (move : JobMove) → HasNumber plan number move → shared.rapid ≡ move.rapid
-
 -- on none of the rays from the one number on and below the other is there an index of the window that the move has to be asked about
 abbrev pub AreUnasked : NearStripOf → List KeptSets → ℕ × ℕ → ℕ → ℕ → Type 0
 AreUnasked near rays window lo hi = (n : ℕ) → lo ≤ n → n < hi → IsUnasked (near_ray_at near n) (sets_of rays n) window
@@ -63,17 +54,6 @@ pub record IsFirstIn (near : NearStripOf) (rays : List KeptSets) (window : ℕ �
   pub ahead : AreUnasked near rays window lo found.0
   pub asked : IsFirstAsked (near_ray_at near found.0) (sets_of rays found.0) window found.1
 
--- a window of the plan's move with a number on ray n of a strip: it holds each point at which the move is possible
-pub record IsRayWindow (plan : PlanOf) (number strip n : ℕ) (window : ℕ × ℕ) : Type 0 where
-  pub order : window.0 ≤ window.1
-  pub within : window.1 ≤ points_at plan.grid strip n
-  pub holds : (move : JobMove) → HasNumber plan number move → HoldsPossible plan move (ray_of plan.grid strip n) window.0 window.1
-
--- what a move is asked about on ray n of a strip: by its window there
-pub record IsAskedRay (plan : PlanOf) (number strip n : ℕ) (near : NearRayOf) (d : Sets) (asked : AskedRay) : Type 0 where
-  pub window : IsRayWindow plan number strip n asked.window
-  pub start : IsFirstAsked near d asked.window asked.first
-
 -- a change on one of the rays from the one number on and below the other
 pub record IsChangeFrom (rays : List KeptSets) (lo hi : ℕ) (change : WordChange) : Type 0 where
   pub on : IsChangeOn rays change
@@ -90,11 +70,3 @@ pub record AreRaysMarked (plan : PlanOf) (move : JobMove) (strip : ℕ) (before 
   pub each : All (IsChangeFrom after lo hi) changes
   pub order : AreInOrder changes
   pub found : counts ≡ sum_counts (map (ray_found plan move strip before) (range_with_len lo (hi - lo)))
-
--- the first of those rays on which the move is asked about a point, and what it is asked about there
-pub record IsFirstRay (plan : PlanOf) (number strip : ℕ) (near : NearStripOf) (rays : List KeptSets) (lo hi : ℕ) (found : ℕ × AskedRay)
-    : Type 0 where
-  pub from : lo ≤ found.0
-  pub below : found.0 < hi
-  pub nothing : (move : JobMove) → HasNumber plan number move → AreRaysMarked plan move strip rays rays lo found.0 [] no_counts
-  pub asked : IsAskedRay plan number strip found.0 (near_ray_at near found.0) (sets_of rays found.0) found.1

@@ -4,10 +4,3 @@ pub struct AskedWord {
     pub word: u32,
     pub points: u64,
 }
-
-/// What a move is asked about on a ray: its window there, and the first word with such points.
-#[derive(Clone, Copy)]
-pub struct AskedRay {
-    pub window: (u32, u32),
-    pub first: AskedWord,
-}

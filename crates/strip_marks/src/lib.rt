@@ -4,10 +4,8 @@
 mod asked;
 mod asked_word;
 mod change;
-mod first;
 mod marked;
 mod ray;
-mod shared;
 mod strip;
 mod word;
 

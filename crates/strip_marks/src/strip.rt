@@ -12,12 +12,11 @@ ghost use Rattle.strip_marks.specs.Words.{AreSetsOf};
 ghost use Rattle.strip_marks.specs.RayMarks.{Adds, CanCount, HasSameSets, IsFirstAsked, IsNearOf, IsRayMarked, IsWindow};
 ghost use Rattle.strip_marks.specs.RowMarks.{AreRaysMarked};
 
-use crate::asked_word::AskedRay;
+use crate::asked::first_in;
+use crate::asked_word::AskedWord;
 use crate::change::WordChange;
-use crate::first::first_ray;
 use crate::marked::Marked;
 use crate::ray::mark_ray;
-use crate::shared::{Shared, shared_by};
 use job_facts::Counts;
 use near_points::NearStrip;
 use ray_words::WordRay;
@@ -25,38 +24,30 @@ use strip_plan::Plan;
 use vf_io::NoMemory;
 use wanted_marks::StripMarker;
 
-/// Takes in what a move changes on ray n of a strip, and what it finds there, by what it is asked about.
+/// Takes in what a move changes on ray n of a strip, and what it finds there, from the first word on with points that it is asked about.
 fn mark_asked<'x>(
     marker: &'x StripMarker<'x>,
     near: &NearStrip<'_>,
     ray: &mut WordRay,
     n: u32,
-    asked: AskedRay,
+    first: AskedWord,
+    along: (u32, u32),
     rapid: bool,
     marked: &mut Marked,
 ) -> Result<(), NoMemory>
     requires ray { AreSetsOf (ray_at marker.now n) ray.old.sets }
-    requires window { IsWindow (ray_at marker.now n) asked.window.0 asked.window.1 }
+    requires window { IsWindow (ray_at marker.now n) along.0 along.1 }
     requires node { n < nodes_of marker.now.grid (second_axis marker.now.family) }
     requires n { n < nodes_of near.now.grid (second_axis near.now.family) }
     requires near { IsNearOf (near_ray_at near.now n) (ray_at marker.now n) }
-    requires first { IsFirstAsked (near_ray_at near.now n) ray.old.sets asked.window asked.first }
+    requires first { IsFirstAsked (near_ray_at near.now n) ray.old.sets along first }
     requires room { CanCount (2 ^ 33) marked.old.counts }
     ensures same { HasSameSets ray.old ray.new }
     ensures marked { OnOk result (Adds marked.old marked.new (λ added found.
         IsRayMarked ray.new (is_sure_at (ray_at marker.now n)) (is_possible_at (ray_at marker.now n)) rapid n added found)) }
 {
     let on_ray = marker.on_ray(n);
-    mark_ray(
-        &on_ray,
-        near,
-        ray,
-        n,
-        asked.first,
-        asked.window,
-        rapid,
-        marked,
-    )?;
+    mark_ray(&on_ray, near, ray, n, first, along, rapid, marked)?;
     Ok(())
 }
 
@@ -84,30 +75,32 @@ fn mark_rays(
         → AreRaysMarked plan.now move strip rays.old rays.new window.0 window.1 m.changes.items m.counts) }
 {
     let grid = plan.grid();
-    let first = grid.strip_ray(strip, 0);
-    let shared = shared_by(plan, number, first.family);
-    let near = NearStrip::new(plan.cylinder(number), grid, first.family, first.i);
+    let row = grid.strip_ray(strip, 0);
+    let along = plan.strip_along(number, row.family, row.i);
+    let rapid = plan.is_rapid(number);
+    let near = NearStrip::new(plan.cylinder(number), grid, row.family, row.i);
     let mut marked = Marked {
         changes: room,
         counts: Counts::none(),
     };
-    let mut next = first_ray(&near, rays, plan, number, strip, shared, window);
+    let mut next = first_in(&near, rays, along, window.0, window.1);
     if next.is_none() {
         return Ok(marked);
     }
     let mover = plan.marker(number);
-    let marker = mover.on_strip(grid, first.family, first.i);
-    while let Some((n, asked)) = next {
+    let marker = mover.on_strip(grid, row.family, row.i);
+    while let Some((n, first)) = next {
         mark_asked(
             &marker,
             &near,
             &mut rays[n as usize],
             n,
-            asked,
-            shared.rapid,
+            first,
+            along,
+            rapid,
             &mut marked,
         )?;
-        next = first_ray(&near, rays, plan, number, strip, shared, (n + 1, window.1));
+        next = first_in(&near, rays, along, n + 1, window.1);
     }
     Ok(marked)
 }

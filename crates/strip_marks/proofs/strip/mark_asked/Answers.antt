@@ -10,7 +10,7 @@ mark_ray-requires-clause-ray c = subst (λ (r : RayOf). AreSetsOf r c.args.ray.n
 
 pub mark_ray-requires-clause-window : goal.mark_ray-requires-clause-window
 mark_ray-requires-clause-window c =
-    let w = c.args.asked.window in subst (λ (r : RayOf). IsWindow r w.0 w.1) (sym c.on_ray-on_ray.ensures) c.requires.window
+    let w = c.args.along in subst (λ (r : RayOf). IsWindow r w.0 w.1) (sym c.on_ray-on_ray.ensures) c.requires.window
 
 pub mark_ray-requires-clause-near : goal.mark_ray-requires-clause-near
 mark_ray-requires-clause-near c =

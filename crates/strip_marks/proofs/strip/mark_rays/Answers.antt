@@ -1,4 +1,4 @@
-use Rattle.std.proofs.Common.{◌≡◌, ℕ, ◌+◌, ◌-◌, ◌*◌, ◌<◌, List, [], length, get_or, set, arith, refl, sym, subst}
+use Rattle.std.proofs.Common.{◌≡◌, ℕ, ◌+◌, ◌-◌, ◌*◌, ◌<◌, ◌≤◌, List, [], length, get_or, set, arith, refl, sym, subst}
 use Rattle.std.proofs.lemmas.List.{get_or_default}
 use Rattle.job_facts.specs.declared.counts.Counts.{Counts}
 use Rattle.job_facts.specs.Counts.{AreWithin, most_count, no_counts}
@@ -13,9 +13,11 @@ use Rattle.wanted_marks.specs.Strips.{ray_at}
 use Rattle.strip_marks.specs.Words.{AreSetsOf}
 use Rattle.strip_marks.specs.RayMarks.{Adds, HasSameSets, IsFirstAsked, IsRayMarked}
 use Rattle.strip_marks.specs.RowMarks.{AreRaysMarked}
+use Rattle.strip_marks.proofs.AlongRays.{along_of, along_on}
 use Rattle.strip_marks.proofs.Counting.{within_more}
+use Rattle.strip_marks.proofs.IdleRays.{first_found, none_found}
 use Rattle.strip_marks.proofs.MoreRays.{no_rays_to, no_sets, same_self, same_set, sets_at}
-use Rattle.strip_marks.proofs.NearRays.{near_node, near_of}
+use Rattle.strip_marks.proofs.NearRays.{near_node, near_nodes, near_of}
 use Rattle.strip_marks.proofs.NextRays.{IsNextRay, are_rays_still, fewer_left, next_more, nothing_more}
 use Rattle.strip_marks.proofs.OneRay.{marked_by, rays_step, within_next}
 use Rattle.strip_marks.proofs.OnStrips.{marker_is, marker_of, node_within, some_move}
@@ -47,34 +49,55 @@ none_within = record {
   rapid_possible = omega arith;
 }
 
-pub first_ray-next-requires-clause-near : goal.first_ray-next-requires-clause-near
-first_ray-next-requires-clause-near c =
+pub first_in-next-requires-clause-nodes : goal.first_in-next-requires-clause-nodes
+first_in-next-requires-clause-nodes c =
     let a = c.args in
-    near_of a.plan.now a.number a.strip c.new-near.result c.cylinder.result.now c.grid-grid.result.now c.strip_ray-first.result
-    c.new-near.ensures c.grid-grid.ensures c.strip_ray-first.ensures.there c.strip_ray-first.ensures.ray c.cylinder.ensures
+    let near = near_of a.plan.now a.number a.strip c.new-near.result c.cylinder.result.now c.grid-grid.result.now c.strip_ray-row.result
+    c.new-near.ensures c.grid-grid.ensures c.strip_ray-row.ensures.there c.strip_ray-row.ensures.ray c.cylinder.ensures in
+    omega (arith, c.requires.within, c.requires.rays.many, near_nodes a.plan.now a.number a.strip c.new-near.result near)
+
+pub first_in-next-requires-in-Some-clause-nodes : goal.first_in-next-requires-in-Some-clause-nodes
+first_in-next-requires-in-Some-clause-nodes c =
+    let a = c.args in
+    let near = near_of a.plan.now a.number a.strip c.new-near.result c.cylinder.result.now c.grid-grid.result.now c.strip_ray-row.result
+    c.new-near.ensures c.grid-grid.ensures c.strip_ray-row.ensures.there c.strip_ray-row.ensures.ray c.cylinder.ensures in
+    omega (arith, c.requires.within, c.requires.rays.many, near_nodes a.plan.now a.number a.strip c.new-near.result near)
 
 pub returns-then-is_none-clause-marked : goal.returns-then-is_none-clause-marked
 returns-then-is_none-clause-marked c = λ move has.
     let a = c.args in
+    let near = near_of a.plan.now a.number a.strip c.new-near.result c.cylinder.result.now c.grid-grid.result.now c.strip_ray-row.result
+    c.new-near.ensures c.grid-grid.ensures c.strip_ray-row.ensures.there c.strip_ray-row.ensures.ray c.cylinder.ensures in
+    let along = along_of a.plan.now a.number c.new-near.result _ c.strip_along-along.result c.new-near.ensures c.strip_along-along.ensures in
     nothing_yet a.plan.now move a.strip a.window.0 a.window.1 a.rays.now a.room.items c.none.result c.requires.room c.none.ensures
     (none_told ((m : JobMove) → HasNumber a.plan.now a.number m
     → AreRaysMarked a.plan.now m a.strip a.rays.now a.rays.now a.window.0 a.window.1 [] no_counts)
-    c.first_ray-next.result c.first_ray-next.ensures.none c.if-is_none.ensures move has)
+    c.first_in-next.result
+    (none_found a.plan.now a.number a.strip a.window.0 a.window.1 c.new-near.result a.rays.now c.strip_along-along.result c.first_in-next.result
+    c.requires.plan c.requires.strip c.requires.rays near c.requires.within along c.first_in-next.ensures.none)
+    c.if-is_none.ensures move has)
 
 pub loop-next-init : goal.loop-next-init
 loop-next-init c =
     let a = c.args in
     let lo = a.window.0 in
+    let near = near_of a.plan.now a.number a.strip c.new-near.result c.cylinder.result.now c.grid-grid.result.now c.strip_ray-row.result
+    c.new-near.ensures c.grid-grid.ensures c.strip_ray-row.ensures.there c.strip_ray-row.ensures.ray c.cylinder.ensures in
+    let along = along_of a.plan.now a.number c.new-near.result _ c.strip_along-along.result c.new-near.ensures c.strip_along-along.ensures in
     let begun = λ (move : JobMove) (has : HasNumber a.plan.now a.number move).
     no_rays_to a.plan.now move a.strip lo lo a.rays.now a.rays.now a.room.items c.none.result refl c.requires.room c.none.ensures in
     record {
       same = same_self a.rays.now;
       none = nothing_more a.plan.now a.number a.strip a.rays.now a.rays.now (record { changes = a.room; counts = c.none.result }) lo lo a.window.1
-          c.first_ray-next.result (same_self a.rays.now) (omega arith) (omega arith) c.requires.within begun c.first_ray-next.ensures.none;
-      some = next_more a.plan.now a.number a.strip c.new-near.result a.rays.now a.rays.now (record { changes = a.room; counts = c.none.result })
-          lo lo a.window.1 c.first_ray-next.result (same_self a.rays.now) (omega arith) c.requires.within
+          c.first_in-next.result (same_self a.rays.now) (omega arith) (omega arith) c.requires.within begun
+          (none_found a.plan.now a.number a.strip lo a.window.1 c.new-near.result a.rays.now c.strip_along-along.result c.first_in-next.result
+          c.requires.plan c.requires.strip c.requires.rays near c.requires.within along c.first_in-next.ensures.none);
+      some = next_more a.plan.now a.number a.strip c.new-near.result c.strip_along-along.result a.rays.now a.rays.now (record { changes = a.room; counts = c.none.result })
+          lo lo a.window.1 c.first_in-next.result (same_self a.rays.now) (omega arith) c.requires.within
           (within_more 0 ((lo - lo) * 4294967295) c.none.result (omega arith)
-          (subst (λ (n : Counts). AreWithin 0 n) (sym c.none.ensures) none_within)) begun c.first_ray-next.ensures.some;
+          (subst (λ (n : Counts). AreWithin 0 n) (sym c.none.ensures) none_within)) begun
+          (first_found a.plan.now a.number a.strip lo a.window.1 c.new-near.result a.rays.now c.strip_along-along.result c.first_in-next.result
+          c.requires.plan c.requires.strip c.requires.rays near c.requires.within along c.first_in-next.ensures.some);
     }
 
 pub mark_asked-requires : goal.mark_asked-requires
@@ -82,28 +105,30 @@ mark_asked-requires c =
     let a = c.args in
     let k = c.loop-next in
     let n = c.in-Some.n in
-    let next = some_told (IsNextRay a.plan.now a.number a.strip c.new-near.result a.rays.now k.rays k.marked a.window.0 a.window.1) k.next
-    (n, c.in-Some.asked) k.invariant.some c.in-Some.is in
+    let next = some_told (IsNextRay a.plan.now a.number a.strip c.new-near.result c.strip_along-along.result a.rays.now k.rays k.marked a.window.0 a.window.1) k.next
+    (n, c.in-Some.first) k.invariant.some c.in-Some.is in
     let lt : n < length a.rays.now = omega (arith, next.below, c.requires.within) in
     let on_strip : n < length (strip_at a.plan.now.grid a.strip) = omega (arith, lt, c.requires.rays.many) in
     let own : kept_of k.rays n ≡ get_or k.rays n c.index-rays-n.result =
     sym (get_or_default k.rays n c.index-rays-n.result no_sets (omega (arith, lt, k.invariant.same.many))) in
     let marker = marker_of a.plan.now a.number a.strip c.on_strip-marker.result c.marker-mover.result c.grid-grid.result.now
-    c.strip_ray-first.result c.on_strip-marker.ensures c.grid-grid.ensures c.strip_ray-first.ensures.there c.strip_ray-first.ensures.ray
+    c.strip_ray-row.result c.on_strip-marker.ensures c.grid-grid.ensures c.strip_ray-row.ensures.there c.strip_ray-row.ensures.ray
     c.marker-mover.ensures.marker in
-    let near = near_of a.plan.now a.number a.strip c.new-near.result c.cylinder.result.now c.grid-grid.result.now c.strip_ray-first.result
-    c.new-near.ensures c.grid-grid.ensures c.strip_ray-first.ensures.there c.strip_ray-first.ensures.ray c.cylinder.ensures in
-    let ready = ready_at a.plan.now a.number a.strip n c.on_strip-marker.result c.new-near.result (kept_of k.rays n) c.in-Some.asked.window
+    let near = near_of a.plan.now a.number a.strip c.new-near.result c.cylinder.result.now c.grid-grid.result.now c.strip_ray-row.result
+    c.new-near.ensures c.grid-grid.ensures c.strip_ray-row.ensures.there c.strip_ray-row.ensures.ray c.cylinder.ensures in
+    let ready = ready_at a.plan.now a.number a.strip n c.on_strip-marker.result c.new-near.result (kept_of k.rays n) c.strip_along-along.result
     c.requires.plan c.requires.number c.requires.strip on_strip marker near
-    (sets_at a.plan.now.grid a.strip a.rays.now k.rays n c.requires.rays k.invariant.same lt) next.asked.window in
+    (sets_at a.plan.now.grid a.strip a.rays.now k.rays n c.requires.rays k.invariant.same lt)
+    (along_on a.plan.now a.number a.strip n c.new-near.result c.strip_along-along.result near on_strip
+    (along_of a.plan.now a.number c.new-near.result _ c.strip_along-along.result c.new-near.ensures c.strip_along-along.ensures)) in
     record {
       ray = subst (λ (r : KeptSets). AreSetsOf (ray_at c.on_strip-marker.result n) r.sets) own ready.sets;
       window = ready.window;
       node = node_within a.plan.now a.number a.strip n c.on_strip-marker.result marker on_strip;
       n = near_node a.plan.now a.number a.strip n c.new-near.result near on_strip;
       near = ready.near;
-      first = subst (λ (r : KeptSets). IsFirstAsked (near_ray_at c.new-near.result n) r.sets c.in-Some.asked.window c.in-Some.asked.first) own
-          next.asked.start;
+      first = subst (λ (r : KeptSets). IsFirstAsked (near_ray_at c.new-near.result n) r.sets c.strip_along-along.result c.in-Some.first) own
+          next.asked;
       room = within_more ((n - a.window.0) * 4294967295) (most_count - 8589934592) k.marked.counts (omega arith) next.within;
     }
 
@@ -112,37 +137,30 @@ returns-in_err-mark_asked-clause-same c =
     let a = c.args in
     let k = c.loop-next in
     let n = c.in-Some.n in
-    let next = some_told (IsNextRay a.plan.now a.number a.strip c.new-near.result a.rays.now k.rays k.marked a.window.0 a.window.1) k.next
-    (n, c.in-Some.asked) k.invariant.some c.in-Some.is in
+    let next = some_told (IsNextRay a.plan.now a.number a.strip c.new-near.result c.strip_along-along.result a.rays.now k.rays k.marked a.window.0 a.window.1) k.next
+    (n, c.in-Some.first) k.invariant.some c.in-Some.is in
     same_set a.rays.now k.rays n c.index-rays-n.result c.mark_asked.new.ray k.invariant.same (omega (arith, next.below, c.requires.within))
     c.in_err-mark_asked.ensures.same
-
-pub first_ray-next-requires-in-Some-clause-rays : goal.first_ray-next-requires-in-Some-clause-rays
-first_ray-next-requires-in-Some-clause-rays c =
-    let a = c.args in
-    let k = c.loop-next in
-    let n = c.in-Some.n in
-    let next = some_told (IsNextRay a.plan.now a.number a.strip c.new-near.result a.rays.now k.rays k.marked a.window.0 a.window.1) k.next
-    (n, c.in-Some.asked) k.invariant.some c.in-Some.is in
-    are_rays_still a.plan.now.grid a.strip a.rays.now _ c.requires.rays
-    (same_set a.rays.now k.rays n c.index-rays-n.result c.mark_asked.new.ray k.invariant.same (omega (arith, next.below, c.requires.within))
-    c.in_ok-mark_asked.ensures.same)
-
-pub first_ray-next-requires-in-Some-clause-near : goal.first_ray-next-requires-in-Some-clause-near
-first_ray-next-requires-in-Some-clause-near c =
-    let a = c.args in
-    near_of a.plan.now a.number a.strip c.new-near.result c.cylinder.result.now c.grid-grid.result.now c.strip_ray-first.result
-    c.new-near.ensures c.grid-grid.ensures c.strip_ray-first.ensures.there c.strip_ray-first.ensures.ray c.cylinder.ensures
 
 pub loop-next-smaller : goal.loop-next-smaller
 loop-next-smaller c =
     let a = c.args in
     let k = c.loop-next in
     let n = c.in-Some.n in
-    let next = some_told (IsNextRay a.plan.now a.number a.strip c.new-near.result a.rays.now k.rays k.marked a.window.0 a.window.1) k.next
-    (n, c.in-Some.asked) k.invariant.some c.in-Some.is in
-    fewer_left a.plan.now a.number a.strip c.new-near.result _ n a.window.1 c.in-Some.asked k.next c.first_ray-next-in-Some.result
-    c.in-Some.is next.below c.first_ray-next-in-Some.ensures.some
+    let window = c.strip_along-along.result in
+    let near = near_of a.plan.now a.number a.strip c.new-near.result c.cylinder.result.now c.grid-grid.result.now c.strip_ray-row.result
+    c.new-near.ensures c.grid-grid.ensures c.strip_ray-row.ensures.there c.strip_ray-row.ensures.ray c.cylinder.ensures in
+    let along = along_of a.plan.now a.number c.new-near.result _ window c.new-near.ensures c.strip_along-along.ensures in
+    let next = some_told (IsNextRay a.plan.now a.number a.strip c.new-near.result window a.rays.now k.rays k.marked a.window.0 a.window.1) k.next
+    (n, c.in-Some.first) k.invariant.some c.in-Some.is in
+    let same = same_set a.rays.now k.rays n c.index-rays-n.result c.mark_asked.new.ray k.invariant.same
+    (omega (arith, next.below, c.requires.within)) c.in_ok-mark_asked.ensures.same in
+    let rays = set k.rays n c.mark_asked.new.ray in
+    fewer_left a.plan.now a.number a.strip c.new-near.result window rays n a.window.1 c.in-Some.first k.next c.first_in-next-in-Some.result
+    c.in-Some.is next.below
+    (first_found a.plan.now a.number a.strip (n + 1) a.window.1 c.new-near.result rays window c.first_in-next-in-Some.result c.requires.plan
+    c.requires.strip (are_rays_still a.plan.now.grid a.strip a.rays.now rays c.requires.rays same) near
+    (omega (arith, c.requires.within, same.many)) along c.first_in-next-in-Some.ensures.some)
 
 pub loop-next-preserved : goal.loop-next-preserved
 loop-next-preserved c =
@@ -154,19 +172,26 @@ loop-next-preserved c =
     let ray = c.mark_asked.new.ray in
     let after = c.mark_asked.new.marked in
     let span = (n - lo) * 4294967295 in
-    let next = some_told (IsNextRay a.plan.now a.number a.strip c.new-near.result a.rays.now k.rays k.marked lo hi) k.next
-    (n, c.in-Some.asked) k.invariant.some c.in-Some.is in
+    let next = some_told (IsNextRay a.plan.now a.number a.strip c.new-near.result c.strip_along-along.result a.rays.now k.rays k.marked lo hi) k.next
+    (n, c.in-Some.first) k.invariant.some c.in-Some.is in
     let lt : n < length a.rays.now = omega (arith, next.below, c.requires.within) in
     let own = own_of k.rays n c.index-rays-n.result ray (omega (arith, lt, k.invariant.same.many)) c.in_ok-mark_asked.ensures.same in
     let same = same_set a.rays.now k.rays n c.index-rays-n.result ray k.invariant.same lt c.in_ok-mark_asked.ensures.same in
     let marker = marker_of a.plan.now a.number a.strip c.on_strip-marker.result c.marker-mover.result c.grid-grid.result.now
-    c.strip_ray-first.result c.on_strip-marker.ensures c.grid-grid.ensures c.strip_ray-first.ensures.there c.strip_ray-first.ensures.ray
+    c.strip_ray-row.result c.on_strip-marker.ensures c.grid-grid.ensures c.strip_ray-row.ensures.there c.strip_ray-row.ensures.ray
     c.marker-mover.ensures.marker in
     let adds : (move : JobMove) → HasNumber a.plan.now a.number move → Adds k.marked after (λ added found.
     IsRayMarked ray (sure_there a.plan.now move a.strip n) (possible_there a.plan.now move a.strip n) move.rapid n added found) =
-    λ move has. marked_by a.plan.now move a.strip n (ray_at c.on_strip-marker.result n) c.shared_by-shared.result.rapid ray k.marked after
+    λ move has. marked_by a.plan.now move a.strip n (ray_at c.on_strip-marker.result n) c.is_rapid-rapid.result ray k.marked after
     (marker_is a.plan.now a.number a.strip n move c.on_strip-marker.result marker has (omega (arith, lt, c.requires.rays.many)))
-    (c.shared_by-shared.ensures.rapid move has) c.in_ok-mark_asked.ensures.marked in
+    (c.is_rapid-rapid.ensures move has) c.in_ok-mark_asked.ensures.marked in
+    let near = near_of a.plan.now a.number a.strip c.new-near.result c.cylinder.result.now c.grid-grid.result.now c.strip_ray-row.result
+    c.new-near.ensures c.grid-grid.ensures c.strip_ray-row.ensures.there c.strip_ray-row.ensures.ray c.cylinder.ensures in
+    let window = c.strip_along-along.result in
+    let along = along_of a.plan.now a.number c.new-near.result _ window c.new-near.ensures c.strip_along-along.ensures in
+    let rays = set k.rays n ray in
+    let still = are_rays_still a.plan.now.grid a.strip a.rays.now rays c.requires.rays same in
+    let end : hi ≤ length rays = omega (arith, c.requires.within, same.many) in
     let some = some_move a.plan.now a.number c.requires.number in
     let within = within_more (span + 4294967295) ((n + 1 - lo) * 4294967295) after.counts (omega (arith, next.from))
     (within_next a.plan.now some.0 a.strip n span ray k.marked after next.within (adds some.0 some.1)) in
@@ -176,9 +201,12 @@ loop-next-preserved c =
     next.from lt (next.ahead move has) (adds move has) in
     record {
       same = same;
-      none = nothing_more a.plan.now a.number a.strip a.rays.now (set k.rays n ray) after lo (n + 1) hi c.first_ray-next-in-Some.result same
-          (omega (arith, next.from)) (omega (arith, next.below)) c.requires.within done c.first_ray-next-in-Some.ensures.none;
-      some = next_more a.plan.now a.number a.strip c.new-near.result a.rays.now (set k.rays n ray) after lo (n + 1) hi
-          c.first_ray-next-in-Some.result same (omega (arith, next.from)) c.requires.within within done
-          c.first_ray-next-in-Some.ensures.some;
+      none = nothing_more a.plan.now a.number a.strip a.rays.now (set k.rays n ray) after lo (n + 1) hi c.first_in-next-in-Some.result same
+          (omega (arith, next.from)) (omega (arith, next.below)) c.requires.within done
+          (none_found a.plan.now a.number a.strip (n + 1) hi c.new-near.result rays window c.first_in-next-in-Some.result c.requires.plan
+          c.requires.strip still near end along c.first_in-next-in-Some.ensures.none);
+      some = next_more a.plan.now a.number a.strip c.new-near.result c.strip_along-along.result a.rays.now (set k.rays n ray) after lo (n + 1) hi
+          c.first_in-next-in-Some.result same (omega (arith, next.from)) c.requires.within within done
+          (first_found a.plan.now a.number a.strip (n + 1) hi c.new-near.result rays window c.first_in-next-in-Some.result c.requires.plan
+          c.requires.strip still near end along c.first_in-next-in-Some.ensures.some);
     }

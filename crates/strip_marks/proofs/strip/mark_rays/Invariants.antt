@@ -11,7 +11,7 @@ invariant-loop-next l = record {
   same : HaveSameSets l.initial.rays l.rays;
   none : IfNone l.next ((move : JobMove) → HasNumber l.plan l.number move
       → AreRaysMarked l.plan move l.strip l.initial.rays l.rays l.fn.window.0 l.fn.window.1 l.marked.changes.items l.marked.counts);
-  some : IfSome l.next (IsNextRay l.plan l.number l.strip l.near l.initial.rays l.rays l.marked l.fn.window.0 l.fn.window.1);
+  some : IfSome l.next (IsNextRay l.plan l.number l.strip l.near l.along l.initial.rays l.rays l.marked l.fn.window.0 l.fn.window.1);
 }
 
 abbrev pub decreases-loop-next : goal.decreases-loop-next
