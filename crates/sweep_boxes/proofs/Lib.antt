@@ -13,6 +13,7 @@ pub mod Shortest
 pub mod Ascending
 pub mod Leveled
 pub mod Lined
+pub mod LineEnds
 pub mod Boxed
 pub mod Stepped
 pub mod Scales
