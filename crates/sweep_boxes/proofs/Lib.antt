@@ -15,6 +15,7 @@ pub mod Leveled
 pub mod Lined
 pub mod LineEnds
 pub mod Boxed
+pub mod BoxEnds
 pub mod Stepped
 pub mod Scales
 pub mod Largest
