@@ -21,3 +21,4 @@ pub mod Scales
 pub mod Largest
 pub mod Coarse
 pub mod Words
+pub mod ThreeWords
