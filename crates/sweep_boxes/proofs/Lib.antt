@@ -21,4 +21,5 @@ pub mod Scales
 pub mod Largest
 pub mod Coarse
 pub mod Words
+pub mod Spares
 pub mod ThreeWords
