@@ -112,29 +112,23 @@ pub fn length_up(a: i128, b: i128, c: i128) -> i128
 const SHORT: i128 = 18_446_744_073_709_551_615;
 
 /// The square root of a number of 64 bits, rounded up, by the kit's root.
-fn exact_root_up(n: u64) -> i128
-    ensures value { pos n ≤ℤ (result *ℤ result) }
-    ensures some { pos 0 ≤ℤ result }
-    ensures small { unsigned_abs result ≤ 10 ^ 18 }
+fn exact_root_up(n: u64) -> u64
+    ensures value { n ≤ result * result }
+    ensures small { result ≤ 2 ^ 32 }
 {
     let below = n.isqrt();
-    if below * below == n {
-        i128::from(below)
-    } else {
-        i128::from(below) + 1
-    }
+    if below * below == n { below } else { below + 1 }
 }
 
 /// The square root of a number of at most 16, rounded up.
 #[inline]
-fn tiny_root_up(n: u64) -> i128
+fn tiny_root_up(n: u64) -> u64
     requires { n ≤ 16 }
-    ensures value { pos n ≤ℤ (result *ℤ result) }
-    ensures some { pos 0 ≤ℤ result }
-    ensures small { unsigned_abs result ≤ 10 ^ 18 }
+    ensures value { n ≤ result * result }
+    ensures small { result ≤ 2 ^ 32 }
 {
     if n <= 1 {
-        i128::from(n)
+        n
     } else if n <= 4 {
         2
     } else if n <= 9 {
@@ -180,22 +174,31 @@ fn is_enough(root: u64, n: u64) -> bool
 /// are much quicker. They end at the root rounded down, so that the answer is the root rounded up. But a bound need not be the least one:
 /// so that nothing is to be proved of the steps, the square is looked at. It is not enough at the very last numbers of 64 bits alone, and
 /// their root is found as exactly as ever.
-fn short_root_up(n: u64) -> i128
-    ensures value { pos n ≤ℤ (result *ℤ result) }
-    ensures some { pos 0 ≤ℤ result }
-    ensures small { unsigned_abs result ≤ 10 ^ 18 }
+fn quick_root_up(n: u64) -> u64
+    ensures value { n ≤ result * result }
+    ensures small { result ≤ 2 ^ 32 }
 {
     if n < 16 {
         return tiny_root_up(n);
     }
     let near = nearer(nearer(nearer(first_guess(n), n), n), n);
     if is_enough(near, n) {
-        i128::from(near)
+        near
     } else if is_enough(near + 1, n) {
-        i128::from(near + 1)
+        near + 1
     } else {
         exact_root_up(n)
     }
+}
+
+/// At least the square root of a number of 64 bits, as a length.
+#[inline]
+fn short_root_up(n: u64) -> i128
+    ensures value { pos n ≤ℤ (result *ℤ result) }
+    ensures some { pos 0 ≤ℤ result }
+    ensures small { unsigned_abs result ≤ 10 ^ 18 }
+{
+    i128::from(quick_root_up(n))
 }
 
 /// No root here is greater.
