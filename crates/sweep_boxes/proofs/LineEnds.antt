@@ -1,14 +1,17 @@
 -- What the two ends of a line are found from, as words.
-use Rattle.std.proofs.Common.{◌≤◌, ◌<◌, ◌*◌, ◌^◌, ◌≤ℤ◌, ◌+◌, ◌+ℤ◌, ◌-ℤ◌, ℤ, pos, to_z, of_z, unsigned_abs, FitsSigned, arith}
+use Rattle.std.proofs.Common.{◌≡◌, ◌*ℤ◌, ◌≤◌, ◌<◌, ◌*◌, ◌^◌, ◌≤ℤ◌, ◌+◌, ◌+ℤ◌, ◌-ℤ◌, ℤ, pos, to_z, of_z, unsigned_abs, FitsSigned, arith, subst}
 use Rattle.std.proofs.lemmas.Int.{ints, to_z-of_z}
 use lib.Signed.{mag}
-use mir.Syntax.{w128}
+use mir.Syntax.{w32, w128}
 use borrow.Author.Differences.{abs_is}
 use Rattle.space.proofs.Facts.{fits128}
+use Rattle.space.proofs.Naturals.{natural}
 use Rattle.sweep_boxes.specs.Limits.{place_limit, side_limit}
+use Rattle.sweep_boxes.specs.Lines.{IsOnLine}
 use Rattle.sweep_boxes.specs.declared.held.Hold.{Hold}
 use Rattle.sweep_boxes.specs.declared.line.Line.{Line}
-use Rattle.sweep_boxes.proofs.Words.{fits_of, kept_axis, kept_height, kept_in, kept_square, kept_tip, small_in}
+use Rattle.sweep_boxes.proofs.Lined.{within_margin}
+use Rattle.sweep_boxes.proofs.Words.{fits_of, kept_axis, kept_height, kept_in, kept_square, kept_tip, place_fits, small_in}
 
 -- a bound of the heights times the axis with a margin before it, or after it
 abbrev pub less : ℤ → ℤ → ℤ
@@ -81,3 +84,49 @@ square_scaled line = record {
   some = kept_in (λ (z : ℤ). pos 1 ≤ℤ z) line.square (square_fits line.square line.square_small) line.some;
   square = kept_square line.square line.square_small;
 }
+
+-- a line's and a hold's own numbers are words
+pub line_fits : (line : Line) → record {
+  square : FitsSigned w128 line.square;
+  axis : FitsSigned w128 line.axis;
+  tip : FitsSigned w128 line.tip;
+  low : FitsSigned w32 line.low;
+  high : FitsSigned w32 line.high;
+}
+line_fits line = record {
+  square = square_fits line.square line.square_small;
+  axis = fits128 line.axis side_limit line.axis_small (omega arith);
+  tip = fits128 line.tip (128 * place_limit) line.tip_small (omega arith);
+  low = place_fits line.low line.low_small;
+  high = place_fits line.high line.high_small;
+}
+
+pub hold_fits : (hold : Hold) → record {
+  least : FitsSigned w128 hold.least;
+  most : FitsSigned w128 hold.most;
+  moment : FitsSigned w128 hold.moment;
+}
+hold_fits hold = record {
+  least = fits128 hold.least (4 * 10 ^ 18) hold.least_small (omega arith);
+  most = fits128 hold.most (4 * 10 ^ 18) hold.most_small (omega arith);
+  moment = fits128 hold.moment (3 * 10 ^ 18) hold.moment_small (omega arith);
+}
+
+-- a place on a line is at most the margin off what its height gives
+pub within_words : (line : Line) (hold : Hold) (wide margin z u : ℤ) → mag wide < 2 ^ 127 → mag margin < 2 ^ 127 → pos 0 ≤ℤ wide
+    → (to_z w128 (of_z w128 line.square) -ℤ to_z w128 (of_z w128 line.axis) *ℤ to_z w128 (of_z w128 line.axis)) ≤ℤ (wide *ℤ wide)
+    → margin ≡ to_z w128 (of_z w128 wide) *ℤ to_z w128 (of_z w128 hold.moment) → IsOnLine line hold z u
+    → ((u *ℤ line.axis -ℤ to_z w128 (of_z w128 margin)) ≤ℤ ((pos line.scale *ℤ z -ℤ line.tip) *ℤ line.square))
+    × (((pos line.scale *ℤ z -ℤ line.tip) *ℤ line.square) ≤ℤ (u *ℤ line.axis +ℤ to_z w128 (of_z w128 margin)))
+within_words line hold wide margin z u f g some aside is held =
+    let a = fits_of wide f in let m = fits_of margin g in
+    let record { square = square; axis = axis; tip = tip; low = low; high = high } = line_fits line in
+    let record { least = least; most = most; moment = moment } = hold_fits hold in
+    let narrow : (line.square -ℤ line.axis *ℤ line.axis) ≤ℤ (wide *ℤ wide) = simp to_z-of_z at aside in
+    let same : margin ≡ wide *ℤ hold.moment = simp to_z-of_z at is in
+    let k = natural wide some in
+    let near = held.near k.0 (subst (λ (y : ℤ). (line.square -ℤ line.axis *ℤ line.axis) ≤ℤ (y *ℤ y)) k.1 narrow) in
+    let both =
+    within_margin ((pos line.scale *ℤ z -ℤ line.tip) *ℤ line.square) (u *ℤ line.axis) hold.moment margin k.0 wide near k.1
+    hold.moment_some same in
+    (simp to_z-of_z both.0, simp to_z-of_z both.1)

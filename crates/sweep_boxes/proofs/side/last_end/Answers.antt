@@ -1,8 +1,7 @@
-use Rattle.std.proofs.Common.{◌≡◌, ◌≤ℤ◌, ◌*ℤ◌, ◌+ℤ◌, ℤ, pos, neg_ℤ, FitsSigned, rules}
+use Rattle.std.proofs.Common.{◌≡◌, ◌≤ℤ◌, ◌*ℤ◌, ◌+ℤ◌, ℤ, pos, neg_ℤ, rules}
 use Rattle.std.proofs.lemmas.Int.{to_z-of_z}
-use mir.Syntax.{w32, w128}
 use Rattle.sweep_boxes.specs.Limits.{place_limit}
-use Rattle.sweep_boxes.proofs.LineEnds.{bound_fits, bound_from_tip, heights_along, margin_after, more, square_scaled}
+use Rattle.sweep_boxes.proofs.LineEnds.{bound_fits, bound_from_tip, heights_along, hold_fits, line_fits, margin_after, more, square_scaled}
 use Rattle.sweep_boxes.proofs.Lined.{last_of, not_before}
 use Rattle.sweep_boxes.proofs.Words.{fits32, fits_of, kept, kept_place, place_fits}
 use Rattle.sweep_boxes.proofs.side.last_end.Goals as goal
@@ -47,13 +46,8 @@ returns-clause-value c z u after before above below far =
     let e = fits_of c.scaled.result c.scaled.type_inv in
     let p = fits_of c.quotient-place.result c.quotient-place.type_inv in
     let r = fits32 c.last_place.result c.last_place.type_inv in
-    let axis : FitsSigned w128 c.args.line.now.axis = search rules in
-    let tip : FitsSigned w128 c.args.line.now.tip = search rules in
-    let square : FitsSigned w128 c.args.line.now.square = search rules in
-    let least : FitsSigned w128 c.args.hold.now.least = search rules in
-    let most : FitsSigned w128 c.args.hold.now.most = search rules in
-    let low : FitsSigned w32 c.args.line.now.low = search rules in
-    let high : FitsSigned w32 c.args.line.now.high = search rules in
+    let record { square = square; axis = axis; tip = tip; low = low; high = high } = line_fits c.args.line.now in
+    let record { least = least; most = most; moment = moment } = hold_fits c.args.hold.now in
     let margin = c.ranges.margin in
     let x = c.most_along in
     let small = margin_after x.result c.args.margin x.type_inv c.ranges.margin x.ensures.small c.requires.margin in
