@@ -1,5 +1,5 @@
 -- A box that is found along each axis, whose ends are words.
-use Rattle.std.proofs.Common.{[], ◌∷◌, ◌≤ℤ◌, List, ℤ, to_z, of_z}
+use Rattle.std.proofs.Common.{[], ◌∷◌, ◌≤ℤ◌, List, ℤ, to_z, of_z, FitsSigned}
 use Rattle.std.proofs.lemmas.Int.{to_z-of_z}
 use mir.Syntax.{w32}
 use Rattle.space.specs.Ranges.{IsWithin}
@@ -16,16 +16,14 @@ words v = to_z w32 (of_z w32 (at v 0)) ∷ to_z w32 (of_z w32 (at v 1)) ∷ to_z
 pub words_within : (v : List ℤ) → IsWithin place_limit v → IsWithin place_limit (words v)
 words_within v small = (kept_place (at v 0) small.0, kept_place (at v 1) small.1, kept_place (at v 2) small.2)
 
+places_fit : (v : List ℤ) → IsWithin place_limit v → FitsSigned w32 (at v 0) × FitsSigned w32 (at v 1) × FitsSigned w32 (at v 2)
+places_fit v small = (place_fits (at v 0) small.0, place_fits (at v 1) small.1, place_fits (at v 2) small.2)
+
 -- what is between the places is between their words
 pub among_words : (low high p : List ℤ) → IsWithin place_limit low → IsWithin place_limit high
     → IsAmong low high p → IsAmong (words low) (words high) p
 among_words low high p l h inside =
-    let x0 = place_fits (at low 0) l.0 in
-    let y0 = place_fits (at low 1) l.1 in
-    let z0 = place_fits (at low 2) l.2 in
-    let x1 = place_fits (at high 0) h.0 in
-    let y1 = place_fits (at high 1) h.1 in
-    let z1 = place_fits (at high 2) h.2 in
+    let (x0, y0, z0) = places_fit low l in let (x1, y1, z1) = places_fit high h in
     simp to_z-of_z (record { x = inside.x; y = inside.y; z = inside.z })
 
 -- a box whose ends lie within those of another one lies in it
@@ -34,12 +32,7 @@ pub inner_words : (low high from to p : List ℤ) → IsWithin place_limit low �
     → (at high 0 ≤ℤ at to 0) × (at high 1 ≤ℤ at to 1) × (at high 2 ≤ℤ at to 2)
     → IsAmong (words low) (words high) p → IsAmong from to p
 inner_words low high from to p l h after before inside =
-    let x0 = place_fits (at low 0) l.0 in
-    let y0 = place_fits (at low 1) l.1 in
-    let z0 = place_fits (at low 2) l.2 in
-    let x1 = place_fits (at high 0) h.0 in
-    let y1 = place_fits (at high 1) h.1 in
-    let z1 = place_fits (at high 2) h.2 in
+    let (x0, y0, z0) = places_fit low l in let (x1, y1, z1) = places_fit high h in
     let here = simp to_z-of_z at inside in
     record {
       x = inner_range _ _ _ _ _ after.0 before.0 here.x;
