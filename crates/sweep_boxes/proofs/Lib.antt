@@ -13,9 +13,13 @@ pub mod Shortest
 pub mod Ascending
 pub mod Leveled
 pub mod Lined
+pub mod LineEnds
 pub mod Boxed
+pub mod BoxEnds
 pub mod Stepped
 pub mod Scales
 pub mod Largest
 pub mod Coarse
 pub mod Words
+pub mod Spares
+pub mod ThreeWords

@@ -62,9 +62,6 @@ pub small_up_to : (z : ℤ) (n : ℕ) → pos 0 ≤ℤ z → lt_z (pos n) z ≡ 
 small_up_to z n some h = omega (arith, ints, some, h, abs_is z)
 
 -- lengths that are added
-pub spare_some : (spare change two bent : ℤ) → spare ≡ change +ℤ two → two ≡ bent +ℤ bent → pos 0 ≤ℤ change → pos 0 ≤ℤ bent → pos 0 ≤ℤ spare
-spare_some spare change two bent e f h k = omega (arith, ints, e, f, h, k)
-
 pub summand : (z : ℤ) → mag z < 2 ^ 127 → unsigned_abs z ≤ 10 ^ 18 → unsigned_abs (to_z w128 (of_z w128 z)) ≤ 10 ^ 37
 summand z fits small = kept_small z (10 ^ 37) fits (wider (unsigned_abs z) small) where
   wider : (n : ℕ) → n ≤ 10 ^ 18 → n ≤ 10 ^ 37

@@ -1,4 +1,4 @@
-ghost use Rattle.std.specs.Prelude.{◌≡◌, ◌*◌, ◌<◌, ◌≤◌, ◌*ℤ◌, ◌-ℤ◌, ℤ, List, pos, ◌≤ℤ◌, ◌+ℤ◌, ◌^◌, unsigned_abs};
+ghost use Rattle.std.specs.Prelude.{◌≡◌, ◌*◌, ◌<◌, ◌≤◌, ◌*ℤ◌, ◌-ℤ◌, ℤ, List, pos, ◌≤ℤ◌, ◌+ℤ◌, ◌^◌, unsigned_abs, true};
 ghost use Rattle.space.specs.Ranges.{IsWithin};
 ghost use Rattle.space.specs.Vectors.{at, dot};
 ghost use Rattle.sweep_boxes.specs.Limits.{place_limit, side_limit};
@@ -108,21 +108,97 @@ pub fn length_up(a: i128, b: i128, c: i128) -> i128
     root_up(square(a) + square(b) + square(c))
 }
 
-/// The greatest number of 64 bits. Most squares are no greater, and their roots are found in half as many steps, of one word each.
+/// The greatest number of 64 bits. Most squares are no greater, and their roots are found in words of 64 bits.
 const SHORT: i128 = 18_446_744_073_709_551_615;
 
-/// The square root of a number of 64 bits, rounded up.
+/// The square root of a number of 64 bits, rounded up, by the kit's root.
+fn exact_root_up(n: u64) -> u64
+    ensures value { n ≤ result * result }
+    ensures small { result ≤ 2 ^ 32 }
+{
+    let below = n.isqrt();
+    if below * below == n { below } else { below + 1 }
+}
+
+/// The square root of a number of at most 16, rounded up.
+#[inline]
+fn tiny_root_up(n: u64) -> u64
+    requires { n ≤ 16 }
+    ensures value { n ≤ result * result }
+    ensures small { result ≤ 2 ^ 32 }
+{
+    if n <= 1 {
+        n
+    } else if n <= 4 {
+        2
+    } else if n <= 9 {
+        3
+    } else {
+        4
+    }
+}
+
+/// A number near a square root, for Newton's rule to begin with: a line from a power of four to the next one, which stays within a
+/// thirtieth of the root, and two more, so that no divisor is less than two.
+#[inline]
+fn first_guess(n: u64) -> u64
+    requires { 1 ≤ n }
+    ensures some { 2 ≤ result }
+    ensures few { result ≤ 2 ^ 63 }
+{
+    let half = n.ilog2() / 2;
+    ((2 << half) + (n >> half)) * 11 / 32 + 2
+}
+
+/// A number nearer to a square root than this one, by Newton's rule. It is at least the root rounded down, whatever number this was.
+#[inline]
+fn nearer(root: u64, n: u64) -> u64
+    requires some { 2 ≤ root }
+    requires few { root ≤ 2 ^ 63 }
+    requires many { 16 ≤ n }
+    ensures some { 2 ≤ result }
+    ensures few { result ≤ 2 ^ 63 }
+{
+    (root + n / root) / 2
+}
+
+/// Whether a number has 32 bits and a square that is at least this.
+#[inline]
+fn is_enough(root: u64, n: u64) -> bool
+    ensures { result ≡ true → (root < 2 ^ 32) × (n ≤ root * root) }
+{
+    root < 1 << 32 && n <= root * root
+}
+
+/// At least the square root of a number of 64 bits. The kit's root is found bit by bit, and three steps of Newton's rule from a good guess
+/// are much quicker. They end at the root rounded down, so that the answer is the root rounded up. But a bound need not be the least one:
+/// so that nothing is to be proved of the steps, the square is looked at. It is not enough at the very last numbers of 64 bits alone, and
+/// their root is found as exactly as ever.
+fn quick_root_up(n: u64) -> u64
+    ensures value { n ≤ result * result }
+    ensures small { result ≤ 2 ^ 32 }
+{
+    if n < 16 {
+        return tiny_root_up(n);
+    }
+    let near = nearer(nearer(nearer(first_guess(n), n), n), n);
+    if is_enough(near, n) {
+        near
+    } else if is_enough(near + 1, n) {
+        near + 1
+    } else {
+        exact_root_up(n)
+    }
+}
+
+/// At least the square root of a number of 64 bits, as a length.
+#[inline]
 fn short_root_up(n: u64) -> i128
     ensures value { pos n ≤ℤ (result *ℤ result) }
     ensures some { pos 0 ≤ℤ result }
     ensures small { unsigned_abs result ≤ 10 ^ 18 }
 {
-    let below = n.isqrt();
-    if below * below == n {
-        i128::from(below)
-    } else {
-        i128::from(below) + 1
-    }
+    i128::from(quick_root_up(n))
 }
 
 /// No root here is greater.

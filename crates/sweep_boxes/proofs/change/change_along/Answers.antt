@@ -1,9 +1,9 @@
-use Rattle.std.proofs.Common.{◌≤◌, ◌<◌, ◌*◌, ◌^◌, ◌≡◌, ◌+ℤ◌, ℕ, ℤ, pos, unsigned_abs, FitsSigned, arith, subst, sym, ◌∙◌}
+use Rattle.std.proofs.Common.{◌≤◌, ◌<◌, ◌*◌, ◌^◌, ◌≡◌, ◌+ℤ◌, ℕ, ℤ, pos, unsigned_abs, arith, subst, sym, ◌∙◌}
 use Rattle.std.proofs.lemmas.Int.{ints}
-use mir.Syntax.{w128}
 use borrow.Author.Differences.{abs_is}
 use Rattle.sweep_boxes.specs.Limits.{side_limit}
-use Rattle.sweep_boxes.proofs.Words.{same_sum, sum_read, three_fit, three_read, two_fit, two_read}
+use Rattle.sweep_boxes.proofs.ThreeWords.{all_three_fit, first_two_fit}
+use Rattle.sweep_boxes.proofs.Words.{same_sum, sum_read}
 use Rattle.sweep_boxes.proofs.change.change_along.Goals as goal
 
 few : 3 * (2 * (side_limit * side_limit)) < 2 ^ 127
@@ -32,15 +32,15 @@ product-requires-2 c = record { i = c.requires.k; j = c.requires.j; p = c.requir
 pub overflow_add-result : goal.overflow_add-result
 overflow_add-result c =
     let x = c.length_along in let y = c.product in
-    subst (FitsSigned w128) (sym (two_read x.result y.result x.type_inv y.type_inv))
-    (two_fit x.result y.result _ (length_few x.result _ x.ensures c.requires.c) (product_few (unsigned_abs y.result) y.ensures.small) few)
+    let a = length_few x.result _ x.ensures c.requires.c in let b = product_few (unsigned_abs y.result) y.ensures.small in
+    first_two_fit x.result y.result _ few x.type_inv y.type_inv a b
 
 pub overflow_add-result-2 : goal.overflow_add-result-2
 overflow_add-result-2 c =
     let x = c.length_along in let y = c.product in let z = c.product-2 in
     let a = length_few x.result _ x.ensures c.requires.c in let b = product_few (unsigned_abs y.result) y.ensures.small in
-    subst (FitsSigned w128) (sym (three_read x.result y.result z.result _ x.type_inv y.type_inv z.type_inv a b few))
-    (three_fit x.result y.result z.result _ a b (product_few (unsigned_abs z.result) z.ensures.small) few)
+    let d = product_few (unsigned_abs z.result) z.ensures.small in
+    all_three_fit x.result y.result z.result _ few x.type_inv y.type_inv z.type_inv a b d
 
 pub returns : goal.returns
 returns c =

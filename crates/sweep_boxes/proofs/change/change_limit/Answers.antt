@@ -1,44 +1,45 @@
+use Rattle.std.proofs.Common.{◌≤◌, ◌<◌, ◌*◌, ℕ, ℤ, List, unsigned_abs}
 use Rattle.std.proofs.lemmas.Int.{to_z-of_z}
+use Rattle.space.specs.Ranges.{IsWithin}
 use Rattle.space.specs.Vectors.{at}
+use Rattle.sweep_boxes.specs.Limits.{side_limit}
+use Rattle.sweep_boxes.proofs.Boxed.{component_small}
 use Rattle.sweep_boxes.proofs.Numbers.{change_below, squares_below}
 use Rattle.sweep_boxes.proofs.Words.{at_x, at_y, at_z, fits_of, kept_small, kept_some}
 use Rattle.sweep_boxes.proofs.change.change_limit.Goals as goal
 
-pub change_along-requires : goal.change_along-requires
-change_along-requires c = record {
-  i = at_x;
-  j = at_y;
-  k = at_z;
-  c = c.requires.c.0;
-  far_j = c.requires.far.1;
-  far_k = c.requires.far.2;
-  turn_j = c.requires.turn.1;
-  turn_k = c.requires.turn.2;
+-- what is known of the vectors is known of their components
+axes_of : (d f t : List ℤ) (x y z : ℕ) → x < 3 → y < 3 → z < 3
+    → record { c : IsWithin (2 * (side_limit * side_limit)) d; far : IsWithin side_limit f; turn : IsWithin side_limit t }
+    → record {
+      i : x < 3;
+      j : y < 3;
+      k : z < 3;
+      c : unsigned_abs (at d x) ≤ 2 * (side_limit * side_limit);
+      far_j : unsigned_abs (at f y) ≤ side_limit;
+      far_k : unsigned_abs (at f z) ≤ side_limit;
+      turn_j : unsigned_abs (at t y) ≤ side_limit;
+      turn_k : unsigned_abs (at t z) ≤ side_limit;
+    }
+axes_of d f t x y z i j k known = record {
+  i = i;
+  j = j;
+  k = k;
+  c = component_small d x _ i known.c;
+  far_j = component_small f y _ j known.far;
+  far_k = component_small f z _ k known.far;
+  turn_j = component_small t y _ j known.turn;
+  turn_k = component_small t z _ k known.turn;
 }
+
+pub change_along-requires : goal.change_along-requires
+change_along-requires c = axes_of c.args.c.now c.args.far.now c.args.turn.now 0 1 2 at_x at_y at_z c.requires
 
 pub change_along-requires-2 : goal.change_along-requires-2
-change_along-requires-2 c = record {
-  i = at_y;
-  j = at_z;
-  k = at_x;
-  c = c.requires.c.1;
-  far_j = c.requires.far.2;
-  far_k = c.requires.far.0;
-  turn_j = c.requires.turn.2;
-  turn_k = c.requires.turn.0;
-}
+change_along-requires-2 c = axes_of c.args.c.now c.args.far.now c.args.turn.now 1 2 0 at_y at_z at_x c.requires
 
 pub change_along-requires-3 : goal.change_along-requires-3
-change_along-requires-3 c = record {
-  i = at_z;
-  j = at_x;
-  k = at_y;
-  c = c.requires.c.2;
-  far_j = c.requires.far.0;
-  far_k = c.requires.far.1;
-  turn_j = c.requires.turn.0;
-  turn_k = c.requires.turn.1;
-}
+change_along-requires-3 c = axes_of c.args.c.now c.args.far.now c.args.turn.now 2 0 1 at_z at_x at_y c.requires
 
 pub length_up-requires : goal.length_up-requires
 length_up-requires c = record {

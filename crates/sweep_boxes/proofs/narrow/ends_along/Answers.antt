@@ -1,10 +1,14 @@
-use Rattle.std.proofs.Common.{◌≤◌, ◌≤ℤ◌, ◌*◌, ℤ, pos, unsigned_abs, FitsSigned, arith}
+use Rattle.std.proofs.Common.{◌≡◌, ◌<◌, ◌≤◌, ◌≤ℤ◌, ◌*◌, ℕ, ℤ, List, pos, to_z, of_z, unsigned_abs, FitsSigned, arith, refl}
 use Rattle.std.proofs.lemmas.Int.{to_z-of_z}
-use mir.Syntax.{w128}
+use mir.Syntax.{w32, w128}
 use Rattle.space.specs.Vectors.{at, dot}
 use Rattle.space.proofs.Facts.{fits128}
 use Rattle.sweep_boxes.specs.Limits.{place_limit, side_limit}
+use Rattle.sweep_boxes.specs.Lines.{IsHeldPlace, IsOnLine}
 use Rattle.sweep_boxes.specs.Pieces.{offset_from}
+use Rattle.sweep_boxes.specs.declared.held.Hold.{Hold}
+use Rattle.sweep_boxes.specs.declared.line.Line.{Line}
+use Rattle.sweep_boxes.specs.declared.piece.Piece.{Piece}
 use Rattle.sweep_boxes.proofs.Boxed.{component_small, near_of, part_of}
 use Rattle.sweep_boxes.proofs.Words.{kept_axis, kept_place, kept_square, kept_tip, place_fits}
 use Rattle.sweep_boxes.proofs.narrow.ends_along.Goals as goal
@@ -50,36 +54,60 @@ invariant_of-line c =
       high_small = kept_place (at region.high i) c.requires.high;
     }
 
-pub returns-clause-first : goal.returns-clause-first
-returns-clause-first c p held after before =
-    let i = c.args.i in let l = c.requires.i in
-    let axes = component_small c.args.piece.now.axis c.args.i side_limit c.requires.i c.args.piece.now.axis_within in let axis = axis_fits (at c.args.piece.now.axis c.args.i) axes in
-    let tips = component_small c.args.piece.now.tip c.args.i (128 * place_limit) c.requires.i c.args.piece.now.tip_within in let tip = tip_fits (at c.args.piece.now.tip c.args.i) tips in
-    let low = place_fits (at c.args.region.now.low c.args.i) c.requires.low in
-    let high = place_fits (at c.args.region.now.high c.args.i) c.requires.high in
-    let square = c.ranges.square in
-    let u = dot (offset_from (pos c.args.piece.now.scale) c.args.piece.now.tip p) c.args.piece.now.axis in
-    c.ends.ensures.first (at p c.args.i) u record {
-      after = simp to_z-of_z after;
-      before = simp to_z-of_z before;
+-- the numbers of the line read as those that it is made of
+abbrev word : ℤ → ℤ
+word z = to_z w128 (of_z w128 z)
+
+line_read : (piece : Piece) (square : ℤ) (lows highs : List ℤ) (i : ℕ) → i < 3 → FitsSigned w128 square
+    → unsigned_abs (at lows i) ≤ place_limit → unsigned_abs (at highs i) ≤ place_limit
+    → record {
+      whole : word square ≡ square;
+      axis : word (at piece.axis i) ≡ at piece.axis i;
+      tip : word (at piece.tip i) ≡ at piece.tip i;
+      low : to_z w32 (of_z w32 (at lows i)) ≡ at lows i;
+      high : to_z w32 (of_z w32 (at highs i)) ≡ at highs i;
+    }
+line_read piece square lows highs i l fits low high = record {
+  whole = to_z-of_z w128 square fits;
+  axis = to_z-of_z w128 (at piece.axis i) (axis_fits (at piece.axis i) (component_small piece.axis i side_limit l piece.axis_within));
+  tip = to_z-of_z w128 (at piece.tip i) (tip_fits (at piece.tip i) (component_small piece.tip i (128 * place_limit) l piece.tip_within));
+  low = to_z-of_z w32 (at lows i) (place_fits (at lows i) low);
+  high = to_z-of_z w32 (at highs i) (place_fits (at highs i) high);
+}
+
+-- a place that is held on the piece is held on the line
+on_line : (line : Line) (hold : Hold) (piece : Piece) (square : ℤ) (lows highs p : List ℤ) (i : ℕ) → i < 3
+    → square ≡ dot piece.axis piece.axis → line.scale ≡ piece.scale
+    → record {
+      whole : line.square ≡ square;
+      axis : line.axis ≡ at piece.axis i;
+      tip : line.tip ≡ at piece.tip i;
+      low : line.low ≡ at lows i;
+      high : line.high ≡ at highs i;
+    }
+    → IsHeldPlace hold piece p → at lows i ≤ℤ at p i → at p i ≤ℤ at highs i
+    → IsOnLine line hold (at p i) (dot (offset_from (pos piece.scale) piece.tip p) piece.axis)
+on_line line hold piece square lows highs p i l is scale read held after before =
+    let whole = read.whole in let axis = read.axis in let tip = read.tip in let low = read.low in let high = read.high in
+    record {
+      after = simp low after;
+      before = simp high before;
       above = held.above;
       below = held.below;
-      near = λ k narrow. simp to_z-of_z (near_of (pos c.args.piece.now.scale) c.args.hold.now.moment c.args.square c.args.piece.now.tip p c.args.piece.now.axis c.args.i k c.requires.i c.requires.square held.beside (simp to_z-of_z at narrow));
+      near = λ k narrow. simp (whole, axis, tip, scale) (near_of (pos piece.scale) hold.moment square piece.tip p piece.axis i k l is
+          held.beside (simp (whole, axis) at narrow));
     }
+
+pub returns-clause-first : goal.returns-clause-first
+returns-clause-first c p held after before =
+    let piece = c.args.piece.now in let region = c.args.region.now in let i = c.args.i in
+    let read = line_read piece c.args.square region.low region.high i c.requires.i c.ranges.square c.requires.low c.requires.high in
+    c.ends.ensures.first (at p i) _
+    (on_line _ c.args.hold.now piece c.args.square region.low region.high p i c.requires.i c.requires.square refl read held after before)
 
 pub returns-clause-last : goal.returns-clause-last
 returns-clause-last c p held after before =
-    let i = c.args.i in let l = c.requires.i in
-    let axes = component_small c.args.piece.now.axis c.args.i side_limit c.requires.i c.args.piece.now.axis_within in let axis = axis_fits (at c.args.piece.now.axis c.args.i) axes in
-    let tips = component_small c.args.piece.now.tip c.args.i (128 * place_limit) c.requires.i c.args.piece.now.tip_within in let tip = tip_fits (at c.args.piece.now.tip c.args.i) tips in
-    let low = place_fits (at c.args.region.now.low c.args.i) c.requires.low in
-    let high = place_fits (at c.args.region.now.high c.args.i) c.requires.high in
-    let square = c.ranges.square in
-    let u = dot (offset_from (pos c.args.piece.now.scale) c.args.piece.now.tip p) c.args.piece.now.axis in
-    c.ends.ensures.last (at p c.args.i) u record {
-      after = simp to_z-of_z after;
-      before = simp to_z-of_z before;
-      above = held.above;
-      below = held.below;
-      near = λ k narrow. simp to_z-of_z (near_of (pos c.args.piece.now.scale) c.args.hold.now.moment c.args.square c.args.piece.now.tip p c.args.piece.now.axis c.args.i k c.requires.i c.requires.square held.beside (simp to_z-of_z at narrow));
-    }
+    let piece = c.args.piece.now in let region = c.args.region.now in let i = c.args.i in
+    let read = line_read piece c.args.square region.low region.high i c.requires.i c.ranges.square c.requires.low c.requires.high in
+    c.ends.ensures.last (at p i) _
+    (on_line _ c.args.hold.now piece c.args.square region.low region.high p i c.requires.i c.requires.square refl read held after before)

@@ -1,8 +1,14 @@
-use Rattle.std.proofs.Common.{pos, to_z, of_z}
+use Rattle.std.proofs.Common.{◌≡◌, false, [], ◌∷◌, ◌*◌, ◌^◌, ◌≤◌, ◌<◌, ◌≤ℤ◌, ℕ, ℤ, List, pos, to_z, of_z, unsigned_abs}
+use Rattle.std.specs.Int.Signed.{lt_z}
 use Rattle.std.proofs.lemmas.Int.{to_z-of_z}
+use lib.Signed.{mag}
 use mir.Syntax.{w128}
-use Rattle.sweep_boxes.proofs.Boxed.{among_of, held_of, inner_range}
-use Rattle.sweep_boxes.proofs.Words.{at_x, at_y, at_z, kept_place, kept_small, not_below, place_fits, read_as, small32_in}
+use Rattle.space.specs.Ranges.{IsWithin}
+use Rattle.space.specs.Vectors.{at, dot}
+use Rattle.sweep_boxes.specs.Limits.{place_limit, side_limit}
+use Rattle.sweep_boxes.proofs.BoxEnds.{among_words, inner_words, words_within}
+use Rattle.sweep_boxes.proofs.Boxed.{among_of, component_small, held_of}
+use Rattle.sweep_boxes.proofs.Words.{at_x, at_y, at_z, kept_small, not_below, read_as, small32_in}
 use Rattle.sweep_boxes.proofs.narrow.narrowed.Goals as goal
 
 pub dot-square-requires : goal.dot-square-requires
@@ -22,55 +28,54 @@ hold_of-hold-requires c = record {
   high = c.offset_from-high.ensures.small;
 }
 
+-- what is known of a square and of a region is known along each axis
+axis_of : (axis lows highs : List ℤ) (whole : ℤ) (k : ℕ) → k < 3 → mag whole < 2 ^ 127
+    → record { value : whole ≡ dot axis axis; small : unsigned_abs whole ≤ 3 * (side_limit * side_limit) }
+    → lt_z (to_z w128 (of_z w128 whole)) (pos 1) ≡ false → IsWithin place_limit lows → IsWithin place_limit highs
+    → record {
+      i : k < 3;
+      square : to_z w128 (of_z w128 whole) ≡ dot axis axis;
+      some : pos 1 ≤ℤ to_z w128 (of_z w128 whole);
+      few : unsigned_abs (to_z w128 (of_z w128 whole)) ≤ 3 * (side_limit * side_limit);
+      low : unsigned_abs (at lows k) ≤ place_limit;
+      high : unsigned_abs (at highs k) ≤ place_limit;
+    }
+axis_of axis lows highs whole k l fits known some low high = record {
+  i = l;
+  square = read_as whole _ fits known.value;
+  some = not_below (to_z w128 (of_z w128 whole)) (pos 1) some;
+  few = kept_small whole _ fits known.small;
+  low = component_small lows k _ l low;
+  high = component_small highs k _ l high;
+}
+
 pub ends_along-x0-requires : goal.ends_along-x0-requires
 ends_along-x0-requires c =
-    let square = c.dot-square in
-    record {
-      i = at_x;
-      square = read_as square.result _ square.type_inv square.ensures.value;
-      some = not_below (to_z w128 (of_z w128 square.result)) (pos 1) c.if-square-lt1.false;
-      few = kept_small square.result _ square.type_inv square.ensures.small;
-      low = c.requires.low.0;
-      high = c.requires.high.0;
-    }
+    let square = c.dot-square in let region = c.args.region.now in
+    axis_of c.args.piece.now.axis region.low region.high square.result 0 at_x square.type_inv square.ensures c.if-square-lt1.false
+    c.requires.low c.requires.high
 
 pub ends_along-y0-requires : goal.ends_along-y0-requires
 ends_along-y0-requires c =
-    let square = c.dot-square in
-    record {
-      i = at_y;
-      square = read_as square.result _ square.type_inv square.ensures.value;
-      some = not_below (to_z w128 (of_z w128 square.result)) (pos 1) c.if-square-lt1.false;
-      few = kept_small square.result _ square.type_inv square.ensures.small;
-      low = c.requires.low.1;
-      high = c.requires.high.1;
-    }
+    let square = c.dot-square in let region = c.args.region.now in
+    axis_of c.args.piece.now.axis region.low region.high square.result 1 at_y square.type_inv square.ensures c.if-square-lt1.false
+    c.requires.low c.requires.high
 
 pub ends_along-z0-requires : goal.ends_along-z0-requires
 ends_along-z0-requires c =
-    let square = c.dot-square in
-    record {
-      i = at_z;
-      square = read_as square.result _ square.type_inv square.ensures.value;
-      some = not_below (to_z w128 (of_z w128 square.result)) (pos 1) c.if-square-lt1.false;
-      few = kept_small square.result _ square.type_inv square.ensures.small;
-      low = c.requires.low.2;
-      high = c.requires.high.2;
-    }
+    let square = c.dot-square in let region = c.args.region.now in
+    axis_of c.args.piece.now.axis region.low region.high square.result 2 at_z square.type_inv square.ensures c.if-square-lt1.false
+    c.requires.low c.requires.high
 
 pub returns-clause-low : goal.returns-clause-low
-returns-clause-low c = (
-  kept_place c.ends_along-x0.result.0 c.ends_along-x0.ensures.low_small,
-  kept_place c.ends_along-y0.result.0 c.ends_along-y0.ensures.low_small,
-  kept_place c.ends_along-z0.result.0 c.ends_along-z0.ensures.low_small,
-)
+returns-clause-low c =
+    let x = c.ends_along-x0 in let y = c.ends_along-y0 in let z = c.ends_along-z0 in
+    words_within (x.result.0 ∷ y.result.0 ∷ z.result.0 ∷ []) (x.ensures.low_small, y.ensures.low_small, z.ensures.low_small)
 
 pub returns-clause-high : goal.returns-clause-high
-returns-clause-high c = (
-  kept_place c.ends_along-x0.result.1 c.ends_along-x0.ensures.high_small,
-  kept_place c.ends_along-y0.result.1 c.ends_along-y0.ensures.high_small,
-  kept_place c.ends_along-z0.result.1 c.ends_along-z0.ensures.high_small,
-)
+returns-clause-high c =
+    let x = c.ends_along-x0 in let y = c.ends_along-y0 in let z = c.ends_along-z0 in
+    words_within (x.result.1 ∷ y.result.1 ∷ z.result.1 ∷ []) (x.ensures.high_small, y.ensures.high_small, z.ensures.high_small)
 
 pub returns-then-square-lt1 : goal.returns-then-square-lt1
 returns-then-square-lt1 c = record {
@@ -82,34 +87,33 @@ returns-then-square-lt1 c = record {
 
 pub returns-clause-kept : goal.returns-clause-kept
 returns-clause-kept c m k S slabs p of large inside left =
-    let x0 = place_fits c.ends_along-x0.result.0 c.ends_along-x0.ensures.low_small in
-    let x1 = place_fits c.ends_along-x0.result.1 c.ends_along-x0.ensures.high_small in
-    let y0 = place_fits c.ends_along-y0.result.0 c.ends_along-y0.ensures.low_small in
-    let y1 = place_fits c.ends_along-y0.result.1 c.ends_along-y0.ensures.high_small in
-    let z0 = place_fits c.ends_along-z0.result.0 c.ends_along-z0.ensures.low_small in
-    let z1 = place_fits c.ends_along-z0.result.1 c.ends_along-z0.ensures.high_small in
     let wide = c.ranges.widest in
     let tall = c.ranges.highest in
     let hold = c.hold_of-hold in
     let among = among_of c.args.piece.now m k S p c.args.region.now.low c.args.region.now.high c.offset_from-low.result c.offset_from-high.result of c.offset_from-low.ensures.value c.offset_from-high.ensures.value inside in
     let held = held_of c.args.piece.now m k S p hold.result.least hold.result.most hold.result.moment of (hold.ensures m k S slabs p of (simp to_z-of_z large) among left) in
-    simp to_z-of_z (record {
-      x = record { from_least = c.ends_along-x0.ensures.first p held inside.x.from_least inside.x.to_most; to_most = c.ends_along-x0.ensures.last p held inside.x.from_least inside.x.to_most };
-      y = record { from_least = c.ends_along-y0.ensures.first p held inside.y.from_least inside.y.to_most; to_most = c.ends_along-y0.ensures.last p held inside.y.from_least inside.y.to_most };
-      z = record { from_least = c.ends_along-z0.ensures.first p held inside.z.from_least inside.z.to_most; to_most = c.ends_along-z0.ensures.last p held inside.z.from_least inside.z.to_most };
+    let x = c.ends_along-x0 in let y = c.ends_along-y0 in let z = c.ends_along-z0 in
+    among_words (x.result.0 ∷ y.result.0 ∷ z.result.0 ∷ []) (x.result.1 ∷ y.result.1 ∷ z.result.1 ∷ []) p
+    (x.ensures.low_small, y.ensures.low_small, z.ensures.low_small) (x.ensures.high_small, y.ensures.high_small, z.ensures.high_small)
+    (record {
+      x = record {
+        from_least = x.ensures.first p held inside.x.from_least inside.x.to_most;
+        to_most = x.ensures.last p held inside.x.from_least inside.x.to_most;
+      };
+      y = record {
+        from_least = y.ensures.first p held inside.y.from_least inside.y.to_most;
+        to_most = y.ensures.last p held inside.y.from_least inside.y.to_most;
+      };
+      z = record {
+        from_least = z.ensures.first p held inside.z.from_least inside.z.to_most;
+        to_most = z.ensures.last p held inside.z.from_least inside.z.to_most;
+      };
     })
 
 pub returns-clause-within : goal.returns-clause-within
 returns-clause-within c p inside =
-    let x0 = place_fits c.ends_along-x0.result.0 c.ends_along-x0.ensures.low_small in
-    let x1 = place_fits c.ends_along-x0.result.1 c.ends_along-x0.ensures.high_small in
-    let y0 = place_fits c.ends_along-y0.result.0 c.ends_along-y0.ensures.low_small in
-    let y1 = place_fits c.ends_along-y0.result.1 c.ends_along-y0.ensures.high_small in
-    let z0 = place_fits c.ends_along-z0.result.0 c.ends_along-z0.ensures.low_small in
-    let z1 = place_fits c.ends_along-z0.result.1 c.ends_along-z0.ensures.high_small in
-    let here = simp to_z-of_z at inside in
-    record {
-      x = inner_range _ _ _ _ _ c.ends_along-x0.ensures.low c.ends_along-x0.ensures.high here.x;
-      y = inner_range _ _ _ _ _ c.ends_along-y0.ensures.low c.ends_along-y0.ensures.high here.y;
-      z = inner_range _ _ _ _ _ c.ends_along-z0.ensures.low c.ends_along-z0.ensures.high here.z;
-    }
+    let x = c.ends_along-x0 in let y = c.ends_along-y0 in let z = c.ends_along-z0 in
+    inner_words (x.result.0 ∷ y.result.0 ∷ z.result.0 ∷ []) (x.result.1 ∷ y.result.1 ∷ z.result.1 ∷ [])
+    c.args.region.now.low c.args.region.now.high p
+    (x.ensures.low_small, y.ensures.low_small, z.ensures.low_small) (x.ensures.high_small, y.ensures.high_small, z.ensures.high_small)
+    (x.ensures.low, y.ensures.low, z.ensures.low) (x.ensures.high, y.ensures.high, z.ensures.high) inside

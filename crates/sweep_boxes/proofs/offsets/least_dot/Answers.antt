@@ -1,8 +1,8 @@
-use Rattle.std.proofs.Common.{◌≤◌, ◌<◌, ◌*◌, ◌^◌, ◌≤ℤ◌, ℤ, unsigned_abs, FitsSigned, arith, subst, sym}
-use mir.Syntax.{w128}
+use Rattle.std.proofs.Common.{◌<◌, ◌*◌, ◌^◌, ◌≤ℤ◌, ℤ, arith, subst, sym}
 use Rattle.space.specs.Vectors.{at, dot}
 use Rattle.sweep_boxes.specs.Limits.{side_limit}
-use Rattle.sweep_boxes.proofs.Words.{at_x, at_y, at_z, sum_most, sum_read, three_fit, three_read, three_small, two_fit, two_read}
+use Rattle.sweep_boxes.proofs.ThreeWords.{all_three_fit, all_three_small, first_two_fit}
+use Rattle.sweep_boxes.proofs.Words.{at_x, at_y, at_z, sum_most, sum_read}
 use Rattle.sweep_boxes.proofs.offsets.least_dot.Goals as goal
 
 few : 3 * (side_limit * side_limit) < 2 ^ 127
@@ -20,13 +20,12 @@ least_product-requires-3 c = record { i = at_z; a = c.requires.a.2; low = c.requ
 pub overflow_add-result : goal.overflow_add-result
 overflow_add-result c =
     let x = c.least_product in let y = c.least_product-2 in
-    subst (FitsSigned w128) (sym (two_read x.result y.result x.type_inv y.type_inv)) (two_fit x.result y.result _ x.ensures.small y.ensures.small few)
+    first_two_fit x.result y.result _ few x.type_inv y.type_inv x.ensures.small y.ensures.small
 
 pub overflow_add-result-2 : goal.overflow_add-result-2
 overflow_add-result-2 c =
     let x = c.least_product in let y = c.least_product-2 in let z = c.least_product-3 in
-    subst (FitsSigned w128) (sym (three_read x.result y.result z.result _ x.type_inv y.type_inv z.type_inv x.ensures.small y.ensures.small few))
-    (three_fit x.result y.result z.result _ x.ensures.small y.ensures.small z.ensures.small few)
+    all_three_fit x.result y.result z.result _ few x.type_inv y.type_inv z.type_inv x.ensures.small y.ensures.small z.ensures.small
 
 pub returns : goal.returns
 returns c =
@@ -34,6 +33,8 @@ returns c =
     let read = sum_read x.result y.result z.result _ x.type_inv y.type_inv z.type_inv x.ensures.small y.ensures.small z.ensures.small few in
     record {
       value = λ v among. subst (λ (s : ℤ). s ≤ℤ dot v c.args.a.now) (sym read)
-          (sum_most _ _ _ _ _ _ (x.ensures.value (at v 0) among.x.from_least among.x.to_most) (y.ensures.value (at v 1) among.y.from_least among.y.to_most) (z.ensures.value (at v 2) among.z.from_least among.z.to_most));
-      small = subst (λ (s : ℤ). unsigned_abs s ≤ 3 * (side_limit * side_limit)) (sym read) (three_small x.result y.result z.result _ x.ensures.small y.ensures.small z.ensures.small);
+          (sum_most _ _ _ _ _ _ (x.ensures.value (at v 0) among.x.from_least among.x.to_most)
+          (y.ensures.value (at v 1) among.y.from_least among.y.to_most) (z.ensures.value (at v 2) among.z.from_least among.z.to_most));
+      small =
+          all_three_small x.result y.result z.result _ few x.type_inv y.type_inv z.type_inv x.ensures.small y.ensures.small z.ensures.small;
     }

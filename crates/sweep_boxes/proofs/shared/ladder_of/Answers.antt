@@ -1,11 +1,10 @@
-use Rattle.std.proofs.Common.{◌≡◌, false, ◌≤ℤ◌, ◌*◌, ◌^◌, ◌+ℤ◌, ◌*ℤ◌, List, ℤ, pos, to_z, of_z, arith, subst, ap, ◌∙◌}
+use Rattle.std.proofs.Common.{◌≡◌, false, ◌≤ℤ◌, ◌*ℤ◌, ℤ, pos, to_z, of_z, arith, subst}
 use Rattle.std.specs.Int.Signed.{lt_z}
 use Rattle.std.proofs.lemmas.Int.{ints, to_z-of_z}
 use mir.Syntax.{w128}
-use Rattle.space.specs.Vectors.{dot}
-use Rattle.sweep_boxes.specs.Vectors.{cross, sum}
+use Rattle.sweep_boxes.proofs.Spares.{bends_of, bent_parts, changes_of, spare_few, spare_is, spare_parts, spare_thirds}
 use Rattle.sweep_boxes.proofs.Stepped.{ladder_as}
-use Rattle.sweep_boxes.proofs.Words.{fits_of, kept_at_most, kept_small, kept_some, long_fits, long_in, long_some, read_out, small_up_to, spare_some, summand, twice, two_read}
+use Rattle.sweep_boxes.proofs.Words.{fits_of, kept_at_most, kept_small, kept_some, long_fits, long_in, long_some, read_out}
 use Rattle.sweep_boxes.proofs.shared.ladder_of.Goals as goal
 
 pub sizes-turn-requires : goal.sizes-turn-requires
@@ -24,14 +23,13 @@ pub length_limit-bent-requires : goal.length_limit-bent-requires
 length_limit-bent-requires c = c.cross-2.ensures.small
 
 pub sum-requires : goal.sum-requires
-sum-requires c =
-    let bent = c.length_limit-bent in let small = summand bent.result bent.type_inv bent.ensures.small in
-    record { a = small; b = small }
+sum-requires c = let bent = c.length_limit-bent in bent_parts bent.result bent.type_inv bent.ensures.small
 
 pub sum-spare-requires : goal.sum-spare-requires
 sum-spare-requires c =
-    let change = c.change_limit-change in let bent = c.length_limit-bent in
-    record { a = summand change.result change.type_inv change.ensures.small; b = twice c.sum.result bent.result c.sum.type_inv bent.type_inv c.sum.ensures.small bent.ensures.small }
+    let change = c.change_limit-change in let bent = c.length_limit-bent in let two = c.sum in
+    spare_parts change.result two.result bent.result change.type_inv two.type_inv bent.type_inv
+    change.ensures.small bent.ensures.small two.ensures.small
 
 pub lift_of-requires : goal.lift_of-requires
 lift_of-requires c = record { far = c.requires.far }
@@ -71,10 +69,11 @@ invariant_of-result c =
 pub third_of_square-requires : goal.third_of_square-requires
 third_of_square-requires c =
     let change = c.change_limit-change in let bent = c.length_limit-bent in let two = c.sum in let spare = c.sum-spare in
-    let two_is : two.result ≡ bent.result +ℤ bent.result = two.ensures.value ∙ two_read bent.result bent.result bent.type_inv bent.type_inv in
-    let spare_is : spare.result ≡ change.result +ℤ two.result = spare.ensures.value ∙ two_read change.result two.result change.type_inv two.type_inv in
-    let some = spare_some spare.result change.result two.result bent.result spare_is two_is change.ensures.some bent.ensures.some in
-    small_up_to (to_z w128 (of_z w128 spare.result)) (5 * 10 ^ 16) (kept_some spare.result spare.type_inv some) c.if-spare-gt50000000000000000.false
+    let is =
+    spare_is change.result bent.result two.result spare.result change.type_inv bent.type_inv two.type_inv
+    two.ensures.value spare.ensures.value in
+    spare_few spare.result change.result bent.result spare.type_inv is change.ensures.some bent.ensures.some
+    c.if-spare-gt50000000000000000.false
 
 at_most_of : (a b c : ℤ) → a ≤ℤ b → b ≤ℤ c → a ≤ℤ c
 at_most_of a b c h k = omega (arith, ints, h, k)
@@ -95,9 +94,9 @@ returns c =
     let f7 = fits_of c.stray_of.result c.stray_of.type_inv in
     let f8 = fits_of least.result least.type_inv in
     let l = long_fits piece.longest piece.long.0 piece.long.1 in
-    let two_is : two.result ≡ bent.result +ℤ bent.result = two.ensures.value ∙ two_read bent.result bent.result bent.type_inv bent.type_inv in
-    let spare_is : spare.result ≡ change.result +ℤ two.result = spare.ensures.value ∙ two_read change.result two.result change.type_inv two.type_inv in
-    let thirds : (spare.result *ℤ spare.result) ≤ℤ (pos 3 *ℤ c.third_of_square.result) = read_out (λ (z : ℤ). (z *ℤ z) ≤ℤ (pos 3 *ℤ c.third_of_square.result)) spare.result spare.type_inv c.third_of_square.ensures.value in
+    let is =
+    spare_is change.result bent.result two.result spare.result change.type_inv bent.type_inv two.type_inv
+    two.ensures.value spare.ensures.value in
     let down : (c.root_down.result *ℤ c.root_down.result) ≤ℤ least.result = read_out (λ (z : ℤ). (c.root_down.result *ℤ c.root_down.result) ≤ℤ z) least.result least.type_inv c.root_down.ensures.value in
     let long : piece.longest ≤ℤ (c.root_up.result *ℤ c.root_up.result) =
     subst (λ (z : ℤ). z ≤ℤ (c.root_up.result *ℤ c.root_up.result)) (to_z-of_z w128 piece.longest l) c.root_up.ensures.value in
@@ -120,9 +119,9 @@ returns c =
       last = at_most_of _ least.result _ down least.ensures.last;
     }
     long
-    (λ v nearer. subst (λ (d : List ℤ). dot (sum d (cross v piece.turn)) (sum d (cross v piece.turn)) ≤ℤ (change.result *ℤ change.result)) c.cross.ensures.value
-    (change.ensures.value v piece.turn nearer c.sizes-turn.ensures.value))
-    (subst (λ (d : List ℤ). dot d d ≤ℤ (bent.result *ℤ bent.result)) c.cross-2.ensures.value bent.ensures.value)
+    (changes_of piece far c.cross.result c.sizes-turn.result change.result
+    c.cross.ensures.value c.sizes-turn.ensures.value change.ensures.value)
+    (bends_of piece c.cross-2.result bent.result c.cross-2.ensures.value bent.ensures.value)
     c.short_square.ensures.value
-    (subst (λ (z : ℤ). (z *ℤ z) ≤ℤ (pos 3 *ℤ c.third_of_square.result)) (spare_is ∙ ap (λ z. change.result +ℤ z) two_is) thirds)
+    (spare_thirds spare.result _ c.third_of_square.result spare.type_inv is c.third_of_square.ensures.value)
     c.stray_of.ensures.value

@@ -1,11 +1,12 @@
-use Rattle.std.proofs.Common.{◌≡◌, ◌≤◌, ◌*◌, ◌^◌, ◌≤ℤ◌, ◌+ℤ◌, ◌-ℤ◌, ◌*ℤ◌, ℕ, ℤ, pos, unsigned_abs, FitsSigned, arith}
+use Rattle.std.proofs.Common.{◌≡◌, ◌≤◌, ◌*◌, ◌^◌, ◌≤ℤ◌, ◌+ℤ◌, ◌-ℤ◌, ◌*ℤ◌, ◌<◌, ℕ, ℤ, pos, to_z, of_z, unsigned_abs, FitsSigned, arith}
 use Rattle.std.proofs.lemmas.Int.{ints, to_z-of_z}
+use lib.Signed.{mag}
 use mir.Syntax.{w128}
 use borrow.Author.Differences.{abs_is}
 use Rattle.space.specs.Vectors.{dot}
 use Rattle.sweep_boxes.specs.Vectors.{difference, sum}
 use Rattle.sweep_boxes.proofs.Shortest.{difference_square, sum_square}
-use Rattle.sweep_boxes.proofs.Words.{fits_of, kept_at_most, kept_small, product_small}
+use Rattle.sweep_boxes.proofs.Words.{fits_of, kept, kept_at_most, kept_small, product_small}
 use Rattle.sweep_boxes.proofs.shared.least_square.Goals as goal
 
 -- the numbers are small
@@ -56,23 +57,51 @@ overflow_add-swing c =
 pub returns-clause-small : goal.returns-clause-small
 returns-clause-small c = kept_at_most c.lesser.result _ c.lesser.type_inv c.lesser.ensures.small
 
+-- the numbers as words, and what they read as
+abbrev square_sum : ℤ → ℤ → ℤ → ℤ
+square_sum x y s =
+    to_z w128 (of_z w128 (to_z w128 (of_z w128 x) +ℤ to_z w128 (of_z w128 y)))
+    -ℤ to_z w128 (of_z w128 (to_z w128 (of_z w128 s) +ℤ to_z w128 (of_z w128 s)))
+
+abbrev square_change : ℤ → ℤ → ℤ
+square_change x y = to_z w128 (of_z w128 x) -ℤ to_z w128 (of_z w128 y)
+
+squares_read : (x y s d : ℤ) → mag x < 2 ^ 127 → mag y < 2 ^ 127 → mag s < 2 ^ 127 → mag d < 2 ^ 127
+    → unsigned_abs x ≤ 27 * 10 ^ 16 → unsigned_abs y ≤ 27 * 10 ^ 16 → unsigned_abs d ≤ 27 * 10 ^ 16
+    → s ≡ pos (unsigned_abs (to_z w128 (of_z w128 d)))
+    → record {
+      swing : s ≡ pos (unsigned_abs d);
+      fits : FitsSigned w128 (square_sum x y s);
+      small : unsigned_abs (to_z w128 (of_z w128 (square_change x y))) ≤ 10 ^ 18;
+      sum : (r : ℤ) → r ≤ℤ to_z w128 (of_z w128 (square_sum x y s)) → r ≤ℤ ((x +ℤ y) -ℤ (s +ℤ s));
+      change : (r : ℤ) → r ≤ℤ to_z w128 (of_z w128 (square_change x y)) → r ≤ℤ (x -ℤ y);
+    }
+squares_read x y s d f g e t h k l is =
+    let a = fits_of x f in let b = fits_of y g in let c = fits_of s e in let o = fits_of d t in
+    let swing : s ≡ pos (unsigned_abs d) = simp to_z-of_z at is in
+    let w = whole_fits x y s (unsigned_abs d) h k swing l in
+    let w0 = w.0 in let w1 = w.1 in let w2 = w.2 in let w3 = w.3 in
+    record {
+      swing = swing;
+      fits = simp to_z-of_z w3;
+      small = simp to_z-of_z w.4;
+      sum = λ r below. simp to_z-of_z at below;
+      change = λ r below. simp to_z-of_z at below;
+    }
+
 pub overflow_sub-along-2 : goal.overflow_sub-along-2
 overflow_sub-along-2 c =
-    let a = fits_of c.dot-along.result c.dot-along.type_inv in let b = fits_of c.dot-turned.result c.dot-turned.type_inv in
-    let d = fits_of c.dot.result c.dot.type_inv in let s = fits_of c.distance-swing.result c.distance-swing.type_inv in
-    let swing : c.distance-swing.result ≡ pos (unsigned_abs c.dot.result) = simp to_z-of_z at c.distance-swing.ensures in
-    let f = whole_fits c.dot-along.result c.dot-turned.result c.distance-swing.result (unsigned_abs c.dot.result) c.dot-along.ensures.small c.dot-turned.ensures.small swing c.dot.ensures.small in
-    let f0 = f.0 in let f1 = f.1 in let f3 = f.3 in
-    simp to_z-of_z f3
+    let x = c.dot-along in let y = c.dot-turned in let d = c.dot in let s = c.distance-swing in
+    let read = squares_read x.result y.result s.result d.result x.type_inv y.type_inv s.type_inv d.type_inv
+    x.ensures.small y.ensures.small d.ensures.small s.ensures in
+    read.fits
 
 pub lesser-requires : goal.lesser-requires
 lesser-requires c =
-    let a = fits_of c.dot-along.result c.dot-along.type_inv in let b = fits_of c.dot-turned.result c.dot-turned.type_inv in
-    let d = fits_of c.dot.result c.dot.type_inv in let s = fits_of c.distance-swing.result c.distance-swing.type_inv in
-    let swing : c.distance-swing.result ≡ pos (unsigned_abs c.dot.result) = simp to_z-of_z at c.distance-swing.ensures in
-    let f = whole_fits c.dot-along.result c.dot-turned.result c.distance-swing.result (unsigned_abs c.dot.result) c.dot-along.ensures.small c.dot-turned.ensures.small swing c.dot.ensures.small in
-    let f2 = f.2 in let f4 = f.4 in
-    simp to_z-of_z f4
+    let x = c.dot-along in let y = c.dot-turned in let d = c.dot in let s = c.distance-swing in
+    let read = squares_read x.result y.result s.result d.result x.type_inv y.type_inv s.type_inv d.type_inv
+    x.ensures.small y.ensures.small d.ensures.small s.ensures in
+    read.small
 
 less_first : (r a b s d x y z t : ℤ) → a ≡ x → b ≡ y → d ≡ z → s ≡ pos (unsigned_abs d) → t ≡ (x +ℤ y) -ℤ pos 2 *ℤ z → r ≤ℤ ((a +ℤ b) -ℤ (s +ℤ s)) → r ≤ℤ t
 less_first r a b s d x y z t ea eb ed e f h = omega (arith, ints, ea, eb, ed, e, f, h, abs_is d)
@@ -85,41 +114,30 @@ less_middle r a b x y ea eb h = omega (arith, ints, ea, eb, h)
 
 pub returns-clause-first : goal.returns-clause-first
 returns-clause-first c =
-    let a = fits_of c.dot-along.result c.dot-along.type_inv in let b = fits_of c.dot-turned.result c.dot-turned.type_inv in
-    let d = fits_of c.dot.result c.dot.type_inv in let s = fits_of c.distance-swing.result c.distance-swing.type_inv in
-    let r = fits_of c.lesser.result c.lesser.type_inv in
-    let swing : c.distance-swing.result ≡ pos (unsigned_abs c.dot.result) = simp to_z-of_z at c.distance-swing.ensures in
-    let f = whole_fits c.dot-along.result c.dot-turned.result c.distance-swing.result (unsigned_abs c.dot.result) c.dot-along.ensures.small c.dot-turned.ensures.small swing c.dot.ensures.small in
-    let f0 = f.0 in let f1 = f.1 in let f3 = f.3 in
-    let x = c.args.piece.now.axis in let e = c.args.piece.now.turn in
-    let low : c.lesser.result ≤ℤ ((c.dot-along.result +ℤ c.dot-turned.result) -ℤ (c.distance-swing.result +ℤ c.distance-swing.result)) = simp to_z-of_z at c.lesser.ensures.second in
-    let less = less_first c.lesser.result c.dot-along.result c.dot-turned.result c.distance-swing.result c.dot.result (dot x x) (dot e e) (dot x e) (dot (difference x e) (difference x e))
-    c.dot-along.ensures.value c.dot-turned.ensures.value c.dot.ensures.value swing (difference_square x e) low in
-    simp to_z-of_z less
+    let x = c.dot-along in let y = c.dot-turned in let d = c.dot in let s = c.distance-swing in
+    let read = squares_read x.result y.result s.result d.result x.type_inv y.type_inv s.type_inv d.type_inv
+    x.ensures.small y.ensures.small d.ensures.small s.ensures in
+    let a = c.args.piece.now.axis in let t = c.args.piece.now.turn in let r = c.lesser in
+    let less = less_first r.result x.result y.result s.result d.result (dot a a) (dot t t) (dot a t) (dot (difference a t) (difference a t))
+    x.ensures.value y.ensures.value d.ensures.value read.swing (difference_square a t) (read.sum r.result r.ensures.second) in
+    kept (λ (z : ℤ). z ≤ℤ dot (difference a t) (difference a t)) r.result r.type_inv less
 
 pub returns-clause-last : goal.returns-clause-last
 returns-clause-last c =
-    let a = fits_of c.dot-along.result c.dot-along.type_inv in let b = fits_of c.dot-turned.result c.dot-turned.type_inv in
-    let d = fits_of c.dot.result c.dot.type_inv in let s = fits_of c.distance-swing.result c.distance-swing.type_inv in
-    let r = fits_of c.lesser.result c.lesser.type_inv in
-    let swing : c.distance-swing.result ≡ pos (unsigned_abs c.dot.result) = simp to_z-of_z at c.distance-swing.ensures in
-    let f = whole_fits c.dot-along.result c.dot-turned.result c.distance-swing.result (unsigned_abs c.dot.result) c.dot-along.ensures.small c.dot-turned.ensures.small swing c.dot.ensures.small in
-    let f0 = f.0 in let f1 = f.1 in let f3 = f.3 in
-    let x = c.args.piece.now.axis in let e = c.args.piece.now.turn in
-    let low : c.lesser.result ≤ℤ ((c.dot-along.result +ℤ c.dot-turned.result) -ℤ (c.distance-swing.result +ℤ c.distance-swing.result)) = simp to_z-of_z at c.lesser.ensures.second in
-    let less = less_last c.lesser.result c.dot-along.result c.dot-turned.result c.distance-swing.result c.dot.result (dot x x) (dot e e) (dot x e) (dot (sum x e) (sum x e))
-    c.dot-along.ensures.value c.dot-turned.ensures.value c.dot.ensures.value swing (sum_square x e) low in
-    simp to_z-of_z less
+    let x = c.dot-along in let y = c.dot-turned in let d = c.dot in let s = c.distance-swing in
+    let read = squares_read x.result y.result s.result d.result x.type_inv y.type_inv s.type_inv d.type_inv
+    x.ensures.small y.ensures.small d.ensures.small s.ensures in
+    let a = c.args.piece.now.axis in let t = c.args.piece.now.turn in let r = c.lesser in
+    let less = less_last r.result x.result y.result s.result d.result (dot a a) (dot t t) (dot a t) (dot (sum a t) (sum a t))
+    x.ensures.value y.ensures.value d.ensures.value read.swing (sum_square a t) (read.sum r.result r.ensures.second) in
+    kept (λ (z : ℤ). z ≤ℤ dot (sum a t) (sum a t)) r.result r.type_inv less
 
 pub returns-clause-middle : goal.returns-clause-middle
 returns-clause-middle c =
-    let a = fits_of c.dot-along.result c.dot-along.type_inv in let b = fits_of c.dot-turned.result c.dot-turned.type_inv in
-    let d = fits_of c.dot.result c.dot.type_inv in let s = fits_of c.distance-swing.result c.distance-swing.type_inv in
-    let r = fits_of c.lesser.result c.lesser.type_inv in
-    let swing : c.distance-swing.result ≡ pos (unsigned_abs c.dot.result) = simp to_z-of_z at c.distance-swing.ensures in
-    let f = whole_fits c.dot-along.result c.dot-turned.result c.distance-swing.result (unsigned_abs c.dot.result) c.dot-along.ensures.small c.dot-turned.ensures.small swing c.dot.ensures.small in
-    let f2 = f.2 in
-    let x = c.args.piece.now.axis in let e = c.args.piece.now.turn in
-    let low : c.lesser.result ≤ℤ (c.dot-along.result -ℤ c.dot-turned.result) = simp to_z-of_z at c.lesser.ensures.first in
-    let less = less_middle c.lesser.result c.dot-along.result c.dot-turned.result (dot x x) (dot e e) c.dot-along.ensures.value c.dot-turned.ensures.value low in
-    simp to_z-of_z less
+    let x = c.dot-along in let y = c.dot-turned in let d = c.dot in let s = c.distance-swing in
+    let read = squares_read x.result y.result s.result d.result x.type_inv y.type_inv s.type_inv d.type_inv
+    x.ensures.small y.ensures.small d.ensures.small s.ensures in
+    let a = c.args.piece.now.axis in let t = c.args.piece.now.turn in let r = c.lesser in
+    let low = read.change r.result r.ensures.first in
+    let less = less_middle r.result x.result y.result (dot a a) (dot t t) x.ensures.value y.ensures.value low in
+    kept (λ (z : ℤ). z ≤ℤ (dot a a -ℤ dot t t)) r.result r.type_inv less

@@ -1,53 +1,28 @@
-use Rattle.std.proofs.Common.{◌≡◌, ◌≤◌, ◌≤ℤ◌, ◌*◌, ◌^◌, ◌*ℤ◌, ◌+ℤ◌, ℤ, pos, neg_ℤ, to_z, of_z, unsigned_abs, FitsSigned, arith, rules}
-use Rattle.std.proofs.lemmas.Int.{ints, to_z-of_z}
-use mir.Syntax.{w32, w128}
-use borrow.Author.Differences.{abs_is}
-use Rattle.space.proofs.Facts.{fits128}
-use Rattle.sweep_boxes.specs.Limits.{place_limit, side_limit}
+use Rattle.std.proofs.Common.{◌≡◌, ◌≤ℤ◌, ◌*ℤ◌, ◌+ℤ◌, ℤ, pos, neg_ℤ, rules}
+use Rattle.std.proofs.lemmas.Int.{to_z-of_z}
+use Rattle.sweep_boxes.specs.Limits.{place_limit}
+use Rattle.sweep_boxes.proofs.LineEnds.{bound_fits, bound_from_tip, heights_along, hold_fits, line_fits, margin_after, more, square_scaled}
 use Rattle.sweep_boxes.proofs.Lined.{last_of, not_before}
-use Rattle.sweep_boxes.proofs.Words.{fits32, fits_of, kept, kept_axis, kept_height, kept_in, kept_place, kept_square, kept_tip, place_fits}
+use Rattle.sweep_boxes.proofs.Words.{fits32, fits_of, kept, kept_place, place_fits}
 use Rattle.sweep_boxes.proofs.side.last_end.Goals as goal
 
-bound_fits : (bound margin : ℤ) → unsigned_abs bound ≤ 4 * 10 ^ 18 * side_limit → unsigned_abs margin ≤ 3 * 10 ^ 36
-    → FitsSigned w128 (bound +ℤ margin)
-bound_fits bound margin h k = omega (arith, ints, h, k, abs_is bound, abs_is margin)
-
-bound_small : (bound margin : ℤ) → unsigned_abs bound ≤ 4 * 10 ^ 18 * side_limit → unsigned_abs margin ≤ 3 * 10 ^ 36
-    → unsigned_abs (bound +ℤ margin) ≤ 4 * 10 ^ 36
-bound_small bound margin h k = omega (arith, ints, h, k, abs_is bound, abs_is margin, abs_is (bound +ℤ margin))
-
-square_some : (square : ℤ) → unsigned_abs square ≤ 3 * (side_limit * side_limit) → pos 1 ≤ℤ square → pos 1 ≤ℤ to_z w128 (of_z w128 square)
-square_some square small some = kept_in (λ (z : ℤ). pos 1 ≤ℤ z) square (fits128 square (3 * (side_limit * side_limit)) small (omega arith)) some
-
 pub most_along-requires : goal.most_along-requires
-most_along-requires c = record {
-  a = kept_axis c.args.line.now.axis c.args.line.now.axis_small;
-  least = kept_height c.args.hold.now.least c.args.hold.now.least_small;
-  most = kept_height c.args.hold.now.most c.args.hold.now.most_small;
-}
+most_along-requires c = heights_along c.args.line.now c.args.hold.now
 
 pub overflow_add-bound : goal.overflow_add-bound
 overflow_add-bound c =
-    let l = fits_of c.most_along.result c.most_along.type_inv in let margin = c.ranges.margin in
-    simp to_z-of_z (bound_fits c.most_along.result c.args.margin c.most_along.ensures.small c.requires.margin)
+    let x = c.most_along in
+    let small = margin_after x.result c.args.margin x.type_inv c.ranges.margin x.ensures.small c.requires.margin in
+    bound_fits (more x.result c.args.margin) small
 
 pub from_tip-requires : goal.from_tip-requires
 from_tip-requires c =
-    let l = fits_of c.most_along.result c.most_along.type_inv in let margin = c.ranges.margin in
-    let bound = bound_fits c.most_along.result c.args.margin c.most_along.ensures.small c.requires.margin in
-    record {
-      bound = simp to_z-of_z (bound_small c.most_along.result c.args.margin c.most_along.ensures.small c.requires.margin);
-      square = kept_square c.args.line.now.square c.args.line.now.square_small;
-      tip = kept_tip c.args.line.now.tip c.args.line.now.tip_small;
-    }
+    let x = c.most_along in
+    let small = margin_after x.result c.args.margin x.type_inv c.ranges.margin x.ensures.small c.requires.margin in
+    bound_from_tip c.args.line.now (more x.result c.args.margin) small
 
 pub scaled-requires : goal.scaled-requires
-scaled-requires c = record {
-  scale = c.args.line.now.scaled.0;
-  few = c.args.line.now.scaled.1;
-  some = square_some c.args.line.now.square c.args.line.now.square_small c.args.line.now.some;
-  square = kept_square c.args.line.now.square c.args.line.now.square_small;
-}
+scaled-requires c = square_scaled c.args.line.now
 
 pub quotient-place-requires : goal.quotient-place-requires
 quotient-place-requires c = record { divisor = kept (λ (z : ℤ). pos 1 ≤ℤ z) c.scaled.result c.scaled.type_inv c.scaled.ensures.some }
@@ -71,15 +46,12 @@ returns-clause-value c z u after before above below far =
     let e = fits_of c.scaled.result c.scaled.type_inv in
     let p = fits_of c.quotient-place.result c.quotient-place.type_inv in
     let r = fits32 c.last_place.result c.last_place.type_inv in
-    let axis : FitsSigned w128 c.args.line.now.axis = search rules in
-    let tip : FitsSigned w128 c.args.line.now.tip = search rules in
-    let square : FitsSigned w128 c.args.line.now.square = search rules in
-    let least : FitsSigned w128 c.args.hold.now.least = search rules in
-    let most : FitsSigned w128 c.args.hold.now.most = search rules in
-    let low : FitsSigned w32 c.args.line.now.low = search rules in
-    let high : FitsSigned w32 c.args.line.now.high = search rules in
+    let record { square = square; axis = axis; tip = tip; low = low; high = high } = line_fits c.args.line.now in
+    let record { least = least; most = most; moment = moment } = hold_fits c.args.hold.now in
     let margin = c.ranges.margin in
-    let bound = bound_fits c.most_along.result c.args.margin c.most_along.ensures.small c.requires.margin in
+    let x = c.most_along in
+    let small = margin_after x.result c.args.margin x.type_inv c.ranges.margin x.ensures.small c.requires.margin in
+    let bound = simp to_z-of_z at (bound_fits (more x.result c.args.margin) small) in
     let d_is : c.from_tip.result ≡ (c.most_along.result +ℤ c.args.margin) +ℤ c.args.line.now.tip *ℤ c.args.line.now.square = simp to_z-of_z at c.from_tip.ensures in
     let e_is : c.scaled.result ≡ pos c.args.line.now.scale *ℤ c.args.line.now.square = simp to_z-of_z at c.scaled.ensures.value in
     let value : (u : ℤ) → c.args.hold.now.least ≤ℤ u → u ≤ℤ c.args.hold.now.most → (u *ℤ c.args.line.now.axis) ≤ℤ c.most_along.result = simp to_z-of_z at c.most_along.ensures.value in

@@ -1,10 +1,10 @@
-use Rattle.std.proofs.Common.{◌≤◌, ◌<◌, ◌≤ℤ◌, ◌+ℤ◌, ◌*◌, ◌+◌, ◌^◌, ℕ, ℤ, pos, unsigned_abs, FitsSigned, arith, subst, sym, ◌∙◌}
+use Rattle.std.proofs.Common.{◌≤◌, ◌<◌, ◌≤ℤ◌, ◌+ℤ◌, ◌*◌, ◌+◌, ◌^◌, ℕ, ℤ, pos, unsigned_abs, arith, subst, sym, ◌∙◌}
 use Rattle.std.proofs.lemmas.Int.{ints}
-use mir.Syntax.{w128}
 use Rattle.space.specs.Vectors.{dot}
 use Rattle.sweep_boxes.specs.Limits.{side_limit}
 use Rattle.sweep_boxes.proofs.AlongSide.{reach_below}
-use Rattle.sweep_boxes.proofs.Words.{at_x, at_y, at_z, same_sum, sum_read, three_fit, three_read, three_small, two_fit, two_read}
+use Rattle.sweep_boxes.proofs.ThreeWords.{all_three_fit, all_three_small, first_two_fit}
+use Rattle.sweep_boxes.proofs.Words.{at_x, at_y, at_z, same_sum, sum_read}
 use Rattle.sweep_boxes.proofs.spread.reach_of.Goals as goal
 
 few : 3 * (side_limit * (2 * (side_limit * side_limit))) < 2 ^ 127
@@ -28,13 +28,12 @@ reach_along-requires-3 c = record { i = at_z; far = c.requires.far.2; v = c.requ
 pub overflow_add-result : goal.overflow_add-result
 overflow_add-result c =
     let x = c.reach_along in let y = c.reach_along-2 in
-    subst (FitsSigned w128) (sym (two_read x.result y.result x.type_inv y.type_inv)) (two_fit x.result y.result _ x.ensures.small y.ensures.small few)
+    first_two_fit x.result y.result _ few x.type_inv y.type_inv x.ensures.small y.ensures.small
 
 pub overflow_add-result-2 : goal.overflow_add-result-2
 overflow_add-result-2 c =
     let x = c.reach_along in let y = c.reach_along-2 in let z = c.reach_along-3 in
-    subst (FitsSigned w128) (sym (three_read x.result y.result z.result _ x.type_inv y.type_inv z.type_inv x.ensures.small y.ensures.small few))
-    (three_fit x.result y.result z.result _ x.ensures.small y.ensures.small z.ensures.small few)
+    all_three_fit x.result y.result z.result _ few x.type_inv y.type_inv z.type_inv x.ensures.small y.ensures.small z.ensures.small
 
 pub returns : goal.returns
 returns c =
@@ -44,6 +43,6 @@ returns c =
     record {
       value = λ p near. subst (λ (s : ℤ). pos (unsigned_abs (dot p c.args.v.now)) ≤ℤ s) (sym same) (as_sum _ _ _ _ (reach_below p c.args.far.now c.args.v.now near));
       some = subst (λ (s : ℤ). pos 0 ≤ℤ s) (sym same) (sum_some _ _ _);
-      small = subst (λ (s : ℤ). unsigned_abs s ≤ 3 * (side_limit * (2 * (side_limit * side_limit)))) (sym read)
-          (three_small x.result y.result z.result _ x.ensures.small y.ensures.small z.ensures.small);
+      small =
+          all_three_small x.result y.result z.result _ few x.type_inv y.type_inv z.type_inv x.ensures.small y.ensures.small z.ensures.small;
     }

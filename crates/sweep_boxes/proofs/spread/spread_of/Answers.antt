@@ -1,11 +1,10 @@
-use Rattle.std.proofs.Common.{◌≡◌, ◌≤◌, ◌≤ℤ◌, ◌*◌, ◌^◌, ◌*ℤ◌, ◌+ℤ◌, ℕ, ℤ, pos, to_z, of_z, unsigned_abs, arith, subst, ap, ◌∙◌, List}
+use Rattle.std.proofs.Common.{◌≡◌, ◌≤◌, ◌≤ℤ◌, ◌*◌, ◌^◌, ◌*ℤ◌, ◌+ℤ◌, ℕ, ℤ, pos, to_z, of_z, unsigned_abs, arith, subst, ◌∙◌}
 use Rattle.std.proofs.lemmas.Int.{ints, to_z-of_z}
 use mir.Syntax.{w128}
-use Rattle.space.specs.Vectors.{dot}
 use Rattle.sweep_boxes.specs.Held.{IsSpread}
-use Rattle.sweep_boxes.specs.Vectors.{cross, sum}
 use Rattle.sweep_boxes.proofs.AlongSide.{spread_by}
-use Rattle.sweep_boxes.proofs.Words.{fits_of, kept, kept_small, kept_some, long_few, long_fits, long_some, read_out, scale_few, small32_in, small_up_to, spare_some, summand, twice, two_read}
+use Rattle.sweep_boxes.proofs.Spares.{bends_of, bent_parts, changes_of, spare_few, spare_is, spare_parts, spare_thirds}
+use Rattle.sweep_boxes.proofs.Words.{fits_of, kept, kept_small, kept_some, long_few, long_fits, long_some, scale_few, small32_in, small_up_to, summand, two_read}
 use Rattle.sweep_boxes.proofs.spread.spread_of.Goals as goal
 
 pub sizes-turn-requires : goal.sizes-turn-requires
@@ -24,14 +23,13 @@ pub length_limit-bent-requires : goal.length_limit-bent-requires
 length_limit-bent-requires c = c.cross-2.ensures.small
 
 pub sum-requires : goal.sum-requires
-sum-requires c =
-    let bent = c.length_limit-bent in let small = summand bent.result bent.type_inv bent.ensures.small in
-    record { a = small; b = small }
+sum-requires c = let bent = c.length_limit-bent in bent_parts bent.result bent.type_inv bent.ensures.small
 
 pub sum-spare-requires : goal.sum-spare-requires
 sum-spare-requires c =
-    let change = c.change_limit-change in let bent = c.length_limit-bent in
-    record { a = summand change.result change.type_inv change.ensures.small; b = twice c.sum.result bent.result c.sum.type_inv bent.type_inv c.sum.ensures.small bent.ensures.small }
+    let change = c.change_limit-change in let bent = c.length_limit-bent in let two = c.sum in
+    spare_parts change.result two.result bent.result change.type_inv two.type_inv bent.type_inv
+    change.ensures.small bent.ensures.small two.ensures.small
 
 pub radius-half-requires : goal.radius-half-requires
 radius-half-requires c = record {
@@ -69,10 +67,11 @@ sum-requires-2 c =
 pub third_of_square-requires : goal.third_of_square-requires
 third_of_square-requires c =
     let change = c.change_limit-change in let bent = c.length_limit-bent in let two = c.sum in let spare = c.sum-spare in
-    let two_is : two.result ≡ bent.result +ℤ bent.result = two.ensures.value ∙ two_read bent.result bent.result bent.type_inv bent.type_inv in
-    let spare_is : spare.result ≡ change.result +ℤ two.result = spare.ensures.value ∙ two_read change.result two.result change.type_inv two.type_inv in
-    let some = spare_some spare.result change.result two.result bent.result spare_is two_is change.ensures.some bent.ensures.some in
-    small_up_to (to_z w128 (of_z w128 spare.result)) (5 * 10 ^ 16) (kept_some spare.result spare.type_inv some) c.if-spare-gt50000000000000000.false
+    let is =
+    spare_is change.result bent.result two.result spare.result change.type_inv bent.type_inv two.type_inv
+    two.ensures.value spare.ensures.value in
+    spare_few spare.result change.result bent.result spare.type_inv is change.ensures.some bent.ensures.some
+    c.if-spare-gt50000000000000000.false
 
 whole_some : (whole a b : ℤ) → whole ≡ a +ℤ b → pos 0 ≤ℤ a → pos 0 ≤ℤ b → pos 0 ≤ℤ whole
 whole_some whole a b e h k = omega (arith, ints, e, h, k)
@@ -105,10 +104,10 @@ returns-clause-value c = λ small.
     let f9 = fits_of whole.result whole.type_inv in
     let w = c.ranges.widest in
     let l = long_fits piece.longest piece.long.0 piece.long.1 in
-    let two_is : two.result ≡ bent.result +ℤ bent.result = two.ensures.value ∙ two_read bent.result bent.result bent.type_inv bent.type_inv in
-    let spare_is : spare.result ≡ change.result +ℤ two.result = spare.ensures.value ∙ two_read change.result two.result change.type_inv two.type_inv in
+    let is =
+    spare_is change.result bent.result two.result spare.result change.type_inv bent.type_inv two.type_inv
+    two.ensures.value spare.ensures.value in
     let whole_is : whole.result ≡ reach.result +ℤ stray.result = whole.ensures.value ∙ two_read reach.result stray.result reach.type_inv stray.type_inv in
-    let thirds : (spare.result *ℤ spare.result) ≤ℤ (pos 3 *ℤ third.result) = read_out (λ (z : ℤ). (z *ℤ z) ≤ℤ (pos 3 *ℤ third.result)) spare.result spare.type_inv third.ensures.value in
     let rooted : (short.result *ℤ (half.result *ℤ half.result +ℤ third.result)) ≤ℤ (reach.result *ℤ reach.result) = simp to_z-of_z at reach.ensures.value in
     let spread : IsSpread whole.result side piece c.args.widest far =
     spread_by whole.result half.result change.result bent.result third.result reach.result stray.result piece c.args.widest side far
@@ -119,11 +118,11 @@ returns-clause-value c = λ small.
       third_some = third.ensures.some;
       reach_some = reach.ensures.some;
       wide = simp to_z-of_z at half.ensures.value;
-      changes = λ v nearer.
-          subst (λ (d : List ℤ). dot (sum d (cross v piece.turn)) (sum d (cross v piece.turn)) ≤ℤ (change.result *ℤ change.result)) c.cross.ensures.value
-          (change.ensures.value v piece.turn nearer c.sizes-turn.ensures.value);
-      bends = subst (λ (d : List ℤ). dot d d ≤ℤ (bent.result *ℤ bent.result)) c.cross-2.ensures.value bent.ensures.value;
-      thirds = subst (λ (z : ℤ). (z *ℤ z) ≤ℤ (pos 3 *ℤ third.result)) (spare_is ∙ ap (λ z. change.result +ℤ z) two_is) thirds;
+      changes =
+          changes_of piece far c.cross.result c.sizes-turn.result change.result
+          c.cross.ensures.value c.sizes-turn.ensures.value change.ensures.value;
+      bends = bends_of piece c.cross-2.result bent.result c.cross-2.ensures.value bent.ensures.value;
+      thirds = spare_thirds spare.result _ third.result spare.type_inv is third.ensures.value;
       root = subst (λ (z : ℤ). (z *ℤ (half.result *ℤ half.result +ℤ third.result)) ≤ℤ (reach.result *ℤ reach.result)) short.ensures.value rooted;
       strays = stray.ensures.value;
     } in

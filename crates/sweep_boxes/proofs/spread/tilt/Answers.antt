@@ -1,7 +1,7 @@
-use Rattle.std.proofs.Common.{◌≤◌, ◌<◌, ◌*◌, ◌^◌, ℤ, unsigned_abs, FitsSigned, arith, subst, sym, ◌∙◌}
-use mir.Syntax.{w128}
+use Rattle.std.proofs.Common.{◌<◌, ◌*◌, ◌^◌, arith, ◌∙◌}
 use Rattle.sweep_boxes.specs.Limits.{aim_limit, side_limit}
-use Rattle.sweep_boxes.proofs.Words.{at_x, at_y, at_z, same_sum, sum_read, three_fit, three_read, three_small, two_fit, two_read}
+use Rattle.sweep_boxes.proofs.ThreeWords.{all_three_fit, all_three_small, first_two_fit}
+use Rattle.sweep_boxes.proofs.Words.{at_x, at_y, at_z, same_sum, sum_read}
 use Rattle.sweep_boxes.proofs.spread.tilt.Goals as goal
 
 few : 3 * (aim_limit * (2 * (side_limit * side_limit))) < 2 ^ 127
@@ -19,13 +19,12 @@ share-requires-3 c = record { i = at_z; side = c.requires.side.2; v = c.requires
 pub overflow_add-result : goal.overflow_add-result
 overflow_add-result c =
     let x = c.share in let y = c.share-2 in
-    subst (FitsSigned w128) (sym (two_read x.result y.result x.type_inv y.type_inv)) (two_fit x.result y.result _ x.ensures.small y.ensures.small few)
+    first_two_fit x.result y.result _ few x.type_inv y.type_inv x.ensures.small y.ensures.small
 
 pub overflow_add-result-2 : goal.overflow_add-result-2
 overflow_add-result-2 c =
     let x = c.share in let y = c.share-2 in let z = c.share-3 in
-    subst (FitsSigned w128) (sym (three_read x.result y.result z.result _ x.type_inv y.type_inv z.type_inv x.ensures.small y.ensures.small few))
-    (three_fit x.result y.result z.result _ x.ensures.small y.ensures.small z.ensures.small few)
+    all_three_fit x.result y.result z.result _ few x.type_inv y.type_inv z.type_inv x.ensures.small y.ensures.small z.ensures.small
 
 pub returns : goal.returns
 returns c =
@@ -33,5 +32,6 @@ returns c =
     let read = sum_read x.result y.result z.result _ x.type_inv y.type_inv z.type_inv x.ensures.small y.ensures.small z.ensures.small few in
     record {
       value = read ∙ same_sum x.result y.result z.result _ _ _ x.ensures.value y.ensures.value z.ensures.value;
-      small = subst (λ (s : ℤ). unsigned_abs s ≤ 48 * (side_limit * side_limit)) (sym read) (three_small x.result y.result z.result _ x.ensures.small y.ensures.small z.ensures.small);
+      small =
+          all_three_small x.result y.result z.result _ few x.type_inv y.type_inv z.type_inv x.ensures.small y.ensures.small z.ensures.small;
     }
