@@ -1,8 +1,7 @@
 -- Numbers passed as their bits, and what is reckoned of them.
-use Rattle.std.proofs.Common.{◌≡◌, ℕ, ◌*◌, ◌^◌, ◌<◌, ◌≤◌, ℤ, pos, ◌+ℤ◌, ◌-ℤ◌, ◌*ℤ◌, Fits, FitsSigned, to_z, of_z, unsigned_abs, arith, refl, sym, subst, ap, ap₂, ◌∙◌}
-use Rattle.std.proofs.lemmas.Int.{ints, to_z-of_z, fits_signed_from_abs}
+use Rattle.std.proofs.Common.{◌≡◌, ℕ, ◌*◌, ◌^◌, ◌<◌, ◌≤◌, ℤ, pos, ◌+ℤ◌, ◌-ℤ◌, ◌*ℤ◌, FitsSigned, to_z, of_z, unsigned_abs, arith, refl, sym, subst, ap, ap₂, ◌∙◌}
+use Rattle.std.proofs.lemmas.Int.{to_z-of_z, fits_signed_from_abs}
 use mir.Syntax.{Width, w32, w64, w128}
-use borrow.Author.Differences.{abs_is}
 use Rattle.space.proofs.Naturals.{abs_add, abs_mul, abs_sub}
 use Rattle.sweep_boxes.specs.Limits.{place_limit, side_limit}
 use Rattle.near_points.specs.Limits.{moment_limit, tilt_limit}
@@ -23,6 +22,13 @@ as_bits w x a e f = ap (λ z. to_z w (of_z w z)) e ∙ to_z-of_z w a f
 pub small_passed : (m : ℕ) (x : ℤ) → m < 2 ^ 63 → unsigned_abs x ≤ m → unsigned_abs (to_z w64 (of_z w64 x)) ≤ m
 small_passed m x few h = subst (λ (z : ℤ). unsigned_abs z ≤ m) (sym (to_z-of_z w64 x (small_fits m x few h))) h
 
+-- a number of a moment, passed as its bits
+pub moment_bits : (x : ℤ) → unsigned_abs x ≤ moment_limit → to_z w64 (of_z w64 x) ≡ x
+moment_bits x h = to_z-of_z w64 x (small_fits moment_limit x moment_fits h)
+
+pub moment_passed : (x : ℤ) → unsigned_abs x ≤ moment_limit → unsigned_abs (to_z w64 (of_z w64 x)) ≤ moment_limit
+moment_passed x h = small_passed moment_limit x moment_fits h
+
 pub sum_passed : (w : Width) (x y a b : ℤ) → x ≡ a → y ≡ b → FitsSigned w a → FitsSigned w b → to_z w (of_z w x) +ℤ to_z w (of_z w y) ≡ a +ℤ b
 sum_passed w x y a b ex ey fa fb = ap₂ (λ p q. p +ℤ q) (as_bits w x a ex fa) (as_bits w y b ey fb)
 
@@ -31,29 +37,6 @@ difference_passed w x y a b ex ey fa fb = ap₂ (λ p q. p -ℤ q) (as_bits w x 
 
 pub product_passed : (w : Width) (x y a b : ℤ) → x ≡ a → y ≡ b → FitsSigned w a → FitsSigned w b → to_z w (of_z w x) *ℤ to_z w (of_z w y) ≡ a *ℤ b
 product_passed w x y a b ex ey fa fb = ap₂ (λ p q. p *ℤ q) (as_bits w x a ex fa) (as_bits w y b ey fb)
-
--- a number and n times another, each passed as its bits
-pub moved_passed : (m : ℕ) (a b n : ℤ) → m < 2 ^ 63 → unsigned_abs a ≤ m → unsigned_abs b ≤ m → to_z w64 (of_z w64 a) +ℤ n *ℤ to_z w64 (of_z w64 b) ≡ a +ℤ n *ℤ b
-moved_passed m a b n few ha hb = ap₂ (λ p q. p +ℤ n *ℤ q) (to_z-of_z w64 a (small_fits m a few ha)) (to_z-of_z w64 b (small_fits m b few hb))
-
-pub moved_may : (m : ℕ) (a b n : ℤ) → m < 2 ^ 63 → unsigned_abs a ≤ m → unsigned_abs b ≤ m → unsigned_abs (a +ℤ n *ℤ b) ≤ m
-    → unsigned_abs (to_z w64 (of_z w64 a) +ℤ n *ℤ to_z w64 (of_z w64 b)) ≤ m
-moved_may m a b n few ha hb h = subst (λ (z : ℤ). unsigned_abs z ≤ m) (sym (moved_passed m a b n few ha hb)) h
-
-pub moved_gives : (m : ℕ) (r a b n : ℤ) → m < 2 ^ 63 → unsigned_abs a ≤ m → unsigned_abs b ≤ m → unsigned_abs (a +ℤ n *ℤ b) ≤ m
-    → r ≡ to_z w64 (of_z w64 a) +ℤ n *ℤ to_z w64 (of_z w64 b) → to_z w64 (of_z w64 r) ≡ a +ℤ n *ℤ b
-moved_gives m r a b n few ha hb h e = as_bits w64 r (a +ℤ n *ℤ b) (e ∙ moved_passed m a b n few ha hb) (small_fits m (a +ℤ n *ℤ b) few h)
-
-pub moved_small : (m : ℕ) (r a b n : ℤ) → m < 2 ^ 63 → unsigned_abs a ≤ m → unsigned_abs b ≤ m → unsigned_abs (a +ℤ n *ℤ b) ≤ m
-    → r ≡ to_z w64 (of_z w64 a) +ℤ n *ℤ to_z w64 (of_z w64 b) → unsigned_abs (to_z w64 (of_z w64 r)) ≤ m
-moved_small m r a b n few ha hb h e = subst (λ (z : ℤ). unsigned_abs z ≤ m) (sym (moved_gives m r a b n few ha hb h e)) h
-
--- what is added, where neither the number nor the sum is great
-pub added_fits : (m : ℕ) (a y : ℤ) → 2 * m < 2 ^ 63 → unsigned_abs a ≤ m → unsigned_abs (a +ℤ y) ≤ m → FitsSigned w64 y
-added_fits m a y few ha h = fits_signed_from_abs w64 y (omega (arith, ints, few, ha, h, abs_is a, abs_is y, abs_is (a +ℤ y)))
-
-pub count_fits : (n : ℕ) → Fits w32 n → FitsSigned w64 (pos n)
-count_fits n h = fits_signed_from_abs w64 (pos n) (omega (arith, h.fits))
 
 -- the sum of two or three numbers that aren't great
 pub sum_fits : (m : ℕ) (x y : ℤ) → 2 * m < 2 ^ 63 → unsigned_abs x ≤ m → unsigned_abs y ≤ m → FitsSigned w64 (x +ℤ y)

@@ -5,5 +5,6 @@ pub mod Trimming
 pub mod Leaving
 pub mod Between
 pub mod Bits
+pub mod Moving
 pub mod Turning
 pub mod Holding
