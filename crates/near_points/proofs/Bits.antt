@@ -5,7 +5,7 @@ use mir.Syntax.{Width, w32, w64, w128}
 use Rattle.space.proofs.Naturals.{abs_add, abs_mul, abs_sub}
 use Rattle.sweep_boxes.specs.Limits.{place_limit, side_limit}
 use Rattle.near_points.specs.Limits.{moment_limit, tilt_limit}
-use Rattle.near_points.proofs.Growing.{three_small, width_small}
+use Rattle.near_points.proofs.Growing.{three_small}
 
 pub moment_fits : moment_limit < 2 ^ 63
 moment_fits = omega arith
@@ -19,6 +19,20 @@ small_fits m x few h = fits_signed_from_abs w64 x (omega (arith, few, h))
 pub as_bits : (w : Width) (x a : ℤ) → x ≡ a → FitsSigned w a → to_z w (of_z w x) ≡ a
 as_bits w x a e f = ap (λ z. to_z w (of_z w z)) e ∙ to_z-of_z w a f
 
+-- a number that was reckoned in a machine word: it fits there, is what it should be, and is small
+pub record IsReckoned (w : Width) (m : ℕ) (x a : ℤ) : Type 0 where
+  pub fits : FitsSigned w x
+  pub value : to_z w (of_z w x) ≡ a
+  pub small : unsigned_abs (to_z w (of_z w x)) ≤ m
+
+pub reckoned : (w : Width) (m : ℕ) (x a : ℤ) → x ≡ a → FitsSigned w a → unsigned_abs a ≤ m → IsReckoned w m x a
+reckoned w m x a is fits small =
+    let value = as_bits w x a is fits in record {
+      fits = subst (FitsSigned w) (sym is) fits;
+      value = value;
+      small = subst (λ (z : ℤ). unsigned_abs z ≤ m) (sym value) small;
+    }
+
 pub small_passed : (m : ℕ) (x : ℤ) → m < 2 ^ 63 → unsigned_abs x ≤ m → unsigned_abs (to_z w64 (of_z w64 x)) ≤ m
 small_passed m x few h = subst (λ (z : ℤ). unsigned_abs z ≤ m) (sym (to_z-of_z w64 x (small_fits m x few h))) h
 
@@ -28,6 +42,9 @@ moment_bits x h = to_z-of_z w64 x (small_fits moment_limit x moment_fits h)
 
 pub moment_passed : (x : ℤ) → unsigned_abs x ≤ moment_limit → unsigned_abs (to_z w64 (of_z w64 x)) ≤ moment_limit
 moment_passed x h = small_passed moment_limit x moment_fits h
+
+pub tilt_bits : (x : ℤ) → unsigned_abs x ≤ tilt_limit → to_z w64 (of_z w64 x) ≡ x
+tilt_bits x h = to_z-of_z w64 x (small_fits tilt_limit x tilt_fits h)
 
 pub sum_passed : (w : Width) (x y a b : ℤ) → x ≡ a → y ≡ b → FitsSigned w a → FitsSigned w b → to_z w (of_z w x) +ℤ to_z w (of_z w y) ≡ a +ℤ b
 sum_passed w x y a b ex ey fa fb = ap₂ (λ p q. p +ℤ q) (as_bits w x a ex fa) (as_bits w y b ey fb)
@@ -91,35 +108,8 @@ pub wide_gives : (x a b : ℤ) → unsigned_abs a ≤ moment_limit → unsigned_
 wide_gives x a b ha hb e =
     e ∙ product_passed w64 a b a b refl refl (small_fits moment_limit a moment_fits ha) (small_fits moment_limit b moment_fits hb)
 
--- the sum of two such products
-pub pair_fits : (a b p q : ℤ) → unsigned_abs a ≤ moment_limit → unsigned_abs b ≤ moment_limit → unsigned_abs p ≤ moment_limit → unsigned_abs q ≤ moment_limit
-    → FitsSigned w128 (a *ℤ b +ℤ p *ℤ q)
-pair_fits a b p q ha hb hp hq =
-    let s = abs_mul a b moment_limit moment_limit ha hb in let t = abs_mul p q moment_limit moment_limit hp hq in let u = abs_add (a *ℤ b) (p *ℤ q) in
-    fits_signed_from_abs w128 (a *ℤ b +ℤ p *ℤ q) (omega (arith, s, t, u))
-
-pub pair_small : (a b p q : ℤ) → unsigned_abs a ≤ moment_limit → unsigned_abs b ≤ moment_limit → unsigned_abs p ≤ moment_limit → unsigned_abs q ≤ moment_limit
-    → unsigned_abs (a *ℤ b +ℤ p *ℤ q) ≤ 2 * (moment_limit * moment_limit)
-pair_small a b p q ha hb hp hq =
-    let s = abs_mul a b moment_limit moment_limit ha hb in let t = abs_mul p q moment_limit moment_limit hp hq in let u = abs_add (a *ℤ b) (p *ℤ q) in
-    omega (arith, s, t, u)
-
-pub pair_passed : (x y a b p q : ℤ) → unsigned_abs a ≤ moment_limit → unsigned_abs b ≤ moment_limit → unsigned_abs p ≤ moment_limit → unsigned_abs q ≤ moment_limit
-    → x ≡ to_z w64 (of_z w64 a) *ℤ to_z w64 (of_z w64 b) → y ≡ to_z w64 (of_z w64 p) *ℤ to_z w64 (of_z w64 q)
-    → to_z w128 (of_z w128 x) +ℤ to_z w128 (of_z w128 y) ≡ a *ℤ b +ℤ p *ℤ q
-pair_passed x y a b p q ha hb hp hq ex ey =
-    sum_passed w128 x y (a *ℤ b) (p *ℤ q) (wide_gives x a b ha hb ex) (wide_gives y p q hp hq ey) (wide_fits a b ha hb) (wide_fits p q hp hq)
-
--- the square of a moment
-pub width_wide : (a p q : ℤ) → unsigned_abs a ≤ moment_limit → unsigned_abs p ≤ moment_limit → unsigned_abs q ≤ moment_limit → FitsSigned w128 ((a *ℤ a +ℤ p *ℤ p) +ℤ q *ℤ q)
-width_wide a p q ha hp hq = let s = width_small a p q ha hp hq in fits_signed_from_abs w128 ((a *ℤ a +ℤ p *ℤ p) +ℤ q *ℤ q) (omega (arith, s))
-
-pub width_passed : (x y z a p q : ℤ) → unsigned_abs a ≤ moment_limit → unsigned_abs p ≤ moment_limit → unsigned_abs q ≤ moment_limit
-    → x ≡ to_z w64 (of_z w64 a) *ℤ to_z w64 (of_z w64 a) → y ≡ to_z w64 (of_z w64 p) *ℤ to_z w64 (of_z w64 p) → z ≡ to_z w64 (of_z w64 q) *ℤ to_z w64 (of_z w64 q)
-    → to_z w128 (of_z w128 (to_z w128 (of_z w128 x) +ℤ to_z w128 (of_z w128 y))) +ℤ to_z w128 (of_z w128 z) ≡ (a *ℤ a +ℤ p *ℤ p) +ℤ q *ℤ q
-width_passed x y z a p q ha hp hq ex ey ez =
-    sum_passed w128 _ z (a *ℤ a +ℤ p *ℤ p) (q *ℤ q) (pair_passed x y a a p p ha ha hp hp ex ey) (wide_gives z q q hq hq ez)
-    (pair_fits a a p p ha ha hp hp) (wide_fits q q hq hq)
+pub wide_by : (m : ℕ) (x : ℤ) → m < 2 ^ 127 → unsigned_abs x ≤ m → FitsSigned w128 x
+wide_by m x few h = fits_signed_from_abs w128 x (omega (arith, few, h))
 
 -- what the square of the moment grows by, of its curve and its slope
 pub growth_wide : (c s : ℤ) → unsigned_abs c ≤ 2 * (moment_limit * moment_limit) → unsigned_abs s ≤ 4 * (moment_limit * moment_limit) → FitsSigned w128 (c +ℤ s)
@@ -127,9 +117,6 @@ growth_wide c s hc hs = let e = abs_add c s in fits_signed_from_abs w128 (c +ℤ
 
 pub back_wide : (c s : ℤ) → unsigned_abs c ≤ 2 * (moment_limit * moment_limit) → unsigned_abs s ≤ 4 * (moment_limit * moment_limit) → FitsSigned w128 (c -ℤ s)
 back_wide c s hc hs = let e = abs_sub c s in fits_signed_from_abs w128 (c -ℤ s) (omega (arith, e, hc, hs))
-
-wide_by : (m : ℕ) (x : ℤ) → m < 2 ^ 127 → unsigned_abs x ≤ m → FitsSigned w128 x
-wide_by m x few h = fits_signed_from_abs w128 x (omega (arith, few, h))
 
 pub growth_passed : (c s : ℤ) → unsigned_abs c ≤ 2 * (moment_limit * moment_limit) → unsigned_abs s ≤ 4 * (moment_limit * moment_limit)
     → to_z w128 (of_z w128 c) +ℤ to_z w128 (of_z w128 s) ≡ c +ℤ s

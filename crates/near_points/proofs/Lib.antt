@@ -6,5 +6,6 @@ pub mod Leaving
 pub mod Between
 pub mod Bits
 pub mod Moving
+pub mod Pairs
 pub mod Turning
 pub mod Holding

@@ -7,7 +7,7 @@ use Rattle.near_points.specs.declared.stance.Stance.{Stance}
 use Rattle.near_points.specs.declared.step.Step.{Step}
 use Rattle.near_points.specs.Limits.{moment_limit, tilt_limit}
 use Rattle.near_points.specs.Lines.{FitsAfter, FitsMoved}
-use Rattle.near_points.proofs.Bits.{as_bits, product_passed, small_fits, small_passed, sum_passed}
+use Rattle.near_points.proofs.Bits.{IsReckoned, as_bits, product_passed, reckoned, small_fits, small_passed, sum_passed}
 
 abbrev sum_of : ℤ → ℤ → ℤ → ℤ
 sum_of a b n = to_z w64 (of_z w64 a) +ℤ n *ℤ to_z w64 (of_z w64 b)
@@ -70,33 +70,27 @@ step_moves s t l fits = record {
   height = moment_moves s.height t.height l s.height_small t.height_small fits.height;
 }
 
--- the sum reckoned in a machine word: its product, itself and what comes out fit there. f is n as a word
-abbrev product_in : ℤ → ℤ → ℤ
-product_in f b = to_z w64 (of_z w64 f) *ℤ to_z w64 (of_z w64 b)
-
-abbrev sum_in : ℤ → ℤ → ℤ → ℤ
-sum_in a b f = to_z w64 (of_z w64 a) +ℤ to_z w64 (of_z w64 (product_in f b))
-
-pub record Reckons (a b f : ℤ) (n : ℕ) : Type 0 where
-  pub product : FitsSigned w64 (product_in f b)
-  pub sum : FitsSigned w64 (sum_in a b f)
-  pub value : to_z w64 (of_z w64 (sum_in a b f)) ≡ a +ℤ pos n *ℤ b
-
+-- the sum as code reckons it, where f is n as a word: first the product, and then the whole
 added_fits : (m : ℕ) (a y : ℤ) → 2 * m < 2 ^ 63 → unsigned_abs a ≤ m → unsigned_abs (a +ℤ y) ≤ m → FitsSigned w64 y
 added_fits m a y few ha h = fits_signed_from_abs w64 y (omega (arith, ints, few, ha, h, abs_is a, abs_is y, abs_is (a +ℤ y)))
 
 count_fits : (n : ℕ) → Fits w32 n → FitsSigned w64 (pos n)
 count_fits n h = fits_signed_from_abs w64 (pos n) (omega (arith, h.fits))
 
-pub reckons : (m : ℕ) (a b f : ℤ) (n : ℕ) → 2 * m < 2 ^ 63 → unsigned_abs a ≤ m → unsigned_abs (a +ℤ pos n *ℤ b) ≤ m
-    → f ≡ pos n → Fits w32 n → FitsSigned w64 b → Reckons a b f n
-reckons m a b f n few ha h is hn hb =
-    let less : m < 2 ^ 63 = omega (arith, few) in
-    let step = added_fits m a (pos n *ℤ b) few ha h in let whole = small_fits m (a +ℤ pos n *ℤ b) less h in
+abbrev product_in : ℤ → ℤ → ℤ
+product_in f b = to_z w64 (of_z w64 f) *ℤ to_z w64 (of_z w64 b)
+
+pub record MovesInWord (m : ℕ) (a b f : ℤ) (n : ℕ) : Type 0 where
+  pub product : FitsSigned w64 (product_in f b)
+  pub whole : IsReckoned w64 m (to_z w64 (of_z w64 a) +ℤ to_z w64 (of_z w64 (product_in f b))) (a +ℤ pos n *ℤ b)
+
+pub moves_in_word : (m : ℕ) (a b f : ℤ) (n : ℕ) → 2 * m < 2 ^ 63 → unsigned_abs a ≤ m → unsigned_abs (a +ℤ pos n *ℤ b) ≤ m
+    → f ≡ pos n → Fits w32 n → FitsSigned w64 b → MovesInWord m a b f n
+moves_in_word m a b f n few ha h is hn hb =
+    let less : m < 2 ^ 63 = omega (arith, few) in let step = added_fits m a (pos n *ℤ b) few ha h in
     let step_is = product_passed w64 f b (pos n) b is refl (count_fits n hn) hb in
     let whole_is = sum_passed w64 a _ a (pos n *ℤ b) refl step_is (small_fits m a less ha) step in
     record {
       product = subst (FitsSigned w64) (sym step_is) step;
-      sum = subst (FitsSigned w64) (sym whole_is) whole;
-      value = as_bits w64 _ (a +ℤ pos n *ℤ b) whole_is whole;
+      whole = reckoned w64 m _ (a +ℤ pos n *ℤ b) whole_is (small_fits m (a +ℤ pos n *ℤ b) less h) h;
     }
