@@ -1,6 +1,6 @@
 -- Numbers passed as their bits, and what is reckoned of them.
-use Rattle.std.proofs.Common.{◌≡◌, ℕ, ◌*◌, ◌^◌, ◌<◌, ◌≤◌, ℤ, pos, ◌+ℤ◌, ◌-ℤ◌, ◌*ℤ◌, FitsSigned, to_z, of_z, unsigned_abs, arith, refl, sym, subst, ap, ap₂, ◌∙◌}
-use Rattle.std.proofs.lemmas.Int.{to_z-of_z, fits_signed_from_abs}
+use Rattle.std.proofs.Common.{◌≡◌, ℕ, ◌*◌, ◌^◌, ◌<◌, ◌≤◌, ℤ, pos, ◌+ℤ◌, ◌-ℤ◌, ◌*ℤ◌, ◌≤ℤ◌, FitsSigned, to_z, of_z, unsigned_abs, arith, refl, sym, subst, ap, ap₂, ◌∙◌}
+use Rattle.std.proofs.lemmas.Int.{ints, to_z-of_z, fits_signed_from_abs}
 use mir.Syntax.{Width, w32, w64, w128}
 use Rattle.space.proofs.Naturals.{abs_add, abs_mul, abs_sub}
 use Rattle.sweep_boxes.specs.Limits.{place_limit, side_limit}
@@ -51,6 +51,16 @@ sum_passed w x y a b ex ey fa fb = ap₂ (λ p q. p +ℤ q) (as_bits w x a ex fa
 
 pub difference_passed : (w : Width) (x y a b : ℤ) → x ≡ a → y ≡ b → FitsSigned w a → FitsSigned w b → to_z w (of_z w x) -ℤ to_z w (of_z w y) ≡ a -ℤ b
 difference_passed w x y a b ex ey fa fb = ap₂ (λ p q. p -ℤ q) (as_bits w x a ex fa) (as_bits w y b ey fb)
+
+-- a number that isn't negative, taken from 0
+pub opposite_reckoned : (x : ℤ) → FitsSigned w64 x → pos 0 ≤ℤ x
+    → record {
+      fits : FitsSigned w64 (pos 0 -ℤ to_z w64 (of_z w64 x));
+      value : to_z w64 (of_z w64 (pos 0 -ℤ to_z w64 (of_z w64 x))) ≡ pos 0 -ℤ x;
+    }
+opposite_reckoned x f some =
+    let is = ap (λ z. pos 0 -ℤ z) (to_z-of_z w64 x f) in let fits : FitsSigned w64 (pos 0 -ℤ x) = omega (arith, ints, some, f) in
+    record { fits = subst (FitsSigned w64) (sym is) fits; value = as_bits w64 _ (pos 0 -ℤ x) is fits }
 
 pub product_passed : (w : Width) (x y a b : ℤ) → x ≡ a → y ≡ b → FitsSigned w a → FitsSigned w b → to_z w (of_z w x) *ℤ to_z w (of_z w y) ≡ a *ℤ b
 product_passed w x y a b ex ey fa fb = ap₂ (λ p q. p *ℤ q) (as_bits w x a ex fa) (as_bits w y b ey fb)

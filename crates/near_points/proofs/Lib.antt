@@ -7,5 +7,6 @@ pub mod Between
 pub mod Bits
 pub mod Moving
 pub mod Pairs
+pub mod Stepping
 pub mod Turning
 pub mod Holding
