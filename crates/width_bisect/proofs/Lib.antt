@@ -1,4 +1,5 @@
 pub mod Shifting
+pub mod Coefficients
 pub mod Terms4
 pub mod Halving
 pub mod Fitting
