@@ -1,5 +1,6 @@
 pub mod Shifting
 pub mod Coefficients
+pub mod Sides
 pub mod Terms4
 pub mod Halving
 pub mod Fitting
