@@ -9,6 +9,7 @@ pub mod Searching
 pub mod Lows
 pub mod Early
 pub mod Tried
+pub mod Middle
 pub mod Beginning
 pub mod Closing
 pub mod Answering

@@ -1,5 +1,4 @@
 use Rattle.std.proofs.Common.{◌≡◌, Bool, ◌+◌, ◌-◌, ◌^◌, ◌≤◌, length, arith, rules, sym, subst, ap, ◌∙◌}
-use Rattle.space.specs.Vectors.{at}
 use Rattle.bern_form.specs.Between.{d_between}
 use Rattle.bern_form.specs.Forms.{all_positive}
 use Rattle.bern_form.specs.Slab.{SlabSize}
@@ -8,11 +7,11 @@ use Rattle.box_bisect.specs.Between.{IsMarkBetween}
 use Rattle.box_bisect.specs.SlabTests.{TurnsBetween}
 use Rattle.box_bisect.proofs.Searching.{late_held, not_removed, removed_of}
 use Rattle.width_bisect.specs.Early.{lows_of}
-use Rattle.width_bisect.specs.Halved.{first2, first4, last2, last4}
-use Rattle.width_bisect.proofs.Early.{after_lows, after_rises, after_search, after_within, join_early}
-use Rattle.width_bisect.proofs.Tried.{late_mark, marked_as_last, tried_free, tried_held}
+use Rattle.width_bisect.proofs.Early.{after_lows, after_rises, after_within, join_early}
+use Rattle.width_bisect.proofs.Middle.{first_searched, late_half, middle_tried}
+use Rattle.width_bisect.proofs.Tried.{tried_held}
 use Rattle.bern_form.specs.Marks.{some_holds}
-use Rattle.width_bisect.proofs.Searching.{behind_none, first_forms, left_by, left_is_by, middle_held, search_cell, search_dropped, search_first, search_forms, search_last, searched_as, stopped_at, test_as, turns_by, width_by}
+use Rattle.width_bisect.proofs.Searching.{behind_none, left_by, left_is_by, middle_held, search_cell, search_dropped, search_forms, stopped_at, test_as, turns_by, width_by}
 use Rattle.width_bisect.proofs.search.+search.Goals as goal
 
 pub mark_between-returns-then-is_behind : goal.mark_between-returns-then-is_behind
@@ -59,14 +58,14 @@ mark_by_halves-returns-then-levels-eq0 t c = λ m p j s left.
     search_cell inner outer u n width m p S a.high a.levels j c.if-levels-eq0.true s left
 
 pub mark_by_halves-returns-then-is_removed : goal.mark_by_halves-returns-then-is_removed
-mark_by_halves-returns-then-is_removed t c = λ m p j s left.
-    let a = c.args in let S = a.scale in let inner = a.inner.now in let outer = a.outer.now in let u = a.stretch.now.u in let n = a.stretch.now.n in let width = a.stretch.now.width in
-    let k = a.levels - 1 in let e : a.levels ≡ k + 1 = omega (arith, c.if-levels-eq0.false) in let i = j + 2 ^ k in
-    let first = c.first_half-first.ensures in let at' = c.last_of.result in let is = c.last_of.ensures in let middle = c.mark-middle.result in
-    let forms = first_forms inner outer u n width m p S a.high a.levels k j e s in
-    let tried = marked_as_last inner outer middle at'.scale at'.u at'.n at'.width (first2 u) (first2 n) (first4 width) m p j i S forms c.mark-middle.ensures
-    is.scale (is.u ∙ ap (λ l. at l 2) first.u) (is.n ∙ ap (λ l. at l 2) first.n) (is.width ∙ ap (λ l. at l 4) first.width) in
-    middle_held inner outer m p S a.levels k j e (tried_held middle (some_holds inner m p i S) (some_holds outer m p i S) tried (sym c.is_removed.ensures ∙ c.if-is_removed.true))
+mark_by_halves-returns-then-is_removed t c = λ m p j search left.
+    let a = c.args in let S = a.scale in let inner = a.inner.now in let outer = a.outer.now in let s = a.stretch.now in
+    let k = a.levels - 1 in let e : a.levels ≡ k + 1 = omega (arith, c.if-levels-eq0.false) in
+    let i = j + 2 ^ k in let middle = c.mark-middle.result in
+    let tried = middle_tried inner outer c.mark-middle.result s c.first_half-first.result c.last_of.result m p S a.high a.levels k j e search
+    c.first_half-first.ensures c.last_of.ensures c.mark-middle.ensures in
+    middle_held inner outer m p S a.levels k j e
+    (tried_held middle (some_holds inner m p i S) (some_holds outer m p i S) tried (sym c.is_removed.ensures ∙ c.if-is_removed.true))
 
 pub mark_by_halves-mark_between-found-requires : goal.mark_by_halves-mark_between-found-requires
 mark_by_halves-mark_between-found-requires t c =
@@ -78,20 +77,15 @@ mark_by_halves-mark_between-found-requires t c =
     search rules
 
 pub mark_by_halves-returns-then-is_removed-2 : goal.mark_by_halves-returns-then-is_removed-2
-mark_by_halves-returns-then-is_removed-2 t c = λ m p j s left.
-    let a = c.args in let S = a.scale in let inner = a.inner.now in let outer = a.outer.now in let u = a.stretch.now.u in let n = a.stretch.now.n in let width = a.stretch.now.width in
-    let k = a.levels - 1 in let e : a.levels ≡ k + 1 = omega (arith, c.if-levels-eq0.false) in let i = j + 2 ^ k in
-    let first = c.first_half-first.ensures in let at' = c.last_of.result in let is = c.last_of.ensures in let middle = c.mark-middle.result in
-    let forms = first_forms inner outer u n width m p S a.high a.levels k j e s in
-    let tried = marked_as_last inner outer middle at'.scale at'.u at'.n at'.width (first2 u) (first2 n) (first4 width) m p j i S forms c.mark-middle.ensures
-    is.scale (is.u ∙ ap (λ l. at l 2) first.u) (is.n ∙ ap (λ l. at l 2) first.n) (is.width ∙ ap (λ l. at l 4) first.width) in
-    let not_removed' = sym c.is_removed.ensures ∙ c.if-is_removed.false in
-    let free = tried_free middle (some_holds inner m p i S) (some_holds outer m p i S) tried not_removed' (s.searched.enclosed i) in
-    let last = c.last_half-last.ensures in let half = c.last_half-last.result in let found = c.mark_between-found.result in let late = c.joined-late.result in
-    let late_search = after_search middle inner outer c.slabs_after-late_slabs.result.now half.u half.n half.width m p S a.high k i c.slabs_after-late_slabs.ensures c.requires.lows
-    (searched_as inner outer half.u half.n half.width (last2 u) (last2 n) (last4 width) m p S a.high k i last.u last.n last.width (search_last inner outer u n width m p S a.high a.levels k j e s free)) in
-    let late_is = subst (λ mark. IsMarkBetween mark inner outer m p i (i + 2 ^ k) S) (sym c.joined-late.ensures)
-    (late_mark found middle inner outer c.slabs_after-late_slabs.result.now u n width m p S a.high a.levels k j s tried not_removed' c.slabs_after-late_slabs.ensures (c.mark_between-found.ensures m p i late_search)) in
+mark_by_halves-returns-then-is_removed-2 t c = λ m p j search left.
+    let a = c.args in let S = a.scale in let inner = a.inner.now in let outer = a.outer.now in let s = a.stretch.now in
+    let k = a.levels - 1 in let e : a.levels ≡ k + 1 = omega (arith, c.if-levels-eq0.false) in
+    let tried = middle_tried inner outer c.mark-middle.result s c.first_half-first.result c.last_of.result m p S a.high a.levels k j e search
+    c.first_half-first.ensures c.last_of.ensures c.mark-middle.ensures in
+    let free = sym c.is_removed.ensures ∙ c.if-is_removed.false in let late = c.joined-late.result in
+    let late_is = late_half inner outer c.slabs_after-late_slabs.result.now c.mark_between-found.result c.mark-middle.result late s c.last_half-last.result
+    m p S a.high a.levels k j e search c.last_half-last.ensures tried free c.slabs_after-late_slabs.ensures c.requires.lows
+    c.mark_between-found.ensures c.joined-late.ensures in
     late_held late inner outer m p S a.levels k j e (removed_of late (sym c.is_removed-2.ensures ∙ c.if-is_removed-2.true)) late_is
 
 pub mark_by_halves-mark_between-early-requires : goal.mark_by_halves-mark_between-early-requires
@@ -104,23 +98,18 @@ mark_by_halves-mark_between-early-requires t c =
     search rules
 
 pub mark_by_halves-returns : goal.mark_by_halves-returns
-mark_by_halves-returns t c = λ m p j s left.
-    let a = c.args in let S = a.scale in let inner = a.inner.now in let outer = a.outer.now in let u = a.stretch.now.u in let n = a.stretch.now.n in let width = a.stretch.now.width in
-    let k = a.levels - 1 in let e : a.levels ≡ k + 1 = omega (arith, c.if-levels-eq0.false) in let i = j + 2 ^ k in
-    let first = c.first_half-first.ensures in let at' = c.last_of.result in let is = c.last_of.ensures in let middle = c.mark-middle.result in
-    let forms = first_forms inner outer u n width m p S a.high a.levels k j e s in
-    let tried = marked_as_last inner outer middle at'.scale at'.u at'.n at'.width (first2 u) (first2 n) (first4 width) m p j i S forms c.mark-middle.ensures
-    is.scale (is.u ∙ ap (λ l. at l 2) first.u) (is.n ∙ ap (λ l. at l 2) first.n) (is.width ∙ ap (λ l. at l 4) first.width) in
-    let not_removed' = sym c.is_removed.ensures ∙ c.if-is_removed.false in
-    let free = tried_free middle (some_holds inner m p i S) (some_holds outer m p i S) tried not_removed' (s.searched.enclosed i) in
-    let last = c.last_half-last.ensures in let half = c.last_half-last.result in let found = c.mark_between-found.result in let late = c.joined-late.result in
-    let late_search = after_search middle inner outer c.slabs_after-late_slabs.result.now half.u half.n half.width m p S a.high k i c.slabs_after-late_slabs.ensures c.requires.lows
-    (searched_as inner outer half.u half.n half.width (last2 u) (last2 n) (last4 width) m p S a.high k i last.u last.n last.width (search_last inner outer u n width m p S a.high a.levels k j e s free)) in
-    let late_is = subst (λ mark. IsMarkBetween mark inner outer m p i (i + 2 ^ k) S) (sym c.joined-late.ensures)
-    (late_mark found middle inner outer c.slabs_after-late_slabs.result.now u n width m p S a.high a.levels k j s tried not_removed' c.slabs_after-late_slabs.ensures (c.mark_between-found.ensures m p i late_search)) in
-    let slabs = c.slabs_after-early_slabs.result.now in let early = c.mark_between-early.result in let begun = c.first_half-first.result in
-    let early_start = after_search late inner outer slabs begun.u begun.n begun.width m p S a.high k j c.slabs_after-early_slabs.ensures c.requires.lows
-    (searched_as inner outer begun.u begun.n begun.width (first2 u) (first2 n) (first4 width) m p S a.high k j first.u first.n first.width (search_first inner outer u n width m p S a.high a.levels k j e s free)) in
+mark_by_halves-returns t c = λ m p j search left.
+    let a = c.args in let S = a.scale in let inner = a.inner.now in let outer = a.outer.now in let s = a.stretch.now in
+    let k = a.levels - 1 in let e : a.levels ≡ k + 1 = omega (arith, c.if-levels-eq0.false) in
+    let tried = middle_tried inner outer c.mark-middle.result s c.first_half-first.result c.last_of.result m p S a.high a.levels k j e search
+    c.first_half-first.ensures c.last_of.ensures c.mark-middle.ensures in
+    let free = sym c.is_removed.ensures ∙ c.if-is_removed.false in let late = c.joined-late.result in
+    let late_is = late_half inner outer c.slabs_after-late_slabs.result.now c.mark_between-found.result c.mark-middle.result late s c.last_half-last.result
+    m p S a.high a.levels k j e search c.last_half-last.ensures tried free c.slabs_after-late_slabs.ensures c.requires.lows
+    c.mark_between-found.ensures c.joined-late.ensures in
+    let slabs = c.slabs_after-early_slabs.result.now in let early = c.mark_between-early.result in
+    let early_search = first_searched inner outer slabs c.mark-middle.result late s c.first_half-first.result m p S a.high a.levels k j e search
+    c.first_half-first.ensures tried free c.slabs_after-early_slabs.ensures c.requires.lows in
     subst (λ mark. IsMarkBetween mark inner outer m p j (j + 2 ^ a.levels) S) (sym c.joined.ensures)
-    (join_early early late inner outer slabs m p S a.levels k j e c.slabs_after-early_slabs.ensures (not_removed late (sym c.is_removed-2.ensures ∙ c.if-is_removed-2.false))
-    (c.mark_between-early.ensures m p j early_start) late_is)
+    (join_early early late inner outer slabs m p S a.levels k j e c.slabs_after-early_slabs.ensures
+    (not_removed late (sym c.is_removed-2.ensures ∙ c.if-is_removed-2.false)) (c.mark_between-early.ensures m p j early_search) late_is)
