@@ -1,13 +1,11 @@
-use Rattle.std.proofs.Common.{◌≡◌, Bool, ◌+◌, ◌-◌, ◌^◌, ◌≤◌, length, arith, rules, sym, subst, ap, ◌∙◌}
+use Rattle.std.proofs.Common.{◌≡◌, Bool, ◌+◌, ◌-◌, ◌^◌, arith, rules, sym, subst, ap, ◌∙◌}
 use Rattle.bern_form.specs.Between.{d_between}
 use Rattle.bern_form.specs.Forms.{all_positive}
 use Rattle.bern_form.specs.Slab.{SlabSize}
-use Rattle.cutter_slabs.specs.Rising.{IsRising}
 use Rattle.box_bisect.specs.Between.{IsMarkBetween}
 use Rattle.box_bisect.specs.SlabTests.{TurnsBetween}
 use Rattle.box_bisect.proofs.Searching.{late_held, not_removed, removed_of}
-use Rattle.width_bisect.specs.Early.{lows_of}
-use Rattle.width_bisect.proofs.Early.{after_lows, after_rises, after_within, join_early}
+use Rattle.width_bisect.proofs.Early.{after_asked, join_early}
 use Rattle.width_bisect.proofs.Middle.{first_searched, late_half, middle_tried}
 use Rattle.width_bisect.proofs.Tried.{tried_held}
 use Rattle.bern_form.specs.Marks.{some_holds}
@@ -69,12 +67,14 @@ mark_by_halves-returns-then-is_removed t c = λ m p j search left.
 
 pub mark_by_halves-mark_between-found-requires : goal.mark_by_halves-mark_between-found-requires
 mark_by_halves-mark_between-found-requires t c =
-    let middle = c.mark-middle.result in let inner = c.args.inner.now in let outer = c.args.outer.now in let is = c.slabs_after-late_slabs.ensures in let slabs = c.slabs_after-late_slabs.result.now in
-    let more = c.if-levels-eq0.false in
-    let within : c.args.high ≤ length slabs = after_within middle inner outer slabs c.args.high is c.requires.lows c.requires.high in
-    let rises : IsRising slabs = after_rises middle inner outer slabs is c.requires.inner c.requires.outer in
-    let lows : lows_of inner ≡ lows_of slabs = after_lows middle inner outer slabs is c.requires.lows in
-    search rules
+    let a = c.args in let h = c.requires in let more = c.if-levels-eq0.false in (
+      search rules,
+      (
+        h.scale,
+        after_asked c.mark-middle.result a.inner.now a.outer.now c.slabs_after-late_slabs.result.now a.high
+            c.slabs_after-late_slabs.ensures h.lows h.inner h.outer h.high,
+      ),
+    )
 
 pub mark_by_halves-returns-then-is_removed-2 : goal.mark_by_halves-returns-then-is_removed-2
 mark_by_halves-returns-then-is_removed-2 t c = λ m p j search left.
@@ -90,12 +90,14 @@ mark_by_halves-returns-then-is_removed-2 t c = λ m p j search left.
 
 pub mark_by_halves-mark_between-early-requires : goal.mark_by_halves-mark_between-early-requires
 mark_by_halves-mark_between-early-requires t c =
-    let late = c.joined-late.result in let inner = c.args.inner.now in let outer = c.args.outer.now in let is = c.slabs_after-early_slabs.ensures in let slabs = c.slabs_after-early_slabs.result.now in
-    let more = c.if-levels-eq0.false in
-    let within : c.args.high ≤ length slabs = after_within late inner outer slabs c.args.high is c.requires.lows c.requires.high in
-    let rises : IsRising slabs = after_rises late inner outer slabs is c.requires.inner c.requires.outer in
-    let lows : lows_of inner ≡ lows_of slabs = after_lows late inner outer slabs is c.requires.lows in
-    search rules
+    let a = c.args in let h = c.requires in let more = c.if-levels-eq0.false in (
+      search rules,
+      (
+        h.scale,
+        after_asked c.joined-late.result a.inner.now a.outer.now c.slabs_after-early_slabs.result.now a.high
+            c.slabs_after-early_slabs.ensures h.lows h.inner h.outer h.high,
+      ),
+    )
 
 pub mark_by_halves-returns : goal.mark_by_halves-returns
 mark_by_halves-returns t c = λ m p j search left.
