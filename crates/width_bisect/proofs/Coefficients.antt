@@ -46,7 +46,8 @@ pub second4_gives : (r a b : ℤ) → FitsSigned w128 r → r ≡ second4 (word 
 second4_gives r a b fits is ha hb = to_z-of_z w128 r fits ∙ is ∙ (λ i. second4 (end_kept a ha i) (inner_kept b hb i))
 
 -- the third
-pub third4_takes : (a b c : ℤ) → IsEnd a → IsInner b → IsMiddle c → record { a : IsEnd (word a); b : IsInner (word b); c : IsMiddle (word c) }
+pub third4_takes : (a b c : ℤ) → IsEnd a → IsInner b → IsMiddle c
+    → record { a : IsEnd (word a); b : IsInner (word b); c : IsMiddle (word c) }
 third4_takes a b c ha hb hc = record { a = end_passed a ha; b = inner_passed b hb; c = middle_passed c hc }
 
 pub third4_gives : (r a b c : ℤ) → FitsSigned w128 r → r ≡ third4 (word a) (word b) (word c) → IsEnd a → IsInner b → IsMiddle c

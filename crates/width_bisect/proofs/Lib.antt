@@ -15,4 +15,5 @@ pub mod Closing
 pub mod Answering
 pub mod Bounding
 pub mod Parts
+pub mod Ahead
 pub mod Beside
