@@ -11,6 +11,7 @@ pub mod Early
 pub mod Tried
 pub mod Middle
 pub mod Beginning
+pub mod Ends
 pub mod Closing
 pub mod Answering
 pub mod Bounding

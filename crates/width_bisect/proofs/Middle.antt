@@ -1,41 +1,31 @@
 -- The sample in the middle of a stretch that is searched, and the halves on either side of it.
-use Rattle.std.proofs.Common.{◌≡◌, false, ℕ, ◌+◌, ◌^◌, List, ℤ, pos, ◌*ℤ◌, ap, subst, sym, ◌∙◌}
+use Rattle.std.proofs.Common.{◌≡◌, false, ℕ, ◌+◌, ◌^◌, List, ℤ, ap, subst, sym, ◌∙◌}
 use Rattle.space.specs.Motion.{Motion}
 use Rattle.space.specs.Vectors.{at}
 use Rattle.bern_form.specs.Marks.{some_holds}
 use Rattle.bern_form.specs.Slab.{SlabSize}
 use Rattle.axis_cells.specs.declared.mark.Mark.{Mark}
 use Rattle.box_bisect.specs.Between.{IsMarkBetween, is_removed_mark, joined_mark}
-use Rattle.box_bisect.specs.SlabTests.{some_covers}
 use Rattle.width_bisect.specs.declared.sample.Sample.{Sample}
 use Rattle.width_bisect.specs.declared.stretch.Stretch.{Stretch}
-use Rattle.width_bisect.specs.Early.{lows_of, sample_mark, slabs_after}
+use Rattle.width_bisect.specs.Early.{lows_of, slabs_after}
 use Rattle.width_bisect.specs.Halved.{first2, first4, last2, last4}
 use Rattle.width_bisect.specs.Searches.{IsWidthSearch}
 use Rattle.width_bisect.proofs.Early.{after_search}
+use Rattle.width_bisect.proofs.Ends.{IsLastOf, IsMarkAt, IsMarkBy}
 use Rattle.width_bisect.proofs.Searching.{first_forms, search_first, search_last, searched_as}
 use Rattle.width_bisect.proofs.Tried.{late_mark, marked_as_last, tried_free}
 
--- what the code has: the halves, the last sample of a stretch, and a mark by a sample
+-- what the code has of the halves
 abbrev IsFirstHalf : Stretch → Stretch → Type 0
 IsFirstHalf first s = record { u : first.u ≡ first2 s.u; n : first.n ≡ first2 s.n; width : first.width ≡ first4 s.width }
 
 abbrev IsLastHalf : Stretch → Stretch → Type 0
 IsLastHalf last s = record { u : last.u ≡ last2 s.u; n : last.n ≡ last2 s.n; width : last.width ≡ last4 s.width }
 
-abbrev IsLastOf : Sample → Stretch → ℕ → Type 0
-IsLastOf x s S = record { scale : x.scale ≡ S; u : x.u ≡ at s.u 2; n : x.n ≡ at s.n 2; width : x.width ≡ at s.width 4 }
-
-abbrev IsMarkBy : Mark → Sample → List SlabSize → List SlabSize → Type 0
-IsMarkBy mark x inner outer =
-    (w : ℤ) → x.width ≡ pos 4 *ℤ w
-    → mark ≡ sample_mark (some_covers (pos x.scale) x.u x.n w inner) (some_covers (pos x.scale) x.u x.n w outer)
-
 -- what the mark of the middle sample says
-abbrev IsMarkAt : Mark → List SlabSize → List SlabSize → Motion → List ℤ → ℕ → ℕ → Type 0
-IsMarkAt mark inner outer m p i S = mark ≡ sample_mark (some_holds inner m p i S) (some_holds outer m p i S)
-
-pub middle_tried : (inner outer : List SlabSize) (mark : Mark) (s first : Stretch) (x : Sample) (m : Motion) (p : List ℤ) (S high levels k j : ℕ) → levels ≡ k + 1
+pub middle_tried : (inner outer : List SlabSize) (mark : Mark) (s first : Stretch) (x : Sample)
+    (m : Motion) (p : List ℤ) (S high levels k j : ℕ) → levels ≡ k + 1
     → IsWidthSearch inner outer s.u s.n s.width m p S high levels j → IsFirstHalf first s → IsLastOf x first S → IsMarkBy mark x inner outer
     → IsMarkAt mark inner outer m p (j + 2 ^ k) S
 middle_tried inner outer mark s first x m p S high levels k j e search half is marked =
@@ -44,7 +34,8 @@ middle_tried inner outer mark s first x m p S high levels k j e search half is m
     is.scale (is.u ∙ ap (λ l. at l 2) half.u) (is.n ∙ ap (λ l. at l 2) half.n) (is.width ∙ ap (λ l. at l 4) half.width)
 
 -- so the halves are searched, by the slabs that are excluded once a mark is known
-pub first_searched : (inner outer slabs : List SlabSize) (mark known : Mark) (s first : Stretch) (m : Motion) (p : List ℤ) (S high levels k j : ℕ) → levels ≡ k + 1
+pub first_searched : (inner outer slabs : List SlabSize) (mark known : Mark) (s first : Stretch)
+    (m : Motion) (p : List ℤ) (S high levels k j : ℕ) → levels ≡ k + 1
     → IsWidthSearch inner outer s.u s.n s.width m p S high levels j → IsFirstHalf first s → IsMarkAt mark inner outer m p (j + 2 ^ k) S
     → is_removed_mark mark ≡ false
     → slabs ≡ slabs_after known inner outer → lows_of inner ≡ lows_of outer
@@ -56,7 +47,8 @@ first_searched inner outer slabs mark known s first m p S high levels k j e sear
     (searched_as inner outer first.u first.n first.width (first2 s.u) (first2 s.n) (first4 s.width) m p S high k j half.u half.n half.width
     (search_first inner outer s.u s.n s.width m p S high levels k j e search none))
 
-pub last_searched : (inner outer slabs : List SlabSize) (mark : Mark) (s last : Stretch) (m : Motion) (p : List ℤ) (S high levels k j : ℕ)
+pub last_searched : (inner outer slabs : List SlabSize) (mark : Mark) (s last : Stretch)
+    (m : Motion) (p : List ℤ) (S high levels k j : ℕ)
     → levels ≡ k + 1
     → IsWidthSearch inner outer s.u s.n s.width m p S high levels j → IsLastHalf last s → IsMarkAt mark inner outer m p (j + 2 ^ k) S
     → is_removed_mark mark ≡ false
@@ -70,7 +62,8 @@ last_searched inner outer slabs mark s last m p S high levels k j e search half 
     (search_last inner outer s.u s.n s.width m p S high levels k j e search none))
 
 -- and the late half has the mark that is found on it, joined to that of the sample
-pub late_half : (inner outer slabs : List SlabSize) (found mark late : Mark) (s last : Stretch) (m : Motion) (p : List ℤ) (S high levels k j : ℕ) → levels ≡ k + 1
+pub late_half : (inner outer slabs : List SlabSize) (found mark late : Mark) (s last : Stretch)
+    (m : Motion) (p : List ℤ) (S high levels k j : ℕ) → levels ≡ k + 1
     → IsWidthSearch inner outer s.u s.n s.width m p S high levels j → IsLastHalf last s → IsMarkAt mark inner outer m p (j + 2 ^ k) S
     → is_removed_mark mark ≡ false
     → slabs ≡ slabs_after mark inner outer → lows_of inner ≡ lows_of outer
