@@ -1,9 +1,7 @@
 -- The answer for a point that isn't behind the tip throughout, from its forms on a part of the move.
-use Rattle.std.proofs.Common.{◌≡◌, Bool, true, false, ℕ, ◌+◌, ◌*◌, ◌^◌, ◌<◌, ◌≤◌, List, ℤ, pos, arith, ap, refl, sym, ◌∙◌}
+use Rattle.std.proofs.Common.{◌≡◌, true, ℕ, ◌+◌, ◌*◌, ◌^◌, ◌<◌, ◌≤◌, List, ℤ, pos, arith, ap, refl, sym, ◌∙◌}
 use Rattle.space.specs.Motion.{Motion, IsSweep}
 use Rattle.space.specs.Ranges.{IsPoint}
-use Rattle.bern_form.specs.Between.{d_between}
-use Rattle.bern_form.specs.Forms.{all_negative, lifted, product22}
 use Rattle.bern_form.specs.Marks.{some_holds}
 use Rattle.bern_form.specs.Sizes.{IsBounded2, axis_limit, scale_limit}
 use Rattle.bern_form.specs.Slab.{SlabSize}
@@ -13,9 +11,7 @@ use Rattle.cutter_slabs.specs.Cutter.{CutterSize}
 use Rattle.cutter_slabs.specs.Stacks.{inner_stack, outer_stack, reach_of}
 use Rattle.cutter_marks.specs.MarkBy.{mark_by}
 use Rattle.box_bisect.specs.Between.{IsMarkBetween}
-use Rattle.box_bisect.specs.SlabTests.{is_left_by, is_left_with}
 use Rattle.width_bisect.specs.declared.asked.Asked.{Asked}
-use Rattle.width_bisect.specs.declared.lists.Lists.{Lists}
 use Rattle.width_bisect.specs.declared.stretch.Stretch.{Stretch}
 use Rattle.width_bisect.specs.Asked.{IsAnswer, slabs_for}
 use Rattle.width_bisect.specs.Forms.{AreWidthForms}
@@ -24,7 +20,6 @@ use Rattle.width_bisect.specs.Sizes.{IsWeighted4, height_limit, width_limit}
 use Rattle.width_bisect.proofs.Answering.{encloses}
 use Rattle.width_bisect.proofs.Closing.{forms_small}
 use Rattle.width_bisect.proofs.Parts.{answered_on_part, part_kept}
-use Rattle.width_bisect.proofs.Searching.{left_by, width_by}
 
 -- the forms are small enough for a stretch
 pub part_small : (slabs : List SlabSize) (u n width : List ℤ) (m : Motion) (p : List ℤ) (S T levels : ℕ) → IsSweep m → IsPoint p → S ≡ T
@@ -36,20 +31,9 @@ part_small slabs u n width m p S T levels sweep point cells few kept =
     let small = forms_small u n width m p part.first (part.first + 2 ^ levels) S sweep point (omega arith) part.within few part.forms in
     record { u = small.u_small; n = small.n_small; width = small.width_small }
 
--- what the code has: the stretch of the forms, and the lists of a stretch
+-- what the code has of the forms
 abbrev IsWholeOf : Stretch → List ℤ → List ℤ → List ℤ → Type 0
 IsWholeOf w u n width = record { u : w.u ≡ u; n : w.n ≡ n; width : w.width ≡ width }
-
-abbrev AreListsOf : Lists → Stretch → ℕ → Type 0
-AreListsOf l w S = record { scale : l.scale ≡ S; raised : l.raised ≡ lifted w.n; height : l.height ≡ product22 w.u w.u }
-
--- whether the lists leave a slab is whether the forms do
-pub lists_leave : (slabs : List SlabSize) (left : Bool) (w : Stretch) (l : Lists) (m : Motion) (p : List ℤ) (S j k : ℕ)
-    → AreListsOf l w S → all_negative w.u ≡ false
-    → left ≡ is_left_by l.scale false l.raised l.height w.width slabs → AreWidthForms w.u w.n w.width m p j k S
-    → left ≡ is_left_with slabs S w.u w.n (d_between m p j k S)
-lists_leave slabs left w l m p S j k of ahead found forms =
-    found ∙ left_by slabs S l.scale l.raised l.height w.width w.u w.n (d_between m p j k S) of.scale ahead of.raised of.height (width_by w.u w.n w.width m p j k S forms)
 
 -- a mark that is right on the part answers
 pub answered_ahead : (asked : Asked) (given : Mark) (c : CutterSize) (b : ℕ) (inner slabs : List SlabSize) (w : Stretch) (u n width : List ℤ) (m : Motion) (p : List ℤ) (S T levels : ℕ)

@@ -6,6 +6,7 @@ pub mod Halving
 pub mod Fitting
 pub mod Sampling
 pub mod Searching
+pub mod Listed
 pub mod Lows
 pub mod Early
 pub mod Tried

@@ -14,9 +14,10 @@ use Rattle.box_bisect.proofs.Marking.{far_mark, mark_is}
 use Rattle.box_bisect.proofs.Searching.{dropped, some_cells}
 use Rattle.width_bisect.specs.Early.{lows_of}
 use Rattle.width_bisect.specs.Forms.{AreWidthForms}
-use Rattle.width_bisect.proofs.Ahead.{answered_ahead, lists_leave, part_small}
+use Rattle.width_bisect.proofs.Ahead.{answered_ahead, part_small}
 use Rattle.width_bisect.proofs.Answering.{answers, begin_alike}
 use Rattle.width_bisect.proofs.Closing.{clear_is, marked_by}
+use Rattle.width_bisect.proofs.Listed.{lists_leave}
 use Rattle.width_bisect.proofs.Searching.{forms_by, test_as}
 use Rattle.width_bisect.proofs.point.mark_ahead.Goals as goal
 

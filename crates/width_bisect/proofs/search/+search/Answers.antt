@@ -1,4 +1,4 @@
-use Rattle.std.proofs.Common.{◌≡◌, Bool, ◌+◌, ◌-◌, ◌^◌, arith, rules, sym, subst, ap, ◌∙◌}
+use Rattle.std.proofs.Common.{◌≡◌, Bool, ◌+◌, ◌-◌, ◌^◌, arith, rules, refl, sym, subst, ap, ◌∙◌}
 use Rattle.bern_form.specs.Between.{d_between}
 use Rattle.bern_form.specs.Forms.{all_positive}
 use Rattle.bern_form.specs.Slab.{SlabSize}
@@ -6,54 +6,52 @@ use Rattle.box_bisect.specs.Between.{IsMarkBetween}
 use Rattle.box_bisect.specs.SlabTests.{TurnsBetween}
 use Rattle.box_bisect.proofs.Searching.{late_held, not_removed, removed_of}
 use Rattle.width_bisect.proofs.Early.{after_asked, join_early}
+use Rattle.width_bisect.proofs.Listed.{lists_leave, search_leaves, search_turns}
 use Rattle.width_bisect.proofs.Middle.{first_searched, late_half, middle_tried}
 use Rattle.width_bisect.proofs.Tried.{tried_held}
 use Rattle.bern_form.specs.Marks.{some_holds}
-use Rattle.width_bisect.proofs.Searching.{behind_none, left_by, left_is_by, middle_held, search_cell, search_dropped, search_forms, stopped_at, test_as, turns_by, width_by}
+use Rattle.width_bisect.proofs.Searching.{behind_none, middle_held, search_cell, search_dropped, search_forms, stopped_at, test_as}
 use Rattle.width_bisect.proofs.search.+search.Goals as goal
 
 pub mark_between-returns-then-is_behind : goal.mark_between-returns-then-is_behind
 mark_between-returns-then-is_behind t c = λ m p j s.
-    let a = c.args in let S = a.scale in let inner = a.inner.now in let outer = a.outer.now in let u = a.stretch.now.u in let n = a.stretch.now.n in let width = a.stretch.now.width in
+    let a = c.args in let S = a.scale in let inner = a.inner.now in let outer = a.outer.now in let w = a.stretch.now in
     let d = d_between m p j (j + 2 ^ a.levels) S in
-    search_dropped inner outer u n width m p S a.high a.levels j s (behind_none outer S u n d (sym c.is_behind.ensures ∙ c.if-is_behind.true))
+    search_dropped inner outer w.u w.n w.width m p S a.high a.levels j s
+    (behind_none outer S w.u w.n d (sym c.is_behind.ensures ∙ c.if-is_behind.true))
 
 pub mark_between-returns-then-are_beside : goal.mark_between-returns-then-are_beside
 mark_between-returns-then-are_beside t c = λ m p j s.
-    let a = c.args in let S = a.scale in let inner = a.inner.now in let outer = a.outer.now in let u = a.stretch.now.u in let n = a.stretch.now.n in let width = a.stretch.now.width in
-    let k = j + 2 ^ a.levels in let d = d_between m p j k S in let l = c.of_stretch-lists.result in let e = c.of_stretch-lists.ensures in
-    let ahead = sym c.is_behind.ensures ∙ c.if-is_behind.false in
-    let turns = subst (λ (t : SlabSize → Bool). TurnsBetween t outer 0 a.high) (sym (test_as S l.scale l.raised l.height u n e.scale e.raised e.height)) s.turns in
-    let forms = search_forms inner outer u n width m p S a.high a.levels j s in
-    let left = left_by outer S l.scale l.raised l.height width u n d e.scale ahead e.raised e.height (width_by u n width m p j k S forms) in
-    search_dropped inner outer u n width m p S a.high a.levels j s (sym left ∙ c.are_beside.ensures c.if-are_beside.true c.requires.outer (ap all_positive e.raised ∙ s.is_open) turns)
+    let a = c.args in let S = a.scale in let inner = a.inner.now in let outer = a.outer.now in let w = a.stretch.now in
+    let l = c.of_stretch-lists.result in let e = c.of_stretch-lists.ensures in let ahead = sym c.is_behind.ensures ∙ c.if-is_behind.false in
+    let turns = subst (λ (t : SlabSize → Bool). TurnsBetween t outer 0 a.high)
+    (sym (test_as S l.scale l.raised l.height w.u w.n e.scale e.raised e.height)) s.turns in
+    let left = lists_leave outer _ w l m p S j (j + 2 ^ a.levels) e ahead refl (search_forms inner outer w.u w.n w.width m p S a.high a.levels j s) in
+    search_dropped inner outer w.u w.n w.width m p S a.high a.levels j s
+    (sym left ∙ c.are_beside.ensures c.if-are_beside.true c.requires.outer (ap all_positive e.raised ∙ s.is_open) turns)
 
 pub mark_between-returns-then-not-leaves_some : goal.mark_between-returns-then-not-leaves_some
 mark_between-returns-then-not-leaves_some t c = λ m p j s.
-    let a = c.args in let S = a.scale in let inner = a.inner.now in let outer = a.outer.now in let u = a.stretch.now.u in let n = a.stretch.now.n in let width = a.stretch.now.width in
-    let k = j + 2 ^ a.levels in let d = d_between m p j k S in let l = c.of_stretch-lists.result in let e = c.of_stretch-lists.ensures in let reached = c.walk_down-reached.result in
-    let ahead = sym c.is_behind.ensures ∙ c.if-is_behind.false in
-    let turns = turns_by outer S l.scale a.high reached l.raised l.height u n e.scale e.raised e.height c.walk_down-reached.ensures s.turns in
-    let forms = search_forms inner outer u n width m p S a.high a.levels j s in
-    let left = left_is_by outer c.leaves_some.result S l.scale reached l.raised l.height width u n d c.requires.outer e.scale ahead e.raised e.height (width_by u n width m p j k S forms)
-    s.is_open turns c.leaves_some.ensures in
-    search_dropped inner outer u n width m p S a.high a.levels j s (sym left ∙ c.if-not-leaves_some.true)
+    let a = c.args in let S = a.scale in let inner = a.inner.now in let outer = a.outer.now in let w = a.stretch.now in
+    let lists = c.of_stretch-lists in let ahead = sym c.is_behind.ensures ∙ c.if-is_behind.false in let reached = c.walk_down-reached in
+    let left = search_leaves inner outer c.leaves_some.result w lists.result m p S a.high reached.result a.levels j
+    lists.ensures ahead c.requires.outer reached.ensures c.leaves_some.ensures s in
+    search_dropped inner outer w.u w.n w.width m p S a.high a.levels j s (sym left ∙ c.if-not-leaves_some.true)
 
 pub mark_between-returns : goal.mark_between-returns
 mark_between-returns t c = λ m p j s.
-    let a = c.args in let S = a.scale in let inner = a.inner.now in let outer = a.outer.now in let u = a.stretch.now.u in let n = a.stretch.now.n in let width = a.stretch.now.width in
-    let k = j + 2 ^ a.levels in let d = d_between m p j k S in let l = c.of_stretch-lists.result in let e = c.of_stretch-lists.ensures in let reached = c.walk_down-reached.result in
-    let ahead = sym c.is_behind.ensures ∙ c.if-is_behind.false in
-    let turns = turns_by outer S l.scale a.high reached l.raised l.height u n e.scale e.raised e.height c.walk_down-reached.ensures s.turns in
-    let forms = search_forms inner outer u n width m p S a.high a.levels j s in
-    let left = left_is_by outer c.leaves_some.result S l.scale reached l.raised l.height width u n d c.requires.outer e.scale ahead e.raised e.height (width_by u n width m p j k S forms)
-    s.is_open turns c.leaves_some.ensures in
-    c.mark_by_halves.ensures m p j (stopped_at inner outer u n width m p S a.high reached a.levels j turns s) (sym left ∙ c.if-not-leaves_some.false)
+    let a = c.args in let S = a.scale in let inner = a.inner.now in let outer = a.outer.now in let w = a.stretch.now in
+    let lists = c.of_stretch-lists in let ahead = sym c.is_behind.ensures ∙ c.if-is_behind.false in let reached = c.walk_down-reached in
+    let left = search_leaves inner outer c.leaves_some.result w lists.result m p S a.high reached.result a.levels j
+    lists.ensures ahead c.requires.outer reached.ensures c.leaves_some.ensures s in
+    let turns = search_turns inner outer w lists.result m p S a.high reached.result a.levels j lists.ensures reached.ensures s in
+    c.mark_by_halves.ensures m p j (stopped_at inner outer w.u w.n w.width m p S a.high reached.result a.levels j turns s)
+    (sym left ∙ c.if-not-leaves_some.false)
 
 pub mark_by_halves-returns-then-levels-eq0 : goal.mark_by_halves-returns-then-levels-eq0
 mark_by_halves-returns-then-levels-eq0 t c = λ m p j s left.
-    let a = c.args in let S = a.scale in let inner = a.inner.now in let outer = a.outer.now in let u = a.stretch.now.u in let n = a.stretch.now.n in let width = a.stretch.now.width in
-    search_cell inner outer u n width m p S a.high a.levels j c.if-levels-eq0.true s left
+    let a = c.args in let w = a.stretch.now in
+    search_cell a.inner.now a.outer.now w.u w.n w.width m p a.scale a.high a.levels j c.if-levels-eq0.true s left
 
 pub mark_by_halves-returns-then-is_removed : goal.mark_by_halves-returns-then-is_removed
 mark_by_halves-returns-then-is_removed t c = λ m p j search left.
