@@ -1,4 +1,5 @@
 pub mod Shifting
+pub mod Shifted
 pub mod Coefficients
 pub mod Sides
 pub mod Terms4

@@ -26,7 +26,8 @@ mark_between-returns-then-are_beside t c = λ m p j s.
     let l = c.of_stretch-lists.result in let e = c.of_stretch-lists.ensures in let ahead = sym c.is_behind.ensures ∙ c.if-is_behind.false in
     let turns = subst (λ (t : SlabSize → Bool). TurnsBetween t outer 0 a.high)
     (sym (test_as S l.scale l.raised l.height w.u w.n e.scale e.raised e.height)) s.turns in
-    let left = lists_leave outer _ w l m p S j (j + 2 ^ a.levels) e ahead refl (search_forms inner outer w.u w.n w.width m p S a.high a.levels j s) in
+    let left = lists_leave outer _ w l m p S j (j + 2 ^ a.levels) e ahead refl
+    (search_forms inner outer w.u w.n w.width m p S a.high a.levels j s) in
     search_dropped inner outer w.u w.n w.width m p S a.high a.levels j s
     (sym left ∙ c.are_beside.ensures c.if-are_beside.true c.requires.outer (ap all_positive e.raised ∙ s.is_open) turns)
 
@@ -58,8 +59,8 @@ mark_by_halves-returns-then-is_removed t c = λ m p j search left.
     let a = c.args in let S = a.scale in let inner = a.inner.now in let outer = a.outer.now in let s = a.stretch.now in
     let k = a.levels - 1 in let e : a.levels ≡ k + 1 = omega (arith, c.if-levels-eq0.false) in
     let i = j + 2 ^ k in let middle = c.mark-middle.result in
-    let tried = middle_tried inner outer c.mark-middle.result s c.first_half-first.result c.last_of.result m p S a.high a.levels k j e search
-    c.first_half-first.ensures c.last_of.ensures c.mark-middle.ensures in
+    let tried = middle_tried inner outer c.mark-middle.result s c.first_half-first.result c.last_of.result
+    m p S a.high a.levels k j e search c.first_half-first.ensures c.last_of.ensures c.mark-middle.ensures in
     middle_held inner outer m p S a.levels k j e
     (tried_held middle (some_holds inner m p i S) (some_holds outer m p i S) tried (sym c.is_removed.ensures ∙ c.if-is_removed.true))
 
@@ -78,11 +79,11 @@ pub mark_by_halves-returns-then-is_removed-2 : goal.mark_by_halves-returns-then-
 mark_by_halves-returns-then-is_removed-2 t c = λ m p j search left.
     let a = c.args in let S = a.scale in let inner = a.inner.now in let outer = a.outer.now in let s = a.stretch.now in
     let k = a.levels - 1 in let e : a.levels ≡ k + 1 = omega (arith, c.if-levels-eq0.false) in
-    let tried = middle_tried inner outer c.mark-middle.result s c.first_half-first.result c.last_of.result m p S a.high a.levels k j e search
-    c.first_half-first.ensures c.last_of.ensures c.mark-middle.ensures in
+    let tried = middle_tried inner outer c.mark-middle.result s c.first_half-first.result c.last_of.result
+    m p S a.high a.levels k j e search c.first_half-first.ensures c.last_of.ensures c.mark-middle.ensures in
     let free = sym c.is_removed.ensures ∙ c.if-is_removed.false in let late = c.joined-late.result in
-    let late_is = late_half inner outer c.slabs_after-late_slabs.result.now c.mark_between-found.result c.mark-middle.result late s c.last_half-last.result
-    m p S a.high a.levels k j e search c.last_half-last.ensures tried free c.slabs_after-late_slabs.ensures c.requires.lows
+    let late_is = late_half inner outer c.slabs_after-late_slabs.result.now c.mark_between-found.result c.mark-middle.result late s
+    c.last_half-last.result m p S a.high a.levels k j e search c.last_half-last.ensures tried free c.slabs_after-late_slabs.ensures c.requires.lows
     c.mark_between-found.ensures c.joined-late.ensures in
     late_held late inner outer m p S a.levels k j e (removed_of late (sym c.is_removed-2.ensures ∙ c.if-is_removed-2.true)) late_is
 
@@ -101,15 +102,15 @@ pub mark_by_halves-returns : goal.mark_by_halves-returns
 mark_by_halves-returns t c = λ m p j search left.
     let a = c.args in let S = a.scale in let inner = a.inner.now in let outer = a.outer.now in let s = a.stretch.now in
     let k = a.levels - 1 in let e : a.levels ≡ k + 1 = omega (arith, c.if-levels-eq0.false) in
-    let tried = middle_tried inner outer c.mark-middle.result s c.first_half-first.result c.last_of.result m p S a.high a.levels k j e search
-    c.first_half-first.ensures c.last_of.ensures c.mark-middle.ensures in
+    let tried = middle_tried inner outer c.mark-middle.result s c.first_half-first.result c.last_of.result
+    m p S a.high a.levels k j e search c.first_half-first.ensures c.last_of.ensures c.mark-middle.ensures in
     let free = sym c.is_removed.ensures ∙ c.if-is_removed.false in let late = c.joined-late.result in
-    let late_is = late_half inner outer c.slabs_after-late_slabs.result.now c.mark_between-found.result c.mark-middle.result late s c.last_half-last.result
-    m p S a.high a.levels k j e search c.last_half-last.ensures tried free c.slabs_after-late_slabs.ensures c.requires.lows
+    let late_is = late_half inner outer c.slabs_after-late_slabs.result.now c.mark_between-found.result c.mark-middle.result late s
+    c.last_half-last.result m p S a.high a.levels k j e search c.last_half-last.ensures tried free c.slabs_after-late_slabs.ensures c.requires.lows
     c.mark_between-found.ensures c.joined-late.ensures in
     let slabs = c.slabs_after-early_slabs.result.now in let early = c.mark_between-early.result in
-    let early_search = first_searched inner outer slabs c.mark-middle.result late s c.first_half-first.result m p S a.high a.levels k j e search
-    c.first_half-first.ensures tried free c.slabs_after-early_slabs.ensures c.requires.lows in
+    let early_search = first_searched inner outer slabs c.mark-middle.result late s c.first_half-first.result
+    m p S a.high a.levels k j e search c.first_half-first.ensures tried free c.slabs_after-early_slabs.ensures c.requires.lows in
     subst (λ mark. IsMarkBetween mark inner outer m p j (j + 2 ^ a.levels) S) (sym c.joined.ensures)
     (join_early early late inner outer slabs m p S a.levels k j e c.slabs_after-early_slabs.ensures
     (not_removed late (sym c.is_removed-2.ensures ∙ c.if-is_removed-2.false)) (c.mark_between-early.ensures m p j early_search) late_is)
