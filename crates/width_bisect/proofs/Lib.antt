@@ -1,3 +1,4 @@
+pub mod Same
 pub mod Shifting
 pub mod Shifted
 pub mod Coefficients

@@ -83,8 +83,8 @@ mark_by_halves-returns-then-is_removed-2 t c = λ m p j search left.
     m p S a.high a.levels k j e search c.first_half-first.ensures c.last_of.ensures c.mark-middle.ensures in
     let free = sym c.is_removed.ensures ∙ c.if-is_removed.false in let late = c.joined-late.result in
     let late_is = late_half inner outer c.slabs_after-late_slabs.result.now c.mark_between-found.result c.mark-middle.result late s
-    c.last_half-last.result m p S a.high a.levels k j e search c.last_half-last.ensures tried free c.slabs_after-late_slabs.ensures c.requires.lows
-    c.mark_between-found.ensures c.joined-late.ensures in
+    c.last_half-last.result m p S a.high a.levels k j e search c.last_half-last.ensures tried free c.slabs_after-late_slabs.ensures
+    c.requires.lows c.mark_between-found.ensures c.joined-late.ensures in
     late_held late inner outer m p S a.levels k j e (removed_of late (sym c.is_removed-2.ensures ∙ c.if-is_removed-2.true)) late_is
 
 pub mark_by_halves-mark_between-early-requires : goal.mark_by_halves-mark_between-early-requires
@@ -106,8 +106,8 @@ mark_by_halves-returns t c = λ m p j search left.
     m p S a.high a.levels k j e search c.first_half-first.ensures c.last_of.ensures c.mark-middle.ensures in
     let free = sym c.is_removed.ensures ∙ c.if-is_removed.false in let late = c.joined-late.result in
     let late_is = late_half inner outer c.slabs_after-late_slabs.result.now c.mark_between-found.result c.mark-middle.result late s
-    c.last_half-last.result m p S a.high a.levels k j e search c.last_half-last.ensures tried free c.slabs_after-late_slabs.ensures c.requires.lows
-    c.mark_between-found.ensures c.joined-late.ensures in
+    c.last_half-last.result m p S a.high a.levels k j e search c.last_half-last.ensures tried free c.slabs_after-late_slabs.ensures
+    c.requires.lows c.mark_between-found.ensures c.joined-late.ensures in
     let slabs = c.slabs_after-early_slabs.result.now in let early = c.mark_between-early.result in
     let early_search = first_searched inner outer slabs c.mark-middle.result late s c.first_half-first.result
     m p S a.high a.levels k j e search c.first_half-first.ensures tried free c.slabs_after-early_slabs.ensures c.requires.lows in

@@ -2,7 +2,8 @@ use Rattle.std.proofs.Common.{◌≡◌, FitsSigned, rules, length}
 use Rattle.std.proofs.lemmas.Int.{to_z-of_z}
 use mir.Syntax.{w128}
 use Rattle.space.specs.Vectors.{at}
-use Rattle.width_bisect.proofs.Fitting.{axis_form_fits, height_form_fits, three_is}
+use Rattle.width_bisect.proofs.Fitting.{axis_form_fits, height_form_fits}
+use Rattle.width_bisect.proofs.Same.{three_is}
 use Rattle.width_bisect.proofs.stretch.Stretch.whole.Goals as goal
 
 pub returns-clause-u : goal.returns-clause-u
