@@ -118,42 +118,6 @@ pub wide_gives : (x a b : ℤ) → unsigned_abs a ≤ moment_limit → unsigned_
 wide_gives x a b ha hb e =
     e ∙ product_passed w64 a b a b refl refl (small_fits moment_limit a moment_fits ha) (small_fits moment_limit b moment_fits hb)
 
+-- what is small enough fits in 128 bits
 pub wide_by : (m : ℕ) (x : ℤ) → m < 2 ^ 127 → unsigned_abs x ≤ m → FitsSigned w128 x
 wide_by m x few h = fits_signed_from_abs w128 x (omega (arith, few, h))
-
--- what the square of the moment grows by, of its curve and its slope
-pub growth_wide : (c s : ℤ) → unsigned_abs c ≤ 2 * (moment_limit * moment_limit) → unsigned_abs s ≤ 4 * (moment_limit * moment_limit) → FitsSigned w128 (c +ℤ s)
-growth_wide c s hc hs = let e = abs_add c s in fits_signed_from_abs w128 (c +ℤ s) (omega (arith, e, hc, hs))
-
-pub back_wide : (c s : ℤ) → unsigned_abs c ≤ 2 * (moment_limit * moment_limit) → unsigned_abs s ≤ 4 * (moment_limit * moment_limit) → FitsSigned w128 (c -ℤ s)
-back_wide c s hc hs = let e = abs_sub c s in fits_signed_from_abs w128 (c -ℤ s) (omega (arith, e, hc, hs))
-
-pub growth_passed : (c s : ℤ) → unsigned_abs c ≤ 2 * (moment_limit * moment_limit) → unsigned_abs s ≤ 4 * (moment_limit * moment_limit)
-    → to_z w128 (of_z w128 c) +ℤ to_z w128 (of_z w128 s) ≡ c +ℤ s
-growth_passed c s hc hs = sum_passed w128 c s c s refl refl (wide_by (2 * (moment_limit * moment_limit)) c (omega arith) hc) (wide_by (4 * (moment_limit * moment_limit)) s (omega arith) hs)
-
-pub back_passed : (c s : ℤ) → unsigned_abs c ≤ 2 * (moment_limit * moment_limit) → unsigned_abs s ≤ 4 * (moment_limit * moment_limit)
-    → to_z w128 (of_z w128 c) -ℤ to_z w128 (of_z w128 s) ≡ c -ℤ s
-back_passed c s hc hs = difference_passed w128 c s c s refl refl (wide_by (2 * (moment_limit * moment_limit)) c (omega arith) hc) (wide_by (4 * (moment_limit * moment_limit)) s (omega arith) hs)
-
-pub width_of_bits : (w : ℤ) → unsigned_abs w ≤ 3 * (moment_limit * moment_limit) → to_z w128 (of_z w128 w) ≡ w
-width_of_bits w h = to_z-of_z w128 w (wide_by (3 * (moment_limit * moment_limit)) w (omega arith) h)
-
--- twice the curve
-pub bend_passed : (c : ℤ) → unsigned_abs c ≤ 2 * (moment_limit * moment_limit) → pos 2 *ℤ to_z w128 (of_z w128 c) ≡ pos 2 *ℤ c
-bend_passed c hc = ap (λ z. pos 2 *ℤ z) (to_z-of_z w128 c (wide_by (2 * (moment_limit * moment_limit)) c (omega arith) hc))
-
-pub bend_wide : (c : ℤ) → unsigned_abs c ≤ 2 * (moment_limit * moment_limit) → FitsSigned w128 (pos 2 *ℤ c)
-bend_wide c hc = let s = abs_mul (pos 2) c 2 (2 * (moment_limit * moment_limit)) (omega arith) hc in fits_signed_from_abs w128 (pos 2 *ℤ c) (omega (arith, s))
-
-pub bend_is : (c : ℤ) → unsigned_abs c ≤ 2 * (moment_limit * moment_limit) → to_z w128 (of_z w128 (pos 2 *ℤ to_z w128 (of_z w128 c))) ≡ pos 2 *ℤ c
-bend_is c hc = as_bits w128 _ (pos 2 *ℤ c) (bend_passed c hc) (bend_wide c hc)
-
--- what follows it in a walk
-pub grown_wide : (w g : ℤ) → unsigned_abs w ≤ 3 * (moment_limit * moment_limit) → unsigned_abs g ≤ 6 * (moment_limit * moment_limit) → FitsSigned w128 (w +ℤ g)
-grown_wide w g hw hg = let e = abs_add w g in fits_signed_from_abs w128 (w +ℤ g) (omega (arith, e, hw, hg))
-
-pub bent_wide : (g c : ℤ) → unsigned_abs g ≤ 6 * (moment_limit * moment_limit) → unsigned_abs c ≤ 2 * (moment_limit * moment_limit) → FitsSigned w128 (g +ℤ pos 2 *ℤ c)
-bent_wide g c hg hc =
-    let s = abs_mul (pos 2) c 2 (2 * (moment_limit * moment_limit)) (omega arith) hc in let e = abs_add g (pos 2 *ℤ c) in
-    fits_signed_from_abs w128 (g +ℤ pos 2 *ℤ c) (omega (arith, e, s, hg))

@@ -8,5 +8,6 @@ pub mod Bits
 pub mod Moving
 pub mod Pairs
 pub mod Stepping
+pub mod Curving
 pub mod Turning
 pub mod Holding

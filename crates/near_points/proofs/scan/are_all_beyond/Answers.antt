@@ -20,7 +20,8 @@ tilted-right-requires c = (step_moves c.args.first.now c.args.step.now (pos c.ar
 
 pub overflow_sub-hold : goal.overflow_sub-hold
 overflow_sub-hold c =
-    let hold = c.args.hold.now in let fc : FitsSigned w64 hold.across = search rules in (opposite_reckoned hold.across fc hold.across_some).fits
+    let hold = c.args.hold.now in let fc : FitsSigned w64 hold.across = search rules in
+    (opposite_reckoned hold.across fc hold.across_some).fits
 
 pub returns-then-are_beyond : goal.returns-then-are_beyond
 returns-then-are_beyond c = λ yes x from to.
