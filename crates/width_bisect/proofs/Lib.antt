@@ -6,6 +6,7 @@ pub mod Sides
 pub mod Terms4
 pub mod Halving
 pub mod Fitting
+pub mod Doubled
 pub mod Sampling
 pub mod Searching
 pub mod Listed
