@@ -5,8 +5,10 @@ pub mod Coefficients
 pub mod Sides
 pub mod Terms4
 pub mod Halving
+pub mod SmallHalves
 pub mod Fitting
 pub mod Doubled
+pub mod Narrowed
 pub mod Sampling
 pub mod Searching
 pub mod Listed
