@@ -9,7 +9,7 @@ use Rattle.near_points.specs.Limits.{moment_limit, tilt_limit}
 use Rattle.near_points.specs.Lines.{FitsAfter, FitsMoved}
 use Rattle.near_points.proofs.Bits.{IsReckoned, as_bits, product_passed, reckoned, small_fits, small_passed, sum_passed}
 
-abbrev sum_of : ℤ → ℤ → ℤ → ℤ
+abbrev pub sum_of : ℤ → ℤ → ℤ → ℤ
 sum_of a b n = to_z w64 (of_z w64 a) +ℤ n *ℤ to_z w64 (of_z w64 b)
 
 -- what the caller of such a sum passes is as small as what it stands for, and so is the sum
