@@ -149,9 +149,6 @@ less_small c g h k = omega (arith, ints, abs_is c, abs_is g, abs_is (c -ℤ g), 
 pub three_by : (a b c x y z : ℤ) → a ≡ x → b ≡ y → c ≡ z → (a +ℤ b) +ℤ c ≡ (x +ℤ y) +ℤ z
 three_by a b c x y z e f g = ap₂ (λ u v. (u +ℤ v) +ℤ c) e f ∙ ap (λ u. (x +ℤ y) +ℤ u) g
 
-pub twice_by : (a b x y : ℤ) → a ≡ x → b ≡ y → pos 2 *ℤ (a +ℤ b) ≡ pos 2 *ℤ (x +ℤ y)
-twice_by a b x y e f = ap₂ (λ u v. pos 2 *ℤ (u +ℤ v)) e f
-
 pub width_fits : (s : Stance) (t : Step) (l : ℤ) → FitsAfter s t l → unsigned_abs (width_at s t l) ≤ 3 * (moment_limit * moment_limit)
 width_fits s t l h = width_small s.along (second_at s t l) (third_at s t l) s.along_small h.second h.third
 
