@@ -1,12 +1,11 @@
 -- Numbers passed as their bits, and what is reckoned of them.
-use Rattle.std.proofs.Common.{◌≡◌, ℕ, ◌*◌, ◌^◌, ◌<◌, ◌≤◌, ℤ, pos, ◌+ℤ◌, ◌-ℤ◌, ◌*ℤ◌, Fits, FitsSigned, to_z, of_z, unsigned_abs, arith, refl, sym, subst, ap, ap₂, ◌∙◌}
+use Rattle.std.proofs.Common.{◌≡◌, ℕ, ◌*◌, ◌^◌, ◌<◌, ◌≤◌, ℤ, pos, ◌+ℤ◌, ◌-ℤ◌, ◌*ℤ◌, ◌≤ℤ◌, FitsSigned, to_z, of_z, unsigned_abs, arith, refl, sym, subst, ap, ap₂, ◌∙◌}
 use Rattle.std.proofs.lemmas.Int.{ints, to_z-of_z, fits_signed_from_abs}
 use mir.Syntax.{Width, w32, w64, w128}
-use borrow.Author.Differences.{abs_is}
 use Rattle.space.proofs.Naturals.{abs_add, abs_mul, abs_sub}
 use Rattle.sweep_boxes.specs.Limits.{place_limit, side_limit}
 use Rattle.near_points.specs.Limits.{moment_limit, tilt_limit}
-use Rattle.near_points.proofs.Growing.{three_small, width_small}
+use Rattle.near_points.proofs.Growing.{three_small}
 
 pub moment_fits : moment_limit < 2 ^ 63
 moment_fits = omega arith
@@ -20,8 +19,32 @@ small_fits m x few h = fits_signed_from_abs w64 x (omega (arith, few, h))
 pub as_bits : (w : Width) (x a : ℤ) → x ≡ a → FitsSigned w a → to_z w (of_z w x) ≡ a
 as_bits w x a e f = ap (λ z. to_z w (of_z w z)) e ∙ to_z-of_z w a f
 
+-- a number that was reckoned in a machine word: it fits there, is what it should be, and is small
+pub record IsReckoned (w : Width) (m : ℕ) (x a : ℤ) : Type 0 where
+  pub fits : FitsSigned w x
+  pub value : to_z w (of_z w x) ≡ a
+  pub small : unsigned_abs (to_z w (of_z w x)) ≤ m
+
+pub reckoned : (w : Width) (m : ℕ) (x a : ℤ) → x ≡ a → FitsSigned w a → unsigned_abs a ≤ m → IsReckoned w m x a
+reckoned w m x a is fits small =
+    let value = as_bits w x a is fits in record {
+      fits = subst (FitsSigned w) (sym is) fits;
+      value = value;
+      small = subst (λ (z : ℤ). unsigned_abs z ≤ m) (sym value) small;
+    }
+
 pub small_passed : (m : ℕ) (x : ℤ) → m < 2 ^ 63 → unsigned_abs x ≤ m → unsigned_abs (to_z w64 (of_z w64 x)) ≤ m
 small_passed m x few h = subst (λ (z : ℤ). unsigned_abs z ≤ m) (sym (to_z-of_z w64 x (small_fits m x few h))) h
+
+-- a number of a moment, passed as its bits
+pub moment_bits : (x : ℤ) → unsigned_abs x ≤ moment_limit → to_z w64 (of_z w64 x) ≡ x
+moment_bits x h = to_z-of_z w64 x (small_fits moment_limit x moment_fits h)
+
+pub moment_passed : (x : ℤ) → unsigned_abs x ≤ moment_limit → unsigned_abs (to_z w64 (of_z w64 x)) ≤ moment_limit
+moment_passed x h = small_passed moment_limit x moment_fits h
+
+pub tilt_bits : (x : ℤ) → unsigned_abs x ≤ tilt_limit → to_z w64 (of_z w64 x) ≡ x
+tilt_bits x h = to_z-of_z w64 x (small_fits tilt_limit x tilt_fits h)
 
 pub sum_passed : (w : Width) (x y a b : ℤ) → x ≡ a → y ≡ b → FitsSigned w a → FitsSigned w b → to_z w (of_z w x) +ℤ to_z w (of_z w y) ≡ a +ℤ b
 sum_passed w x y a b ex ey fa fb = ap₂ (λ p q. p +ℤ q) (as_bits w x a ex fa) (as_bits w y b ey fb)
@@ -29,31 +52,18 @@ sum_passed w x y a b ex ey fa fb = ap₂ (λ p q. p +ℤ q) (as_bits w x a ex fa
 pub difference_passed : (w : Width) (x y a b : ℤ) → x ≡ a → y ≡ b → FitsSigned w a → FitsSigned w b → to_z w (of_z w x) -ℤ to_z w (of_z w y) ≡ a -ℤ b
 difference_passed w x y a b ex ey fa fb = ap₂ (λ p q. p -ℤ q) (as_bits w x a ex fa) (as_bits w y b ey fb)
 
+-- a number that isn't negative, taken from 0
+pub opposite_reckoned : (x : ℤ) → FitsSigned w64 x → pos 0 ≤ℤ x
+    → record {
+      fits : FitsSigned w64 (pos 0 -ℤ to_z w64 (of_z w64 x));
+      value : to_z w64 (of_z w64 (pos 0 -ℤ to_z w64 (of_z w64 x))) ≡ pos 0 -ℤ x;
+    }
+opposite_reckoned x f some =
+    let is = ap (λ z. pos 0 -ℤ z) (to_z-of_z w64 x f) in let fits : FitsSigned w64 (pos 0 -ℤ x) = omega (arith, ints, some, f) in
+    record { fits = subst (FitsSigned w64) (sym is) fits; value = as_bits w64 _ (pos 0 -ℤ x) is fits }
+
 pub product_passed : (w : Width) (x y a b : ℤ) → x ≡ a → y ≡ b → FitsSigned w a → FitsSigned w b → to_z w (of_z w x) *ℤ to_z w (of_z w y) ≡ a *ℤ b
 product_passed w x y a b ex ey fa fb = ap₂ (λ p q. p *ℤ q) (as_bits w x a ex fa) (as_bits w y b ey fb)
-
--- a number and n times another, each passed as its bits
-pub moved_passed : (m : ℕ) (a b n : ℤ) → m < 2 ^ 63 → unsigned_abs a ≤ m → unsigned_abs b ≤ m → to_z w64 (of_z w64 a) +ℤ n *ℤ to_z w64 (of_z w64 b) ≡ a +ℤ n *ℤ b
-moved_passed m a b n few ha hb = ap₂ (λ p q. p +ℤ n *ℤ q) (to_z-of_z w64 a (small_fits m a few ha)) (to_z-of_z w64 b (small_fits m b few hb))
-
-pub moved_may : (m : ℕ) (a b n : ℤ) → m < 2 ^ 63 → unsigned_abs a ≤ m → unsigned_abs b ≤ m → unsigned_abs (a +ℤ n *ℤ b) ≤ m
-    → unsigned_abs (to_z w64 (of_z w64 a) +ℤ n *ℤ to_z w64 (of_z w64 b)) ≤ m
-moved_may m a b n few ha hb h = subst (λ (z : ℤ). unsigned_abs z ≤ m) (sym (moved_passed m a b n few ha hb)) h
-
-pub moved_gives : (m : ℕ) (r a b n : ℤ) → m < 2 ^ 63 → unsigned_abs a ≤ m → unsigned_abs b ≤ m → unsigned_abs (a +ℤ n *ℤ b) ≤ m
-    → r ≡ to_z w64 (of_z w64 a) +ℤ n *ℤ to_z w64 (of_z w64 b) → to_z w64 (of_z w64 r) ≡ a +ℤ n *ℤ b
-moved_gives m r a b n few ha hb h e = as_bits w64 r (a +ℤ n *ℤ b) (e ∙ moved_passed m a b n few ha hb) (small_fits m (a +ℤ n *ℤ b) few h)
-
-pub moved_small : (m : ℕ) (r a b n : ℤ) → m < 2 ^ 63 → unsigned_abs a ≤ m → unsigned_abs b ≤ m → unsigned_abs (a +ℤ n *ℤ b) ≤ m
-    → r ≡ to_z w64 (of_z w64 a) +ℤ n *ℤ to_z w64 (of_z w64 b) → unsigned_abs (to_z w64 (of_z w64 r)) ≤ m
-moved_small m r a b n few ha hb h e = subst (λ (z : ℤ). unsigned_abs z ≤ m) (sym (moved_gives m r a b n few ha hb h e)) h
-
--- what is added, where neither the number nor the sum is great
-pub added_fits : (m : ℕ) (a y : ℤ) → 2 * m < 2 ^ 63 → unsigned_abs a ≤ m → unsigned_abs (a +ℤ y) ≤ m → FitsSigned w64 y
-added_fits m a y few ha h = fits_signed_from_abs w64 y (omega (arith, ints, few, ha, h, abs_is a, abs_is y, abs_is (a +ℤ y)))
-
-pub count_fits : (n : ℕ) → Fits w32 n → FitsSigned w64 (pos n)
-count_fits n h = fits_signed_from_abs w64 (pos n) (omega (arith, h.fits))
 
 -- the sum of two or three numbers that aren't great
 pub sum_fits : (m : ℕ) (x y : ℤ) → 2 * m < 2 ^ 63 → unsigned_abs x ≤ m → unsigned_abs y ≤ m → FitsSigned w64 (x +ℤ y)
@@ -108,72 +118,6 @@ pub wide_gives : (x a b : ℤ) → unsigned_abs a ≤ moment_limit → unsigned_
 wide_gives x a b ha hb e =
     e ∙ product_passed w64 a b a b refl refl (small_fits moment_limit a moment_fits ha) (small_fits moment_limit b moment_fits hb)
 
--- the sum of two such products
-pub pair_fits : (a b p q : ℤ) → unsigned_abs a ≤ moment_limit → unsigned_abs b ≤ moment_limit → unsigned_abs p ≤ moment_limit → unsigned_abs q ≤ moment_limit
-    → FitsSigned w128 (a *ℤ b +ℤ p *ℤ q)
-pair_fits a b p q ha hb hp hq =
-    let s = abs_mul a b moment_limit moment_limit ha hb in let t = abs_mul p q moment_limit moment_limit hp hq in let u = abs_add (a *ℤ b) (p *ℤ q) in
-    fits_signed_from_abs w128 (a *ℤ b +ℤ p *ℤ q) (omega (arith, s, t, u))
-
-pub pair_small : (a b p q : ℤ) → unsigned_abs a ≤ moment_limit → unsigned_abs b ≤ moment_limit → unsigned_abs p ≤ moment_limit → unsigned_abs q ≤ moment_limit
-    → unsigned_abs (a *ℤ b +ℤ p *ℤ q) ≤ 2 * (moment_limit * moment_limit)
-pair_small a b p q ha hb hp hq =
-    let s = abs_mul a b moment_limit moment_limit ha hb in let t = abs_mul p q moment_limit moment_limit hp hq in let u = abs_add (a *ℤ b) (p *ℤ q) in
-    omega (arith, s, t, u)
-
-pub pair_passed : (x y a b p q : ℤ) → unsigned_abs a ≤ moment_limit → unsigned_abs b ≤ moment_limit → unsigned_abs p ≤ moment_limit → unsigned_abs q ≤ moment_limit
-    → x ≡ to_z w64 (of_z w64 a) *ℤ to_z w64 (of_z w64 b) → y ≡ to_z w64 (of_z w64 p) *ℤ to_z w64 (of_z w64 q)
-    → to_z w128 (of_z w128 x) +ℤ to_z w128 (of_z w128 y) ≡ a *ℤ b +ℤ p *ℤ q
-pair_passed x y a b p q ha hb hp hq ex ey =
-    sum_passed w128 x y (a *ℤ b) (p *ℤ q) (wide_gives x a b ha hb ex) (wide_gives y p q hp hq ey) (wide_fits a b ha hb) (wide_fits p q hp hq)
-
--- the square of a moment
-pub width_wide : (a p q : ℤ) → unsigned_abs a ≤ moment_limit → unsigned_abs p ≤ moment_limit → unsigned_abs q ≤ moment_limit → FitsSigned w128 ((a *ℤ a +ℤ p *ℤ p) +ℤ q *ℤ q)
-width_wide a p q ha hp hq = let s = width_small a p q ha hp hq in fits_signed_from_abs w128 ((a *ℤ a +ℤ p *ℤ p) +ℤ q *ℤ q) (omega (arith, s))
-
-pub width_passed : (x y z a p q : ℤ) → unsigned_abs a ≤ moment_limit → unsigned_abs p ≤ moment_limit → unsigned_abs q ≤ moment_limit
-    → x ≡ to_z w64 (of_z w64 a) *ℤ to_z w64 (of_z w64 a) → y ≡ to_z w64 (of_z w64 p) *ℤ to_z w64 (of_z w64 p) → z ≡ to_z w64 (of_z w64 q) *ℤ to_z w64 (of_z w64 q)
-    → to_z w128 (of_z w128 (to_z w128 (of_z w128 x) +ℤ to_z w128 (of_z w128 y))) +ℤ to_z w128 (of_z w128 z) ≡ (a *ℤ a +ℤ p *ℤ p) +ℤ q *ℤ q
-width_passed x y z a p q ha hp hq ex ey ez =
-    sum_passed w128 _ z (a *ℤ a +ℤ p *ℤ p) (q *ℤ q) (pair_passed x y a a p p ha ha hp hp ex ey) (wide_gives z q q hq hq ez)
-    (pair_fits a a p p ha ha hp hp) (wide_fits q q hq hq)
-
--- what the square of the moment grows by, of its curve and its slope
-pub growth_wide : (c s : ℤ) → unsigned_abs c ≤ 2 * (moment_limit * moment_limit) → unsigned_abs s ≤ 4 * (moment_limit * moment_limit) → FitsSigned w128 (c +ℤ s)
-growth_wide c s hc hs = let e = abs_add c s in fits_signed_from_abs w128 (c +ℤ s) (omega (arith, e, hc, hs))
-
-pub back_wide : (c s : ℤ) → unsigned_abs c ≤ 2 * (moment_limit * moment_limit) → unsigned_abs s ≤ 4 * (moment_limit * moment_limit) → FitsSigned w128 (c -ℤ s)
-back_wide c s hc hs = let e = abs_sub c s in fits_signed_from_abs w128 (c -ℤ s) (omega (arith, e, hc, hs))
-
-wide_by : (m : ℕ) (x : ℤ) → m < 2 ^ 127 → unsigned_abs x ≤ m → FitsSigned w128 x
+-- what is small enough fits in 128 bits
+pub wide_by : (m : ℕ) (x : ℤ) → m < 2 ^ 127 → unsigned_abs x ≤ m → FitsSigned w128 x
 wide_by m x few h = fits_signed_from_abs w128 x (omega (arith, few, h))
-
-pub growth_passed : (c s : ℤ) → unsigned_abs c ≤ 2 * (moment_limit * moment_limit) → unsigned_abs s ≤ 4 * (moment_limit * moment_limit)
-    → to_z w128 (of_z w128 c) +ℤ to_z w128 (of_z w128 s) ≡ c +ℤ s
-growth_passed c s hc hs = sum_passed w128 c s c s refl refl (wide_by (2 * (moment_limit * moment_limit)) c (omega arith) hc) (wide_by (4 * (moment_limit * moment_limit)) s (omega arith) hs)
-
-pub back_passed : (c s : ℤ) → unsigned_abs c ≤ 2 * (moment_limit * moment_limit) → unsigned_abs s ≤ 4 * (moment_limit * moment_limit)
-    → to_z w128 (of_z w128 c) -ℤ to_z w128 (of_z w128 s) ≡ c -ℤ s
-back_passed c s hc hs = difference_passed w128 c s c s refl refl (wide_by (2 * (moment_limit * moment_limit)) c (omega arith) hc) (wide_by (4 * (moment_limit * moment_limit)) s (omega arith) hs)
-
-pub width_of_bits : (w : ℤ) → unsigned_abs w ≤ 3 * (moment_limit * moment_limit) → to_z w128 (of_z w128 w) ≡ w
-width_of_bits w h = to_z-of_z w128 w (wide_by (3 * (moment_limit * moment_limit)) w (omega arith) h)
-
--- twice the curve
-pub bend_passed : (c : ℤ) → unsigned_abs c ≤ 2 * (moment_limit * moment_limit) → pos 2 *ℤ to_z w128 (of_z w128 c) ≡ pos 2 *ℤ c
-bend_passed c hc = ap (λ z. pos 2 *ℤ z) (to_z-of_z w128 c (wide_by (2 * (moment_limit * moment_limit)) c (omega arith) hc))
-
-pub bend_wide : (c : ℤ) → unsigned_abs c ≤ 2 * (moment_limit * moment_limit) → FitsSigned w128 (pos 2 *ℤ c)
-bend_wide c hc = let s = abs_mul (pos 2) c 2 (2 * (moment_limit * moment_limit)) (omega arith) hc in fits_signed_from_abs w128 (pos 2 *ℤ c) (omega (arith, s))
-
-pub bend_is : (c : ℤ) → unsigned_abs c ≤ 2 * (moment_limit * moment_limit) → to_z w128 (of_z w128 (pos 2 *ℤ to_z w128 (of_z w128 c))) ≡ pos 2 *ℤ c
-bend_is c hc = as_bits w128 _ (pos 2 *ℤ c) (bend_passed c hc) (bend_wide c hc)
-
--- what follows it in a walk
-pub grown_wide : (w g : ℤ) → unsigned_abs w ≤ 3 * (moment_limit * moment_limit) → unsigned_abs g ≤ 6 * (moment_limit * moment_limit) → FitsSigned w128 (w +ℤ g)
-grown_wide w g hw hg = let e = abs_add w g in fits_signed_from_abs w128 (w +ℤ g) (omega (arith, e, hw, hg))
-
-pub bent_wide : (g c : ℤ) → unsigned_abs g ≤ 6 * (moment_limit * moment_limit) → unsigned_abs c ≤ 2 * (moment_limit * moment_limit) → FitsSigned w128 (g +ℤ pos 2 *ℤ c)
-bent_wide g c hg hc =
-    let s = abs_mul (pos 2) c 2 (2 * (moment_limit * moment_limit)) (omega arith) hc in let e = abs_add g (pos 2 *ℤ c) in
-    fits_signed_from_abs w128 (g +ℤ pos 2 *ℤ c) (omega (arith, e, s, hg))

@@ -9,7 +9,7 @@ use Rattle.space.proofs.Naturals.{abs_add, abs_mul, square_not_negative}
 use Rattle.near_points.specs.declared.stance.Stance.{Stance}
 use Rattle.near_points.specs.declared.step.Step.{Step}
 use Rattle.near_points.specs.Limits.{moment_limit}
-use Rattle.near_points.specs.Lines.{FitsAfter, height_at, second_at, side_at, third_at, width_at}
+use Rattle.near_points.specs.Lines.{FitsAfter, second_at, third_at, width_at}
 
 -- what the square of the moment grows by to the next point
 abbrev pub growth_at : Stance → Step → ℤ → ℤ
@@ -34,16 +34,6 @@ growth_next s t l =
     ring (s.second ∷ s.third ∷ t.second ∷ t.third ∷ l ∷ []) (add (growth_term (add P (mul L B)) (add Q (mul L D)) B D) (mul (num (pos 2)) (add (square B) (square D))))
     (growth_term (add P (mul n B)) (add Q (mul n D)) B D) refl
 
-pub height_next : (s : Stance) (t : Step) (l : ℤ) → height_at s t l +ℤ t.height ≡ height_at s t (l +ℤ pos 1)
-height_next s t l =
-    let H = var 0 in let T = var 1 in let L = var 2 in
-    ring (s.height ∷ t.height ∷ l ∷ []) (add (add H (mul L T)) T) (add H (mul (add L (num (pos 1))) T)) refl
-
-pub side_next : (s : Stance) (t : Step) (l : ℤ) → side_at s t l +ℤ t.side ≡ side_at s t (l +ℤ pos 1)
-side_next s t l =
-    let H = var 0 in let T = var 1 in let L = var 2 in
-    ring (s.side ∷ t.side ∷ l ∷ []) (add (add H (mul L T)) T) (add H (mul (add L (num (pos 1))) T)) refl
-
 -- what the square grows by to the point before
 abbrev pub back_at : Stance → Step → ℤ → ℤ
 back_at s t l = (t.second *ℤ t.second +ℤ t.third *ℤ t.third) -ℤ pos 2 *ℤ (second_at s t l *ℤ t.second +ℤ third_at s t l *ℤ t.third)
@@ -62,16 +52,6 @@ back_next s t l =
     let P = var 0 in let Q = var 1 in let B = var 2 in let D = var 3 in let L = var 4 in let n = sub L (num (pos 1)) in
     ring (s.second ∷ s.third ∷ t.second ∷ t.third ∷ l ∷ []) (add (back_term (add P (mul L B)) (add Q (mul L D)) B D) (mul (num (pos 2)) (add (square B) (square D))))
     (back_term (add P (mul n B)) (add Q (mul n D)) B D) refl
-
-pub height_back : (s : Stance) (t : Step) (l : ℤ) → height_at s t l -ℤ t.height ≡ height_at s t (l -ℤ pos 1)
-height_back s t l =
-    let H = var 0 in let T = var 1 in let L = var 2 in
-    ring (s.height ∷ t.height ∷ l ∷ []) (sub (add H (mul L T)) T) (add H (mul (sub L (num (pos 1))) T)) refl
-
-pub side_back : (s : Stance) (t : Step) (l : ℤ) → side_at s t l -ℤ t.side ≡ side_at s t (l -ℤ pos 1)
-side_back s t l =
-    let H = var 0 in let T = var 1 in let L = var 2 in
-    ring (s.side ∷ t.side ∷ l ∷ []) (sub (add H (mul L T)) T) (add H (mul (sub L (num (pos 1))) T)) refl
 
 -- the quadratic n steps on
 grown : (a p q b d n : ℤ)
@@ -168,9 +148,6 @@ less_small c g h k = omega (arith, ints, abs_is c, abs_is g, abs_is (c -ℤ g), 
 -- sums of equal parts
 pub three_by : (a b c x y z : ℤ) → a ≡ x → b ≡ y → c ≡ z → (a +ℤ b) +ℤ c ≡ (x +ℤ y) +ℤ z
 three_by a b c x y z e f g = ap₂ (λ u v. (u +ℤ v) +ℤ c) e f ∙ ap (λ u. (x +ℤ y) +ℤ u) g
-
-pub twice_by : (a b x y : ℤ) → a ≡ x → b ≡ y → pos 2 *ℤ (a +ℤ b) ≡ pos 2 *ℤ (x +ℤ y)
-twice_by a b x y e f = ap₂ (λ u v. pos 2 *ℤ (u +ℤ v)) e f
 
 pub width_fits : (s : Stance) (t : Step) (l : ℤ) → FitsAfter s t l → unsigned_abs (width_at s t l) ≤ 3 * (moment_limit * moment_limit)
 width_fits s t l h = width_small s.along (second_at s t l) (third_at s t l) s.along_small h.second h.third

@@ -5,5 +5,9 @@ pub mod Trimming
 pub mod Leaving
 pub mod Between
 pub mod Bits
+pub mod Moving
+pub mod Pairs
+pub mod Stepping
+pub mod Curving
 pub mod Turning
 pub mod Holding

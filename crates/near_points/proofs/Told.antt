@@ -44,6 +44,9 @@ beyond_between h t least most a b l x m (inl low) ea eb from to =
 beyond_between h t least most a b l x m (inr high) ea eb from to =
     beyond_one least most (h +ℤ pos x *ℤ t) (inr (more_between h t most l x m from to (subst (λ (z : ℤ). most <ℤ z) ea high.0) (subst (λ (z : ℤ). most <ℤ z) eb high.1)))
 
+pub beyond_by : (p q least most a b : ℤ) → p ≡ least → q ≡ most → AreBeyond p q a b → AreBeyond least most a b
+beyond_by p q least most a b ep eq h = subst (λ (z : ℤ). AreBeyond least z a b) eq (subst (λ (z : ℤ). AreBeyond z q a b) ep h)
+
 pub beyond_both : (hold : Hold) (s : Stance) (t : Step) (a b : ℤ) (l x m : ℕ) → AreBeyond hold.least hold.most a b → a ≡ height_at s t (pos l) → b ≡ height_at s t (pos m) → l ≤ x → x ≤ m
     → is_held_after hold s t (pos x) ≡ false
 beyond_both hold s t a b l x m apart ea eb from to =

@@ -1,15 +1,18 @@
 -- The points of a range, and those of them that a level leaves out.
-use Rattle.std.proofs.Common.{◌≡◌, ◌⊎◌, Bool, true, false, not, ◌&&◌, ℕ, ◌+◌, ◌-◌, ◌<◌, ◌≤◌, ℤ, pos, ◌-ℤ◌, ◌*ℤ◌, ◌≤ℤ◌, ◌<ℤ◌, int_le, int_lt, leb, ltb, arith, refl, sym, ap, ap₂, ⊎_elim, ◌∙◌}
-use Rattle.std.proofs.lemmas.Int.{ints}
+use Rattle.std.proofs.Common.{◌≡◌, ◌⊎◌, Bool, true, false, not, ◌&&◌, ℕ, ◌+◌, ◌-◌, ◌<◌, ◌≤◌, ℤ, pos, ◌-ℤ◌, ◌*ℤ◌, ◌≤ℤ◌, ◌<ℤ◌, int_le, int_lt, leb, ltb, arith, refl, sym, ap, ap₂, ⊎_elim, ◌∙◌, FitsSigned, to_z, of_z}
+use Rattle.std.proofs.lemmas.Int.{ints, to_z-of_z}
 use Rattle.std.proofs.lemmas.Bool.{and_parts, cases_lt, le-leb, le-ltb, lt-leb, lt-ltb}
+use mir.Syntax.{w64}
 use borrow.Author.Tests.{leb-true, ltb-true}
 use Rattle.vf_spans.specs.Members.{in_range}
 use Rattle.sweep_boxes.specs.declared.level.Level.{Level}
 use Rattle.near_points.specs.declared.stance.Stance.{Stance}
 use Rattle.near_points.specs.declared.step.Step.{Step}
 use Rattle.space.proofs.Tests.{decides_le}
-use Rattle.near_points.specs.Lines.{side_at, width_at}
+use Rattle.near_points.specs.Lines.{FitsAfter, side_at, width_at}
 use Rattle.near_points.specs.Trimmed.{is_within_after}
+use Rattle.near_points.proofs.Bits.{opposite_reckoned}
+use Rattle.near_points.proofs.Moving.{step_moves, sum_of}
 use Rattle.near_points.proofs.Told.{above_false, first_false, second_false}
 
 -- no index lies in a range that ends where it begins, or before
@@ -87,3 +90,15 @@ in_range_ends x l m h = let parts = and_parts (leb l x) (ltb x m) h in (leb-true
 
 pub in_range_by : (x l m : ℕ) → l ≤ x → x < m → in_range x (l, m) ≡ true
 in_range_by x l m from to = ap₂ (λ u v. u && v) (le-leb l x from) (lt-ltb x m to)
+
+-- what the code finds of the side of a point, in machine words, is so of it
+pub left_told : (level : Level) (s : Stance) (t : Step) (l r : ℤ) → FitsAfter s t l → FitsSigned w64 level.across
+    → r ≡ sum_of s.side t.side l
+    → int_lt (to_z w64 (of_z w64 r)) (to_z w64 (of_z w64 (pos 0 -ℤ to_z w64 (of_z w64 level.across))))
+    ≡ int_lt (side_at s t l) (pos 0 -ℤ level.across)
+left_told level s t l r fits across is =
+    ap₂ int_lt ((step_moves s t l fits).side.value r is) (opposite_reckoned level.across across level.across_some).value
+
+pub right_told : (level : Level) (s : Stance) (t : Step) (l r : ℤ) → FitsAfter s t l → FitsSigned w64 level.across
+    → r ≡ sum_of s.side t.side l → int_lt (to_z w64 (of_z w64 level.across)) (to_z w64 (of_z w64 r)) ≡ int_lt level.across (side_at s t l)
+right_told level s t l r fits across is = ap₂ int_lt (to_z-of_z w64 level.across across) ((step_moves s t l fits).side.value r is)

@@ -263,7 +263,7 @@ strip_small start across step hold s j l ready there within =
 tilted_by : (x y : ℤ) → x ≡ y → unsigned_abs y ≤ tilt_limit → unsigned_abs x ≤ tilt_limit
 tilted_by x y e h = subst (λ (z : ℤ). unsigned_abs z ≤ tilt_limit) (sym e) h
 
-pub first_fits : (start across : Stance) (step : Step) (hold : Hold) (s : NearStripOf) (j : ℕ) → IsReadyStrip start across step hold s → j < nodes_of s.grid (second_axis s.family) → FitsMoved start across (pos j)
+first_fits : (start across : Stance) (step : Step) (hold : Hold) (s : NearStripOf) (j : ℕ) → IsReadyStrip start across step hold s → j < nodes_of s.grid (second_axis s.family) → FitsMoved start across (pos j)
 first_fits start across step hold s j ready there =
     let c = s.cylinder in let f = s.family in let a = turned f c.axis in let d = turned f c.side in let w = pos c.scale *ℤ s.grid.step in
     let p = offset_in c s.grid f s.i j 0 in let v = offset_in c s.grid f s.i 0 0 in let e = way_across f (pos c.scale *ℤ s.grid.pitch) in
@@ -352,3 +352,8 @@ pub ready_on : (start across first : Stance) (step : Step) (hold : Hold) (s z : 
 ready_on start across first step hold s z j e ready node moved =
     subst (λ (y : NearStripOf). IsReadyRay first step hold (near_ray_at y j)) e
     (ready_ray start across first step hold s j ready (subst (λ (y : NearStripOf). j < nodes_of y.grid (second_axis y.family)) (sym e) node) moved)
+
+pub first_fits_on : (start across : Stance) (step : Step) (hold : Hold) (s z : NearStripOf) (j : ℕ) → s ≡ z → IsReadyStrip start across step hold s
+    → j < nodes_of z.grid (second_axis z.family) → FitsMoved start across (pos j)
+first_fits_on start across step hold s z j e ready node =
+    first_fits start across step hold s j ready (subst (λ (y : NearStripOf). j < nodes_of y.grid (second_axis y.family)) (sym e) node)

@@ -55,6 +55,13 @@ inner_search inner outer u n width m p S high levels j e s = record {
   turns = turns_alike inner outer S high u n e s.turns;
 }
 
+-- so a search by them may begin
+pub after_asked : (late : Mark) (inner outer slabs : List SlabSize) (high : ℕ) → slabs ≡ slabs_after late inner outer
+    → lows_of inner ≡ lows_of outer → IsRising inner → IsRising outer → high ≤ length outer
+    → (high ≤ length slabs) × (IsRising inner × (IsRising slabs × (lows_of inner ≡ lows_of slabs)))
+after_asked late inner outer slabs high e h rises rise within =
+    (after_within late inner outer slabs high e h within, (rises, (after_rises late inner outer slabs e rises rise, after_lows late inner outer slabs e h)))
+
 -- so the search of the early half starts as it would with the outer slabs
 pub after_search : (late : Mark) (inner outer slabs : List SlabSize) (u n width : List ℤ) (m : Motion) (p : List ℤ) (S high levels j : ℕ) → slabs ≡ slabs_after late inner outer
     → lows_of inner ≡ lows_of outer → IsWidthSearch inner outer u n width m p S high levels j → IsWidthSearch inner slabs u n width m p S high levels j

@@ -1,5 +1,5 @@
 -- Numbers of the tests that fit.
-use Rattle.std.proofs.Common.{◌≡◌, ℕ, ◌+◌, ◌*◌, ◌≤◌, [], ◌∷◌, List, length, ℤ, pos, ◌+ℤ◌, ◌*ℤ◌, unsigned_abs, FitsSigned, arith, ap, refl, ◌∙◌}
+use Rattle.std.proofs.Common.{◌≡◌, ℕ, ◌+◌, ◌*◌, ◌≤◌, [], ◌∷◌, List, ℤ, pos, ◌+ℤ◌, ◌*ℤ◌, unsigned_abs, FitsSigned, arith, refl}
 use Rattle.std.proofs.lemmas.Int.{ints}
 use mir.Syntax.{w64, w128}
 use Rattle.space.specs.Vectors.{at}
@@ -10,6 +10,7 @@ use Rattle.space.proofs.Terms.{from}
 use Rattle.bern_form.specs.Forms.{lifted, product22}
 use Rattle.bern_form.specs.Sizes.{IsBounded2, axis_limit}
 use Rattle.width_bisect.specs.Sizes.{height_limit}
+use Rattle.width_bisect.proofs.Same.{same5}
 use Rattle.width_bisect.proofs.Shifting.{fits64}
 
 -- u^2
@@ -59,10 +60,6 @@ raised_fits a b c h k l =
     }
 
 -- and as it is reckoned
-same5 : (a b c d e f g h i j : ℤ) → a ≡ f → b ≡ g → c ≡ h → d ≡ i → e ≡ j → a ∷ b ∷ c ∷ d ∷ e ∷ [] ≡ f ∷ g ∷ h ∷ i ∷ j ∷ []
-same5 a b c d e f g h i j p q r s t =
-    ap (λ z. z ∷ b ∷ c ∷ d ∷ e ∷ []) p ∙ ap (λ z. f ∷ z ∷ c ∷ d ∷ e ∷ []) q ∙ ap (λ z. f ∷ g ∷ z ∷ d ∷ e ∷ []) r ∙ ap (λ z. f ∷ g ∷ h ∷ z ∷ e ∷ []) s ∙ ap (λ z. f ∷ g ∷ h ∷ i ∷ z ∷ []) t
-
 pub raised_is : (n : List ℤ) → at n 0 ∷ (pos 2 *ℤ at n 0 +ℤ at n 1) ∷ ((at n 0 +ℤ pos 2 *ℤ at n 1) +ℤ at n 2) ∷ (at n 1 +ℤ pos 2 *ℤ at n 2) ∷ at n 2 ∷ [] ≡ lifted n
 raised_is n =
     let a = at n 0 in let b = at n 1 in let c = at n 2 in
@@ -76,14 +73,6 @@ height_is u =
     (ring e (two (mul (A 0) (A 1))) (add (mul (A 0) (A 1)) (mul (A 1) (A 0))) refl)
     (ring e (add (two (mul (A 0) (A 2))) (mul (A 1) (A 1))) (add (add (mul (A 0) (A 2)) (mul (A 1) (A 1))) (mul (A 2) (A 0))) refl)
     (ring e (two (mul (A 1) (A 2))) (add (mul (A 1) (A 2)) (mul (A 2) (A 1))) refl) refl
-
--- a list of three numbers
-pub three_is : (l : List ℤ) → length l ≡ 3 → at l 0 ∷ at l 1 ∷ at l 2 ∷ [] ≡ l
-three_is [] e = absurd (omega (arith, e))
-three_is (a ∷ []) e = absurd (omega (arith, e))
-three_is (a ∷ b ∷ []) e = absurd (omega (arith, e))
-three_is (a ∷ b ∷ c ∷ []) e = refl
-three_is (a ∷ b ∷ c ∷ d ∷ l) e = absurd (omega (arith, e))
 
 -- a form of degree 2 in 64 bits
 pub record FormFits (c : List ℤ) : Type 0 where

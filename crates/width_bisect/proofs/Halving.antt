@@ -16,15 +16,9 @@ use Rattle.box_bisect.proofs.Raised.{raised_is}
 use Rattle.width_bisect.specs.Forms.{AreWidthForms}
 use Rattle.width_bisect.specs.Halved.{first2, first4, last2, last4}
 use Rattle.width_bisect.specs.Sizes.{IsWeighted4}
+use Rattle.width_bisect.proofs.Same.{same3, same5}
 use Rattle.width_bisect.proofs.Shifting.{fourth4_small, middle2_small, middle4_small, second2_small, second4_small, shifted1, shifted2, shifted3, shifted4, third4_small}
 use Rattle.width_bisect.proofs.Terms4.{raised_of_first, raised_of_last, width_of_first, width_of_last}
-
-same3 : (a b c d e f : ℤ) → a ≡ d → b ≡ e → c ≡ f → a ∷ b ∷ c ∷ [] ≡ d ∷ e ∷ f ∷ []
-same3 a b c d e f h k l = ap (λ z. z ∷ b ∷ c ∷ []) h ∙ ap (λ z. d ∷ z ∷ c ∷ []) k ∙ ap (λ z. d ∷ e ∷ z ∷ []) l
-
-same5 : (a b c d e f g h i j : ℤ) → a ≡ f → b ≡ g → c ≡ h → d ≡ i → e ≡ j → a ∷ b ∷ c ∷ d ∷ e ∷ [] ≡ f ∷ g ∷ h ∷ i ∷ j ∷ []
-same5 a b c d e f g h i j p q r s t =
-    ap (λ z. z ∷ b ∷ c ∷ d ∷ e ∷ []) p ∙ ap (λ z. f ∷ z ∷ c ∷ d ∷ e ∷ []) q ∙ ap (λ z. f ∷ g ∷ z ∷ d ∷ e ∷ []) r ∙ ap (λ z. f ∷ g ∷ h ∷ z ∷ e ∷ []) s ∙ ap (λ z. f ∷ g ∷ h ∷ i ∷ z ∷ []) t
 
 -- degree 2
 first_second : (a b : ℤ) → pos 2 *ℤ a +ℤ (pos 2 *ℤ b -ℤ pos 2 *ℤ a) ≡ pos 2 *ℤ b

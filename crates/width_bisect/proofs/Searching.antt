@@ -4,12 +4,11 @@ use Rattle.std.proofs.lemmas.Bool.{cases_lt}
 use Rattle.space.specs.Motion.{Motion}
 use Rattle.space.specs.Vectors.{at}
 use Rattle.bern_form.specs.Between.{d_between, n_between}
-use Rattle.bern_form.specs.Forms.{all_negative, all_positive, lifted, product22}
+use Rattle.bern_form.specs.Forms.{all_negative, lifted, product22}
 use Rattle.bern_form.specs.Marks.{some_holds}
 use Rattle.bern_form.specs.Slab.{SlabSize}
 use Rattle.bern_form.proofs.Halves.{n_of_first, n_of_last, u_of_first, u_of_last, whole_of_first, whole_of_last}
 use Rattle.axis_cells.specs.declared.mark.Mark.TheVariants.{Clear, Possible, Removed}
-use Rattle.cutter_slabs.specs.Rising.{IsRising}
 use Rattle.box_bisect.specs.Between.{IsMarkBetween}
 use Rattle.box_bisect.specs.SlabTests.{TurnsAt, TurnsBetween, is_below_by, is_left_by, is_left_with, no_slab, some_covers, width_of}
 use Rattle.box_bisect.specs.Stretches.{AreFormsBetween}
@@ -186,12 +185,3 @@ pub turns_by : (slabs : List SlabSize) (S kept high reached : ℕ) (raised heigh
     → StopsAt (λ s. not (is_below_by kept raised height s)) slabs high reached → TurnsBetween (is_not_below S u n) slabs 0 high → TurnsAt (is_not_below S u n) slabs reached
 turns_by slabs S kept high reached raised height u n eS er eh stops turns =
     turned (is_not_below S u n) slabs high reached (subst (λ (t : SlabSize → Bool). StopsAt t slabs high reached) (test_as S kept raised height u n eS er eh) stops) turns
-
-pub left_is_by : (slabs : List SlabSize) (left : Bool) (S kept reached : ℕ) (raised height width u n d : List ℤ) → IsRising slabs → kept ≡ S → all_negative u ≡ false → raised ≡ lifted n
-    → height ≡ product22 u u → width ≡ width_of u n d → all_positive (lifted n) ≡ true → TurnsAt (is_not_below S u n) slabs reached
-    → (IsRising slabs → all_positive raised ≡ true → TurnsAt (λ s. not (is_below_by kept raised height s)) slabs reached → left ≡ is_left_by kept false raised height width slabs)
-    → left ≡ is_left_with slabs S u n d
-left_is_by slabs left S kept reached raised height width u n d rising eS ahead er eh ew positive turns is =
-    is rising (subst (λ l. all_positive l ≡ true) (sym er) positive)
-    (subst (λ (t : SlabSize → Bool). TurnsAt t slabs reached) (sym (test_as S kept raised height u n eS er eh)) turns)
-    ∙ left_by slabs S kept raised height width u n d eS ahead er eh ew

@@ -1,77 +1,44 @@
-use Rattle.std.proofs.Common.{◌≡◌, ◌-ℤ◌, pos, FitsSigned, arith, rules}
-use Rattle.std.proofs.lemmas.Int.{ints, to_z-of_z}
+use Rattle.std.proofs.Common.{FitsSigned, pos, rules}
+use Rattle.std.proofs.lemmas.Int.{to_z-of_z}
 use mir.Syntax.{w64}
-use Rattle.near_points.specs.Lines.{AreBeyond, height_at, side_at}
-use Rattle.near_points.proofs.Told.{beside_both, beyond_both}
+use Rattle.near_points.proofs.Bits.{opposite_reckoned}
+use Rattle.near_points.proofs.Moving.{step_moves}
+use Rattle.near_points.proofs.Told.{beside_both, beyond_both, beyond_by}
 use Rattle.near_points.proofs.scan.are_all_beyond.Goals as goal
 
-pub moved-low-requires-clause-to : goal.moved-low-requires-clause-to
-moved-low-requires-clause-to c =
-    let s = c.args.first.now in let t = c.args.step.now in
-    let f : FitsSigned w64 s.height = search rules in
-    let g : FitsSigned w64 t.height = search rules in
-    let fits = c.requires.from in
-    simp to_z-of_z fits.height
+pub moved-low-requires : goal.moved-low-requires
+moved-low-requires c = (step_moves c.args.first.now c.args.step.now (pos c.args.l) c.requires.from).height.passed
 
-pub moved-high-requires-clause-to : goal.moved-high-requires-clause-to
-moved-high-requires-clause-to c =
-    let s = c.args.first.now in let t = c.args.step.now in
-    let f : FitsSigned w64 s.height = search rules in
-    let g : FitsSigned w64 t.height = search rules in
-    let fits = c.requires.to in
-    simp to_z-of_z fits.height
+pub moved-high-requires : goal.moved-high-requires
+moved-high-requires c = (step_moves c.args.first.now c.args.step.now (pos c.args.m) c.requires.to).height.passed
 
-pub tilted-left-requires-clause-to : goal.tilted-left-requires-clause-to
-tilted-left-requires-clause-to c =
-    let s = c.args.first.now in let t = c.args.step.now in
-    let f : FitsSigned w64 s.side = search rules in
-    let g : FitsSigned w64 t.side = search rules in
-    let fits = c.requires.from in
-    simp to_z-of_z fits.side
+pub tilted-left-requires : goal.tilted-left-requires
+tilted-left-requires c = (step_moves c.args.first.now c.args.step.now (pos c.args.l) c.requires.from).side.passed
 
-pub tilted-right-requires-clause-to : goal.tilted-right-requires-clause-to
-tilted-right-requires-clause-to c =
-    let s = c.args.first.now in let t = c.args.step.now in
-    let f : FitsSigned w64 s.side = search rules in
-    let g : FitsSigned w64 t.side = search rules in
-    let fits = c.requires.to in
-    simp to_z-of_z fits.side
+pub tilted-right-requires : goal.tilted-right-requires
+tilted-right-requires c = (step_moves c.args.first.now c.args.step.now (pos c.args.m) c.requires.to).side.passed
 
 pub overflow_sub-hold : goal.overflow_sub-hold
 overflow_sub-hold c =
-    let hold = c.args.hold.now in let some = hold.across_some in
-    let fc : FitsSigned w64 hold.across = search rules in
-    let fm : FitsSigned w64 (pos 0 -ℤ hold.across) = omega (arith, ints, some, fc) in
-    simp to_z-of_z fm
+    let hold = c.args.hold.now in let fc : FitsSigned w64 hold.across = search rules in
+    (opposite_reckoned hold.across fc hold.across_some).fits
 
 pub returns-then-are_beyond : goal.returns-then-are_beyond
 returns-then-are_beyond c = λ yes x from to.
-    let a = c.moved-low.result in let e = c.moved-high.result in
     let hold = c.args.hold.now in let first = c.args.first.now in let step = c.args.step.now in
     let l = c.args.l in let m = c.args.m in
-    let fa : FitsSigned w64 a = search rules in
-    let fb : FitsSigned w64 e = search rules in
-    let fl : FitsSigned w64 hold.least = search rules in
-    let fm : FitsSigned w64 hold.most = search rules in
-    let ff : FitsSigned w64 first.height = search rules in
-    let ft : FitsSigned w64 step.height = search rules in
-    let low : a ≡ height_at first step (pos l) = simp to_z-of_z at c.moved-low.ensures in
-    let high : e ≡ height_at first step (pos m) = simp to_z-of_z at c.moved-high.ensures in
-    let apart : AreBeyond hold.least hold.most a e = simp to_z-of_z at (c.are_beyond.ensures c.if-are_beyond.true) in
-    beyond_both hold first step a e l x m apart low high from to
+    let low = (step_moves first step (pos l) c.requires.from).height.value c.moved-low.result c.moved-low.ensures in
+    let high = (step_moves first step (pos m) c.requires.to).height.value c.moved-high.result c.moved-high.ensures in
+    let fl : FitsSigned w64 hold.least = search rules in let fm : FitsSigned w64 hold.most = search rules in
+    let least = to_z-of_z w64 hold.least fl in let most = to_z-of_z w64 hold.most fm in
+    beyond_both hold first step _ _ l x m (beyond_by _ _ _ _ _ _ least most (c.are_beyond.ensures c.if-are_beyond.true)) low high from to
 
 pub returns : goal.returns
 returns c = λ yes x from to.
-    let a = c.tilted-left.result in let e = c.tilted-right.result in
     let hold = c.args.hold.now in let first = c.args.first.now in let step = c.args.step.now in
-    let l = c.args.l in let m = c.args.m in let some = hold.across_some in
-    let fa : FitsSigned w64 a = search rules in
-    let fb : FitsSigned w64 e = search rules in
-    let ff : FitsSigned w64 first.side = search rules in
-    let ft : FitsSigned w64 step.side = search rules in
+    let l = c.args.l in let m = c.args.m in
+    let left = (step_moves first step (pos l) c.requires.from).side.value c.tilted-left.result c.tilted-left.ensures in
+    let right = (step_moves first step (pos m) c.requires.to).side.value c.tilted-right.result c.tilted-right.ensures in
     let fc : FitsSigned w64 hold.across = search rules in
-    let fm : FitsSigned w64 (pos 0 -ℤ hold.across) = omega (arith, ints, some, fc) in
-    let left : a ≡ side_at first step (pos l) = simp to_z-of_z at c.tilted-left.ensures in
-    let right : e ≡ side_at first step (pos m) = simp to_z-of_z at c.tilted-right.ensures in
-    let apart : AreBeyond (pos 0 -ℤ hold.across) hold.across a e = simp to_z-of_z at (c.are_beyond-2.ensures yes) in
-    beside_both hold first step a e l x m apart left right from to
+    let least = (opposite_reckoned hold.across fc hold.across_some).value in let most = to_z-of_z w64 hold.across fc in
+    beside_both hold first step _ _ l x m (beyond_by _ _ _ _ _ _ least most (c.are_beyond-2.ensures yes)) left right from to

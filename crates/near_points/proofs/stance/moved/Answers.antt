@@ -1,28 +1,18 @@
-use Rattle.std.proofs.Common.{◌≡◌, ◌+ℤ◌, ◌*ℤ◌, pos, FitsSigned, to_z, of_z, arith, refl, subst, sym}
-use mir.Syntax.{w64}
+use Rattle.std.proofs.Common.{arith}
 use Rattle.near_points.specs.Limits.{moment_limit}
-use Rattle.near_points.proofs.Bits.{added_fits, as_bits, count_fits, product_passed, small_fits, sum_passed, moment_fits}
+use Rattle.near_points.proofs.Moving.{MovesInWord, moves_in_word}
 use Rattle.near_points.proofs.stance.moved.Goals as goal
 
-step_fits : (c : goal.After-from) → FitsSigned w64 (pos c.args.n *ℤ c.args.b)
-step_fits c = added_fits moment_limit c.args.a (pos c.args.n *ℤ c.args.b) (omega arith) c.requires.from c.requires.to
-
-step_passed : (c : goal.After-from) → to_z w64 (of_z w64 c.from.result) *ℤ to_z w64 (of_z w64 c.args.b) ≡ pos c.args.n *ℤ c.args.b
-step_passed c = product_passed w64 c.from.result c.args.b (pos c.args.n) c.args.b c.from.ensures refl (count_fits c.args.n c.ranges.n) c.ranges.b
-
-all_passed : (c : goal.After-from)
-    → to_z w64 (of_z w64 c.args.a) +ℤ to_z w64 (of_z w64 (to_z w64 (of_z w64 c.from.result) *ℤ to_z w64 (of_z w64 c.args.b)))
-    ≡ c.args.a +ℤ pos c.args.n *ℤ c.args.b
-all_passed c = sum_passed w64 c.args.a _ c.args.a (pos c.args.n *ℤ c.args.b) refl (step_passed c) c.ranges.a (step_fits c)
-
-sum_fits : (c : goal.After-from) → FitsSigned w64 (c.args.a +ℤ pos c.args.n *ℤ c.args.b)
-sum_fits c = small_fits moment_limit (c.args.a +ℤ pos c.args.n *ℤ c.args.b) moment_fits c.requires.to
+in_word : (c : goal.After-from) → MovesInWord moment_limit c.args.a c.args.b c.from.result c.args.n
+in_word c =
+    let a = c.args in let fits = c.requires in
+    moves_in_word moment_limit a.a a.b c.from.result a.n (omega arith) fits.from fits.to c.from.ensures c.ranges.n c.ranges.b
 
 pub overflow_mul-result : goal.overflow_mul-result
-overflow_mul-result c = subst (FitsSigned w64) (sym (step_passed c)) (step_fits c)
+overflow_mul-result c = (in_word c).product
 
 pub overflow_add-result : goal.overflow_add-result
-overflow_add-result c = subst (FitsSigned w64) (sym (all_passed c)) (sum_fits c)
+overflow_add-result c = (in_word c).whole.fits
 
 pub returns : goal.returns
-returns c = as_bits w64 _ (c.args.a +ℤ pos c.args.n *ℤ c.args.b) (all_passed c) (sum_fits c)
+returns c = (in_word c).whole.value

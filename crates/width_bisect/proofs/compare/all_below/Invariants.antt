@@ -1,8 +1,6 @@
-use Rattle.std.proofs.Common.{◌≡◌, ℕ, ◌<◌, ◌*ℤ◌, true}
-use Rattle.space.specs.Vectors.{at}
-use Rattle.box_bisect.specs.Sides.{is_on}
 use Rattle.box_bisect.specs.declared.compare.Side.TheVariants.{Below}
+use Rattle.width_bisect.proofs.Sides.{AreOn}
 use Rattle.width_bisect.proofs.compare.all_below.Given as goal
 
 abbrev pub invariant-loop-i : goal.invariant-loop-i
-invariant-loop-i l = (k : ℕ) → k < l.i → is_on Below (at l.form k) (l.limit *ℤ at l.raised k) ≡ true
+invariant-loop-i l = AreOn Below l.form l.limit l.raised l.i

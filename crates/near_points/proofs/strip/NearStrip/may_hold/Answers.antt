@@ -1,36 +1,25 @@
-use Rattle.std.proofs.Common.{◌≡◌, ◌<◌, ◌-◌, true, false, not, ⊎_elim, arith, ap, subst, sym}
+use Rattle.std.proofs.Common.{◌≡◌, ◌-◌, true, false, not, ⊎_elim, arith, ap}
 use Rattle.std.proofs.lemmas.Bool.{cases_Bool}
-use Rattle.ray_grid.specs.Families.{second_axis}
-use Rattle.ray_grid.specs.Lattice.{nodes_of}
-use Rattle.near_points.specs.Rays.{NearStripOf, near_ray_at}
+use Rattle.near_points.specs.Rays.{near_ray_at}
 use Rattle.near_points.proofs.Holding.{point_holds}
 use Rattle.near_points.proofs.Trimming.{in_range_ends}
-use Rattle.near_points.proofs.Turning.{first_fits, ready_on}
+use Rattle.near_points.proofs.Turning.{first_fits_on, ready_on}
 use Rattle.near_points.proofs.strip.NearStrip.may_hold.Goals as goal
 
 pub moved-start-requires : goal.moved-start-requires
 moved-start-requires c =
-    let i = c.self.inside in
-    let s : NearStripOf = record { cylinder = i.cylinder.now; grid = i.grid.now; family = i.family; i = i.i } in
-    let there : c.args.j < nodes_of s.grid (second_axis s.family) =
-    subst (λ (z : NearStripOf). c.args.j < nodes_of z.grid (second_axis z.family)) (sym c.self.view_is) c.requires.node in
-    first_fits i.start i.across i.step i.hold s c.args.j c.self.invariant there
+    let i = c.self.inside in first_fits_on i.start i.across i.step i.hold _ _ c.args.j c.self.view_is c.self.invariant c.requires.node
 
-pub are_all_beyond-requires-clause-from : goal.are_all_beyond-requires-clause-from
-are_all_beyond-requires-clause-from c =
-    let i = c.self.inside in
+pub are_all_beyond-requires : goal.are_all_beyond-requires
+are_all_beyond-requires c =
+    let i = c.self.inside in let range = c.args.range in
     let ready =
     ready_on i.start i.across c.moved-start.result i.step i.hold _ c.args.self.now c.args.j c.self.view_is c.self.invariant c.requires.node
     c.moved-start.ensures in
-    ready.fits c.args.range.0 (omega (arith, c.requires.some, c.requires.on_ray))
-
-pub are_all_beyond-requires-clause-to : goal.are_all_beyond-requires-clause-to
-are_all_beyond-requires-clause-to c =
-    let i = c.self.inside in
-    let ready =
-    ready_on i.start i.across c.moved-start.result i.step i.hold _ c.args.self.now c.args.j c.self.view_is c.self.invariant c.requires.node
-    c.moved-start.ensures in
-    ready.fits (c.args.range.1 - 1) (omega (arith, c.requires.some, c.requires.on_ray))
+    record {
+      from = ready.fits range.0 (omega (arith, c.requires.some, c.requires.on_ray));
+      to = ready.fits (range.1 - 1) (omega (arith, c.requires.some, c.requires.on_ray));
+    }
 
 pub returns : goal.returns
 returns c = λ l there held.

@@ -1,7 +1,5 @@
-use Rattle.std.proofs.Common.{◌≡◌, ◌+◌, ◌<◌, true, false, pos, List, arith, subst, sym, ap, ◌∙◌, ⊎_elim}
+use Rattle.std.proofs.Common.{◌≡◌, ◌+◌, true, false, pos, List, arith, subst, sym, ap, ◌∙◌, ⊎_elim}
 use Rattle.std.proofs.lemmas.Bool.{and_parts, cases_Bool}
-use Rattle.ray_grid.specs.Families.{second_axis}
-use Rattle.ray_grid.specs.Lattice.{nodes_of}
 use Rattle.sweep_boxes.specs.declared.level.Level.{Level}
 use Rattle.vf_spans.specs.Members.{in_range}
 use Rattle.vf_spans.specs.Words.{has_bit}
@@ -12,14 +10,12 @@ use Rattle.near_points.specs.Trimmed.{IsLeftOut}
 use Rattle.near_points.proofs.Holding.{holds_point, not_left_out, point_holds}
 use Rattle.near_points.proofs.Trimming.{in_wider}
 use Rattle.near_points.proofs.Told.{both_true}
-use Rattle.near_points.proofs.Turning.{first_fits, ready_on}
+use Rattle.near_points.proofs.Turning.{first_fits_on, ready_on}
 use Rattle.near_points.proofs.strip.NearStrip.near_some.Goals as goal
 
 pub moved-start-requires : goal.moved-start-requires
 moved-start-requires c =
-    let i = c.self.inside in let s : NearStripOf = record { cylinder = i.cylinder.now; grid = i.grid.now; family = i.family; i = i.i } in
-    let there : c.args.j < nodes_of s.grid (second_axis s.family) = subst (λ (z : NearStripOf). c.args.j < nodes_of z.grid (second_axis z.family)) (sym c.self.view_is) c.requires.node in
-    first_fits i.start i.across i.step i.hold s c.args.j c.self.invariant there
+    let i = c.self.inside in first_fits_on i.start i.across i.step i.hold _ _ c.args.j c.self.view_is c.self.invariant c.requires.node
 
 pub overflow_add-l : goal.overflow_add-l
 overflow_add-l c =
