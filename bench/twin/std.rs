@@ -22,6 +22,10 @@ impl<T> Vec<T> {
         Ok(())
     }
     #[inline]
+    pub fn capacity(&self) -> usize {
+        self.0.capacity()
+    }
+    #[inline]
     pub fn reserve(&mut self, n: usize) -> Result<(), AllocError> {
         self.0.reserve(n);
         Ok(())
