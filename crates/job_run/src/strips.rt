@@ -9,7 +9,7 @@ ghost use Rattle.job_run.specs.Jobs.{job_with};
 ghost use Rattle.job_run.specs.Strips.{AreAt, AreFrom};
 
 use crate::bodies::JobBodies;
-use ray_grid::Ray;
+use ray_grid::{Grid, Ray};
 use ray_shapes::{RayShape, Solid, body_spans};
 use std::alloc::Global;
 use std::thread::{Threads, join};
@@ -81,6 +81,35 @@ fn strips_between(
     strips_by(alloc, plan, from, to, &stock, &part, &fixture)
 }
 
+/// How many rays the strips of a grid have from one number on and below another.
+fn rays_between(grid: &Grid, from: u32, to: u32) -> u64
+    requires { to ≤ length (strips_of grid.now) }
+{
+    let mut rays: u64 = 0;
+    for number in from..to {
+        rays = rays.saturating_add(u64::from(grid.strip_len(number)));
+    }
+    rays
+}
+
+/// The end of the first of so many parts, which has its share of the rays: strips of one family have more of them than those of another.
+fn share_end(grid: &Grid, from: u32, to: u32, parts: u32) -> u32
+    requires parts { 0 < parts }
+    requires order { from ≤ to }
+    requires within { to ≤ length (strips_of grid.now) }
+    ensures from { from ≤ result }
+    ensures to { result ≤ to }
+{
+    let mut share = rays_between(grid, from, to) / u64::from(parts);
+    for number in from..to {
+        if share == 0 {
+            return number;
+        }
+        share = share.saturating_sub(u64::from(grid.strip_len(number)));
+    }
+    to
+}
+
 /// The same strips, made in so many parts, each in a thread of its own where one can be made.
 #[cycle(parts)]
 fn strips_in_parts<R: Threads + Sync>(
@@ -100,7 +129,7 @@ fn strips_in_parts<R: Threads + Sync>(
     if parts == 1 {
         return strips_between(alloc, plan, bodies, from, to);
     }
-    let next = from + (to - from) / parts;
+    let next = share_end(plan.grid(), from, to, parts);
     let others = parts - 1;
     let front = move || -> Result<Vec<Strip>, NoMemory>
         requires { (from ≤ next) × (next ≤ length (strips_of plan.now.grid)) }

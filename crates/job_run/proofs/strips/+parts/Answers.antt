@@ -1,4 +1,4 @@
-use Rattle.std.proofs.Common.{◌+◌, ◌-◌, ◌/◌, List, rules, sym, subst}
+use Rattle.std.proofs.Common.{List, rules, sym, subst}
 use Rattle.job_model.specs.Tasks.{Job}
 use Rattle.strip_journal.specs.Strips.{StripOf}
 use Rattle.job_run.specs.Jobs.{job_with}
@@ -15,7 +15,7 @@ returns-then-parts-eq1 g t c = c.strips_between.ensures
 pub returns : goal.returns
 returns g t c =
     let job : Job = job_with c.args.plan.now c.args.bodies.now in
-    let next = c.args.from + (c.args.to - c.args.from) / c.args.parts in
+    let next = c.share_end-next.result in
     let first : AreFrom job 0 c.args.from next c.in_ok-strips.strips.items = search rules in
     let rest : AreFrom job 0 next c.args.to c.in_ok-rest.rest.items = search rules in
     subst (λ (z : List StripOf). AreFrom job 0 c.args.from c.args.to z) (sym {A = List StripOf} c.in_ok-append.ensures.items)
