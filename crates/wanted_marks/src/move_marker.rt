@@ -94,7 +94,7 @@ impl<'a> MoveMarker<'a> {
         StripMarker::new(self, grid, family, i)
     }
 
-    /// Whether its tip goes further than twice the cutter's width. Points are then met far from both ends of the move.
+    /// Whether its tip goes further than three times the cutter's width. Points are then met far from both ends of the move.
     #[inline]
     pub(crate) fn is_long(&self) -> bool {
         self.ready.is_long
