@@ -62,12 +62,8 @@ impl<'a> StripMarker<'a> {
         match &self.sheet {
             None => RayMarker::new(self.mover, self.grid, ray),
             Some(sheet) => {
-                if self.grid.points(self.family) < 2 {
-                    return RayMarker::new(self.mover, self.grid, ray);
-                }
-                // A line takes 288 bytes; where it is surely there, it is made in its place.
                 let line = self.mover.line_on(sheet, self.grid, &ray);
-                RayMarker::with_line(self.mover, self.grid, ray, Some(line))
+                RayMarker::with_line(self.mover, self.grid, ray, line)
             }
         }
     }
