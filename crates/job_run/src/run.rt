@@ -38,7 +38,7 @@ fn answered(
 }
 
 /// Leaves what strips hold to the system, which takes it back as a whole when the program ends: a program does one job, and to free the
-/// lists of each ray one by one takes a fiftieth of the job's time.
+/// lists of each ray one by one takes a hundredth of the job's time.
 fn leave(strips: Vec<Strip>) {
     mem::forget(strips);
 }

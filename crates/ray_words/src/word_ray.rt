@@ -101,7 +101,7 @@ impl WordRay {
     }
 
     /// The five words of the points from the index 64 n on.
-    #[inline(always)]
+    #[inline]
     pub fn word(&self, n: u32) -> WordSets
         requires { n < words_below (length self.now.sets.stock) }
         ensures { IsWordAt self.now.sets n result }

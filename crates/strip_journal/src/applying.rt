@@ -122,7 +122,7 @@ impl Journal {
         mark_strip(room, self.rays.as_mut_slice(), plan, number, self.number)
     }
 
-    /// Applies a move of the plan. Most moves leave a strip alone: then nothing is marked.
+    /// Applies a move of the plan.
     pub fn apply(&mut self, plan: &Plan, number: u32) -> Result<(), NoMemory>
         requires journal { IsJournal (job_of self.old) self.old }
         requires plan { self.old.plan.value ≡ plan.now }
@@ -131,10 +131,6 @@ impl Journal {
         ensures ok { OnOk result (IsAt self.old self.new (self.old.done + 1)) }
         ensures unchanged { OnErr result (IsAt self.old self.new self.old.done) }
     {
-        let window = plan.strip_window(number, self.number);
-        if window.0 == window.1 {
-            return self.stand();
-        }
         let marked = self.mark(plan, number)?;
         self.take_over(marked)
     }

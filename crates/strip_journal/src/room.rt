@@ -2,7 +2,7 @@ ghost use Rattle.std.specs.Prelude.{◌≡◌, ◌+◌, ◌≤◌, OnOk, vec_cap
 
 use vf_io::NoMemory;
 
-/// Room for so many items more. A list that has too little grows to four times its length: it is copied a third as often as one that
+/// Room for so many items more. A list that has too little grows to four times its length: it is copied half as often as one that
 /// doubles, and what it doesn't fill is mostly never touched. After want of memory nothing is changed.
 pub fn reserve_more<T>(list: &mut Vec<T>, more: usize) -> Result<(), NoMemory>
     ensures items { list.new.items ≡ list.old.items }

@@ -312,21 +312,20 @@ impl<'a> MoveMarker<'a> {
         }
     }
 
-    /// The line through the points of a ray, where it has two or more, from the sheet of its strip.
-    pub(crate) fn line_on(&self, sheet: &Sheet, grid: &Grid, ray: &Ray) -> Option<Line>
+    /// The line through the points of a ray, from the sheet of its strip.
+    pub(crate) fn line_on(&self, sheet: &Sheet, grid: &Grid, ray: &Ray) -> Line
         requires ray { IsRay grid.now ray.now }
         requires sheet { IsSheetOf sheet.now record { sweep = self.now; grid = grid.now; family = ray.now.family; i = ray.now.i } }
-        ensures { IfSome result (λ line. IsLineOf line record { sweep = self.now; grid = grid.now; ray = ray.now }) }
+        ensures { IsLineOf result record { sweep = self.now; grid = grid.now; ray = ray.now } }
     {
+        // The points between the first and the last lie within a metre as these two do; a grid, which has a point on each ray, and a move
+        // are valid by their types.
+        let _sized = &grid.origin;
         let points = grid.points(ray.family);
-        if points < 2 {
-            return None;
-        }
-        // The points between the first and the last lie within a metre as these two do; a move is valid by its type.
         let _start = grid.point(ray, 0);
         let _last = grid.point(ray, points - 1);
         let _valid = &self.depth;
-        Some(sheet.line(ray.j))
+        sheet.line(ray.j)
     }
 
     /// The last sample of the point l steps on.

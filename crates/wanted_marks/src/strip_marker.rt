@@ -63,7 +63,7 @@ impl<'a> StripMarker<'a> {
             None => RayMarker::new(self.mover, self.grid, ray),
             Some(sheet) => {
                 let line = self.mover.line_on(sheet, self.grid, &ray);
-                RayMarker::with_line(self.mover, self.grid, ray, line)
+                RayMarker::with_line(self.mover, self.grid, ray, Some(line))
             }
         }
     }

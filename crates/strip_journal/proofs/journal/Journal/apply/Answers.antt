@@ -1,16 +1,12 @@
 -- The move is marked, and what it changes is taken over: the journal of the edits before becomes that of one edit more.
-use Rattle.std.proofs.Common.{◌≡◌, ◌<◌, List, length, rules, sym, subst}
-use Rattle.std.proofs.lemmas.Result.{on_ok_weaker}
-use Rattle.ray_grid.specs.Strips.{strips_of}
+use Rattle.std.proofs.Common.{◌≡◌, List, rules, sym, subst}
 use Rattle.ray_words.specs.Rays.{KeptSets}
-use Rattle.job_model.specs.Tasks.{PlanOf}
 use Rattle.strip_marks.specs.Marks.{HaveSameSets}
-use Rattle.strip_journal.specs.Steps.{HasSameEdits, IsStood}
+use Rattle.strip_journal.specs.Steps.{HasSameEdits}
 use Rattle.strip_journal.proofs.EnteredRoom.{same_at}
 use Rattle.strip_journal.proofs.KeptSame.{same_edits_through}
 use Rattle.strip_journal.proofs.MarkedBy.{IsMarking, marking_at, marking_fits, marking_on, marking_stands}
-use Rattle.strip_journal.proofs.MovedAt.{on_err_both, on_ok_both, unmoved_at}
-use Rattle.strip_journal.proofs.Unentered.{stands_apply, unentered_at}
+use Rattle.strip_journal.proofs.MovedAt.{on_err_both, on_ok_both}
 use Rattle.strip_journal.proofs.journal.Journal.apply.Goals as goal
 use Rattle.strip_journal.proofs.journal.Journal.apply.Goals.{In_ok-marked}
 
@@ -26,26 +22,6 @@ marking c = record {
   edits = c.mark.ensures.edits;
   marked = c.in_ok-marked.ensures.marked;
 }
-
-pub strip_window-window-requires-clause-strip : goal.strip_window-window-requires-clause-strip
-strip_window-window-requires-clause-strip c =
-    subst (λ (p : PlanOf). c.args.self.now.number < length (strips_of p.grid)) c.requires.plan c.requires.journal.strip
-
-pub stand-requires : goal.stand-requires
-stand-requires c = stands_apply c.args.plan.now c.args.self.now c.args.number c.requires.journal c.requires.plan c.requires.edit
-
-pub returns-then-window-clause-ok : goal.returns-then-window-clause-ok
-returns-then-window-clause-ok c =
-    let w = c.strip_window-window in
-    let at = λ (stood : IsStood c.args.self.now c.stand.new.self).
-    unentered_at c.args.plan.now c.args.self.now c.stand.new.self c.args.number w.result.0 w.result.1 c.requires.journal c.requires.plan
-    c.requires.edit c.requires.number c.if-window.true w.ensures.within w.ensures.holds stood in
-    on_ok_weaker c.stand.result at c.stand.ensures.ok
-
-pub returns-then-window-clause-unchanged : goal.returns-then-window-clause-unchanged
-returns-then-window-clause-unchanged c =
-    on_err_both c.stand.result _ _ _ (unmoved_at c.args.self.now c.stand.new.self c.requires.journal) c.stand.ensures.edits
-    c.stand.ensures.rays
 
 pub returns-in_err-marked-clause-unchanged : goal.returns-in_err-marked-clause-unchanged
 returns-in_err-marked-clause-unchanged c =

@@ -2,12 +2,26 @@ use Rattle.std.proofs.Common.{pos, ◌-◌, ◌≤◌, ◌^◌, arith, refl, sub
 use Rattle.space.specs.Ranges.{IsPoint}
 use Rattle.bern_form.specs.Sizes.{scale_limit}
 use Rattle.ray_grid.specs.Lattice.{point_at, point_of}
+use Rattle.ray_grid.specs.Ranges.{IsGrid}
 use Rattle.wanted_marks.specs.Rays.{RayOf}
 use Rattle.wanted_marks.specs.Ready.{IsReadyMove}
 use Rattle.wanted_marks.specs.Strips.{StripOf, way_to}
-use Rattle.wanted_marks.proofs.OnRays.{across_rays, line_of_ray, ray_fits}
+use Rattle.wanted_marks.proofs.OnRays.{across_rays, has_first, line_of_ray, ray_fits}
 use Rattle.wanted_marks.proofs.Stepping.{line_is, ray_is}
 use Rattle.wanted_marks.proofs.move_marker.MoveMarker.line_on.Goals as goal
+
+pub point-start-requires-clause-point : goal.point-start-requires-clause-point
+point-start-requires-clause-point c = has_first c.args.grid.now c.args.ray.now.family (subst IsGrid c.grid.view_is c.grid.invariant)
+
+pub overflow_sub-points : goal.overflow_sub-points
+overflow_sub-points c =
+    let some = has_first c.args.grid.now c.args.ray.now.family (subst IsGrid c.grid.view_is c.grid.invariant) in
+    omega (arith, some, c.points-points.ensures)
+
+pub point-last-requires-clause-point : goal.point-last-requires-clause-point
+point-last-requires-clause-point c =
+    let some = has_first c.args.grid.now c.args.ray.now.family (subst IsGrid c.grid.view_is c.grid.invariant) in
+    omega (arith, some, c.points-points.ensures)
 
 pub line-requires : goal.line-requires
 line-requires c =
