@@ -51,8 +51,9 @@ pub fn mark_between(
     mark_by_halves(stretch, inner, outer, scale, reached, levels)
 }
 
-/// The same, where some outer slab is not excluded on the stretch, so that a cell is Possible. Else the sample in the middle is
-/// tried, and then both halves, the late one first: a tool that goes on takes nearly all of what is new near the end of its move.
+/// The same by both halves, whether or not all outer slabs are excluded on the stretch, but for a cell: on that some outer slab is not
+/// excluded, so it is Possible. The sample in the middle is tried, and then both halves, the late one first: a tool that goes on takes
+/// nearly all of what is new near the end of its move.
 /// What an outer slab holds in the middle is Possible, so of both halves it is only asked whether an inner one holds it.
 #[cycle(search)]
 pub fn mark_by_halves(
@@ -70,7 +71,7 @@ pub fn mark_by_halves(
     requires lows { lows_of inner.now ≡ lows_of outer.now }
     ensures { let s = stretch.now in (m : Motion) (p : List ℤ) (j : ℕ)
         → IsWidthSearch inner.now outer.now s.u s.n s.width m p scale high levels j
-        → is_left_with outer.now scale s.u s.n (d_between m p j (j + 2 ^ levels) scale) ≡ true
+        → (levels ≡ 0 → is_left_with outer.now scale s.u s.n (d_between m p j (j + 2 ^ levels) scale) ≡ true)
         → IsMarkBetween result inner.now outer.now m p j (j + 2 ^ levels) scale }
 {
     if levels == 0 {
