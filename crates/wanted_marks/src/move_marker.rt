@@ -213,8 +213,9 @@ impl<'a> MoveMarker<'a> {
         mark_point_uncounted(self.sweep, self.stacks, point, self.depth)
     }
 
-    /// What is asked of the point l steps on along a line, by the forms that the line has there. It is below the outer slab with the number
-    /// `high` throughout the move. Where it is only asked whether the point is sure, that is all that the mark tells.
+    /// What is asked of the point l steps on along a line, by the forms that the line has there. The point is below the outer slab with the
+    /// number `high` throughout the move, where there is one. Where it is only asked whether the point is sure, that is all that the mark
+    /// tells.
     pub(crate) fn mark_on(
         &self,
         line: &Line,
@@ -378,9 +379,9 @@ impl<'a> MoveMarker<'a> {
         line.exceed(l, last.width, limits)
     }
 
-    /// The number of the outer slab above that at the greatest height of the point l steps on: it is lower than that one begins, throughout
-    /// the move. There is none where it is outside of each outer slab, for it is beside the one at its greatest height too, so beside those
-    /// below that, which are no wider. It is then neither sure nor possible. `near` is the number of a slab to look from.
+    /// The number of the lowest outer slab that begins higher than the point l steps on ever is: the point is below it throughout the move,
+    /// and below those above it. None where the point is outside of each outer slab throughout: beside the one before that number, so
+    /// beside those below it too, which are no wider. It is then neither sure nor possible. `near` is the number of a slab to look from.
     pub(crate) fn slab_above(
         &self,
         line: &Line,

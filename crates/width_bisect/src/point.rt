@@ -108,9 +108,9 @@ pub fn mark_by_forms(
 }
 
 /// The same of a point that is known to be below the outer slab with the number `high` throughout, where there is one, on a move of two
-/// cells or more, where n raised to degree 4 is above 0 by its coefficients. It isn't asked whether all slabs are excluded on the whole move,
-/// which is halved: where a caller has asked that by a test of its own they hardly ever are. The inner slabs begin where the outer
-/// ones do, so `high` serves for both.
+/// cells or more on which n raised to degree 4 is above 0 by its coefficients. The move is halved at once: whether all slabs are
+/// excluded on the whole of it isn't asked, as they hardly ever are where a caller has tried to exclude them by a test of its own. The inner
+/// slabs begin where the outer ones do, so `high` serves for both.
 #[inline]
 pub fn mark_below(
     sweep: &Sweep,

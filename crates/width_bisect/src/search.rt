@@ -51,10 +51,10 @@ pub fn mark_between(
     mark_by_halves(stretch, inner, outer, scale, reached, levels)
 }
 
-/// The same by both halves, whether or not all outer slabs are excluded on the stretch, but for a cell: on that some outer slab is not
-/// excluded, so it is Possible. The sample in the middle is tried, and then both halves, the late one first: a tool that goes on takes
-/// nearly all of what is new near the end of its move.
-/// What an outer slab holds in the middle is Possible, so of both halves it is only asked whether an inner one holds it.
+/// The same, where it isn't asked whether all outer slabs are excluded on the stretch. On a cell some outer slab is not, so it is
+/// Possible. Else the sample in the middle is tried, and then both halves, the late one first: a tool that goes on takes nearly all of
+/// what is new near the end of its move. What an outer slab holds in the middle is Possible, so of both halves it is only asked whether
+/// an inner one holds it.
 #[cycle(search)]
 pub fn mark_by_halves(
     stretch: &Stretch,

@@ -9,6 +9,7 @@ ghost use Rattle.box_bisect.specs.Between.{IsMarkBetween};
 ghost use Rattle.box_bisect.specs.SlabTests.{TurnsAt, TurnsBetween, is_below_by, is_left_with};
 ghost use Rattle.width_bisect.specs.Early.{lows_of};
 ghost use Rattle.width_bisect.specs.Forms.{AreWidthForms};
+ghost use Rattle.width_bisect.specs.Searches.{is_not_below};
 
 use crate::lists::Lists;
 use crate::sample::Sample;
@@ -31,9 +32,9 @@ pub fn reached_on_whole(whole: &Stretch, lists: &Lists, slabs: &[Slab], near: us
 }
 
 /// The mark of the point whose forms these are on a stretch of 2^`levels` cells: both ends are tried, and then what is between them. Where
-/// it is one cell, some outer slab is not excluded on it. n raised to degree 4 is above 0, and the point is below the outer slab with the
-/// number `high` throughout, where there is one. What an outer slab holds at an end is Possible, and only asked whether an inner one holds
-/// it between: so is most that lies right ahead of a tool that goes on, and mostly all inner slabs are excluded there.
+/// that is one cell, some outer slab is not excluded on it. n raised to degree 4 is above 0, and the point is below the outer slab with
+/// the number `high` throughout, where there is one. What an outer slab holds at an end is Possible, and only asked whether an inner one
+/// holds it between: so is most that lies right ahead of a tool that goes on, and mostly all inner slabs are excluded there.
 pub fn mark_of_whole(
     whole: &Stretch,
     inner: &[Slab],
@@ -48,7 +49,7 @@ pub fn mark_of_whole(
     requires outer { IsRising outer.now }
     requires lows { lows_of inner.now ≡ lows_of outer.now }
     requires positive { all_positive (lifted whole.now.n) ≡ true }
-    requires high { TurnsBetween (λ s. not (is_below_by scale (lifted whole.now.n) (product22 whole.now.u whole.now.u) s)) outer.now 0 high }
+    requires high { TurnsBetween (is_not_below scale whole.now.u whole.now.n) outer.now 0 high }
     ensures { (m : Motion) (p : List ℤ) (j : ℕ)
         → AreWidthForms whole.now.u whole.now.n whole.now.width m p j (j + 2 ^ levels) scale
         → ((i : ℕ) → some_holds inner.now m p i scale ≡ true → some_holds outer.now m p i scale ≡ true)
