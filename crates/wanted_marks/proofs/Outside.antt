@@ -12,9 +12,9 @@ use Rattle.space.proofs.Terms.{from, sub}
 use Rattle.space.proofs.Tests.{decides_lt}
 use Rattle.bern_form.specs.Between.{height_less, n_between, u_between}
 use Rattle.bern_form.specs.Cells.{scaled_square}
-use Rattle.bern_form.specs.Forms.{all_positive, difference4}
+use Rattle.bern_form.specs.Forms.{all_negative, all_positive, difference4, product22}
 use Rattle.bern_form.specs.Slab.{SlabSize}
-use Rattle.bern_form.proofs.Decided.{decides_positive}
+use Rattle.bern_form.proofs.Decided.{decides_negative, decides_positive}
 use Rattle.bern_form.proofs.Finer.{ExcludedBetween}
 use Rattle.bern_form.proofs.HalfSigns.{all_five}
 use Rattle.bern_form.proofs.Relations.{AllNegative, AllPositive}
@@ -22,6 +22,8 @@ use Rattle.cutter_slabs.specs.Rising.{IsRising}
 use Rattle.cutter_slabs.specs.Stacks.{outer_stack}
 use Rattle.axis_cells.specs.Exclusion.{squared}
 use Rattle.box_bisect.specs.SlabTests.{no_slab}
+use Rattle.box_bisect.proofs.Raised.{raised_is}
+use Rattle.width_bisect.specs.Below.{IsBelowFrom}
 use Rattle.wanted_marks.specs.Limits.{IsNoWider, all_not_below_zero}
 use Rattle.wanted_marks.specs.Peaks.{IsLeast, IsPeak, is_under}
 use Rattle.wanted_marks.specs.Rays.{IsClearOf, MoveOf, is_possible_in, is_sure_in}
@@ -189,6 +191,22 @@ outside_by v p S j outer u n W square least eo es eu en ew both rising peak floo
     let o2 = subst (λ (z : ℕ). IsOutside slabs z square least n W j) es o1 in
     let o3 = subst (λ (z : List ℤ). IsOutside slabs k square least z W j) en o2 in
     outside_is_clear v p square least j both rising (subst (IsPeak square) eu peak) (subst (IsLeast least) en floor) (subst (λ (z : List ℤ). IsOutside slabs k square least N z j) ew o3)
+
+-- and it is below the slab that begins higher throughout, as a search by its width wants it
+pub below_from : (v : MoveOf) (p : List ℤ) (S j : ℕ) (outer : List SlabSize) (u n : List ℤ) (square least : ℤ) → outer ≡ outer_stack v.cutter v.slabs → S ≡ 2 ^ v.depth
+    → u ≡ u_between v.motion p 0 (2 ^ v.depth) (2 ^ v.depth) → n ≡ n_between v.motion 0 (2 ^ v.depth) (2 ^ v.depth) → IsPeak square u → IsLeast least n → j ≤ length outer
+    → (j < length outer → is_under S square least (nth outer j) ≡ true) → IsBelowFrom (outer_stack v.cutter v.slabs) v.motion p (2 ^ v.depth) j
+below_from v p S j outer u n square least eo es eu en peak floor within under =
+    let k = 2 ^ v.depth in let U = u_between v.motion p 0 k k in let N = n_between v.motion 0 k k in
+    subst (λ (l : List SlabSize). IsBelowFrom l v.motion p k j) eo record {
+      within = within;
+      below = λ l.
+          let s = nth outer j in let f = scaled_square k s.lo in
+          let less = (decides_lt square (f *ℤ least)).0 (ap (λ z. is_under z square least s) (sym es) ∙ under l) in
+          ap (λ c. all_negative (difference4 (product22 U U) c)) (raised_is f N)
+          ∙ (decides_negative (height_less f U N)).1
+          (under_slab f U N square least (square_not_negative (pos k *ℤ s.lo)) (subst (IsPeak square) eu peak) (subst (IsLeast least) en floor) less);
+    }
 
 -- the slab that is asked is the one before the number
 pub asked_slab : (outer : List SlabSize) (j i : ℕ) (x : SlabSize) → j ≡ suc i → j ≤ length outer → x ≡ get_or outer (j - 1) x → (i < length outer) × (nth outer i ≡ x)

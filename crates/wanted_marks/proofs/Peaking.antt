@@ -1,8 +1,11 @@
 -- What is no less than the squares of a form's coefficients, and no more than n's.
-use Rattle.std.proofs.Common.{◌≡◌, ℕ, suc, ◌*◌, ◌≤◌, List, [], ◌∷◌, ℤ, pos, negsuc, ◌*ℤ◌, ◌≤ℤ◌, unsigned_abs, arith, subst, sym}
+use Rattle.std.proofs.Common.{◌≡◌, true, ℕ, suc, ◌*◌, ◌≤◌, List, [], ◌∷◌, ℤ, pos, negsuc, ◌+ℤ◌, ◌*ℤ◌, ◌<ℤ◌, ◌≤ℤ◌, unsigned_abs, arith, subst, sym}
 use Rattle.std.proofs.lemmas.Int.{ints}
 use Rattle.std.proofs.Math.Nat.{mul-le-mul}
 use Rattle.space.specs.Vectors.{at}
+use Rattle.bern_form.specs.Forms.{all_positive, lifted}
+use Rattle.bern_form.proofs.Decided.{decides_positive}
+use Rattle.bern_form.proofs.HalfSigns.{all_five}
 use Rattle.wanted_marks.specs.Peaks.{IsLeast, IsPeak}
 
 at_most_of : (a b c : ℤ) → a ≤ℤ b → b ≤ℤ c → a ≤ℤ c
@@ -32,3 +35,28 @@ least_by n m f l g r em ef el gf gl rm rg = record {
 
 pub peak_as : (r a b c x y z : ℤ) → a ≡ x → b ≡ y → c ≡ z → IsPeak r (a ∷ b ∷ c ∷ []) → IsPeak r (x ∷ y ∷ z ∷ [])
 peak_as r a b c x y z ea eb ec peak = subst (λ k. IsPeak r (x ∷ y ∷ k ∷ [])) ec (subst (λ k. IsPeak r (x ∷ k ∷ c ∷ [])) eb (subst (λ k. IsPeak r (k ∷ b ∷ c ∷ [])) ea peak))
+
+-- where the least of n's is above 0, so is each coefficient of n raised to degree 4
+raised_first : (a : ℤ) → pos 0 <ℤ (pos 4 *ℤ a) → pos 0 <ℤ (a *ℤ pos 1)
+raised_first a h = omega (arith, ints, h)
+
+raised_second : (a b : ℤ) → pos 0 <ℤ (pos 4 *ℤ a) → pos 0 <ℤ (pos 2 *ℤ b) → pos 0 <ℤ (a *ℤ pos 2 +ℤ b *ℤ pos 1)
+raised_second a b h k = omega (arith, ints, h, k)
+
+raised_middle : (a b c : ℤ) → pos 0 <ℤ (pos 4 *ℤ a) → pos 0 <ℤ (pos 2 *ℤ b) → pos 0 <ℤ (pos 4 *ℤ c) → pos 0 <ℤ ((a *ℤ pos 1 +ℤ b *ℤ pos 2) +ℤ c *ℤ pos 1)
+raised_middle a b c h k l = omega (arith, ints, h, k, l)
+
+raised_fourth : (b c : ℤ) → pos 0 <ℤ (pos 2 *ℤ b) → pos 0 <ℤ (pos 4 *ℤ c) → pos 0 <ℤ (b *ℤ pos 1 +ℤ c *ℤ pos 2)
+raised_fourth b c h k = omega (arith, ints, h, k)
+
+some_before : (m z : ℤ) → pos 0 <ℤ m → m ≤ℤ z → pos 0 <ℤ z
+some_before m z h k = omega (arith, ints, h, k)
+
+pub open_by : (n : List ℤ) (least : ℤ) → IsLeast least n → pos 0 <ℤ least → all_positive (lifted n) ≡ true
+open_by n least floor some =
+    let a = some_before least (pos 4 *ℤ at n 0) some floor.first in let b = some_before least (pos 2 *ℤ at n 1) some floor.middle in
+    let c = some_before least (pos 4 *ℤ at n 2) some floor.last in
+    (decides_positive (lifted n)).1
+    (all_five (λ z. pos 0 <ℤ z) (at (lifted n) 0) (at (lifted n) 1) (at (lifted n) 2) (at (lifted n) 3) (at (lifted n) 4)
+    (raised_first (at n 0) a) (raised_second (at n 0) (at n 1) a b) (raised_middle (at n 0) (at n 1) (at n 2) a b c)
+    (raised_fourth (at n 1) (at n 2) b c) (raised_first (at n 2) c))

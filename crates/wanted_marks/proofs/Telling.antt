@@ -1,5 +1,5 @@
 -- What a mark tells of a point is what the definitions say of it.
-use Rattle.std.proofs.Common.{◌≡◌, ℕ, Bool, true, false, List, ℤ, if◌then◌else◌, refl, sym, ap, ◌∙◌}
+use Rattle.std.proofs.Common.{◌≡◌, ℕ, ◌^◌, Bool, true, false, List, ℤ, if◌then◌else◌, refl, subst, sym, ap, ◌∙◌}
 use Rattle.space.specs.Motion.{Motion}
 use Rattle.axis_cells.specs.declared.mark.Mark.{Mark}
 use Rattle.axis_cells.specs.declared.mark.Mark.TheVariants.{Clear, Possible, Removed}
@@ -9,6 +9,7 @@ use Rattle.box_bisect.specs.Between.{is_removed_mark}
 use Rattle.width_bisect.specs.Asked.{IsAnswer}
 use Rattle.width_bisect.specs.declared.asked.Asked.{Asked}
 use Rattle.width_bisect.specs.declared.asked.Asked.TheVariants.{Sure, Whole}
+use Rattle.wanted_marks.specs.Rays.{MoveOf, is_possible_in, is_sure_in}
 use Rattle.wanted_marks.specs.Told.{asked_at, tells_possible, tells_sure}
 
 told_sure : (h q : Bool) → tells_sure (if h then Removed else (if q then Possible else Clear)) ≡ h
@@ -49,3 +50,18 @@ whole_answer Sure given mark is e = cc
 pub asks_whole : (asked : Asked) (o : Bool) → asked ≡ asked_at o → o ≡ false → asked ≡ Whole
 asks_whole asked true e is = cc
 asks_whole asked false e is = e
+
+-- so of the answer by a move that is the one that is asked
+pub marked_sure : (asked : Asked) (given : Mark) (v w : MoveOf) (p : List ℤ) → w ≡ v → IsAnswer asked given (mark_by w.cutter w.slabs w.motion p (2 ^ w.depth))
+    → tells_sure given ≡ is_sure_in v p
+marked_sure asked given v w p same answer =
+    let mark = mark_by v.cutter v.slabs v.motion p (2 ^ v.depth) in
+    answer_tells_sure asked given mark (subst (λ (x : MoveOf). IsAnswer asked given (mark_by x.cutter x.slabs x.motion p (2 ^ x.depth))) same answer)
+    ∙ tells_sure_by mark v.cutter v.slabs v.motion p (2 ^ v.depth) refl
+
+pub marked_possible : (asked : Asked) (given : Mark) (v w : MoveOf) (p : List ℤ) → w ≡ v → (is_sure_in v p ≡ true → is_possible_in v p ≡ true)
+    → IsAnswer asked given (mark_by w.cutter w.slabs w.motion p (2 ^ w.depth)) → asked ≡ Whole → tells_possible given ≡ is_possible_in v p
+marked_possible asked given v w p same both answer whole =
+    let mark = mark_by v.cutter v.slabs v.motion p (2 ^ v.depth) in
+    tells_possible_by given v.cutter v.slabs v.motion p (2 ^ v.depth) both
+    (whole_answer asked given mark whole (subst (λ (x : MoveOf). IsAnswer asked given (mark_by x.cutter x.slabs x.motion p (2 ^ x.depth))) same answer))

@@ -16,7 +16,9 @@ use cutter_slabs::Stacks;
 use ray_grid::{Family, Grid, Ray};
 use ray_runs::{OpenStretch, Run, open_stretch, sure_run};
 use std::marker::Model;
-use width_bisect::{Asked, Sample, WholeForms, mark_by_forms, mark_on_part, scaled_square};
+use width_bisect::{
+    Asked, Sample, WholeForms, mark_below, mark_by_forms, mark_on_part, scaled_square,
+};
 
 /// A move of a cutter, ready to mark points of rays, by what is reckoned of it once and is the same for all of them.
 #[derive(Drop)]
@@ -53,6 +55,8 @@ impl<'a> MoveMarker<'a> {
     ghost use Rattle.wanted_marks.specs.Opens.{IsOpenAt};
     ghost use Rattle.wanted_marks.specs.StretchLines.{HasFormsOn, IsStretchLineOf};
     ghost use Rattle.wanted_marks.specs.Rays.{IsClearOf, IsRemovedBy, RayOf, is_possible_in, is_sure_in, move_of};
+    ghost use Rattle.cutter_slabs.specs.Stacks.{outer_stack};
+    ghost use Rattle.width_bisect.specs.Below.{IsBelowFrom};
     ghost use Rattle.width_bisect.specs.Bounds.{meets};
     ghost use Rattle.wanted_marks.specs.Ready.{IsReadyMove};
     ghost use Rattle.wanted_marks.specs.Runs.{IsHeldAt, IsRun};
@@ -209,19 +213,21 @@ impl<'a> MoveMarker<'a> {
         mark_point_uncounted(self.sweep, self.stacks, point, self.depth)
     }
 
-    /// What is asked of the point l steps on along a line, by the forms that the line has there. `near` is the number of a slab to look
-    /// from. Where it is only asked whether the point is sure, that is all that the mark tells.
+    /// What is asked of the point l steps on along a line, by the forms that the line has there. The point is below the outer slab with the
+    /// number `high` throughout the move, where there is one. Where it is only asked whether the point is sure, that is all that the mark
+    /// tells.
     pub(crate) fn mark_on(
         &self,
         line: &Line,
         l: u32,
         point: [i32; 3],
-        near: usize,
+        high: usize,
         asked: Asked,
     ) -> Mark
         requires point { IsPoint point }
         requires fits { FitsAt line.now (pos l) }
         requires forms { HasFormsIn line.now (pos l) self.now point }
+        requires below { let v = self.now in IsBelowFrom (outer_stack v.cutter v.slabs) v.motion point (2 ^ v.depth) high }
         ensures sure { tells_sure result ≡ is_sure_in self.now point }
         ensures possible { asked ≡ Asked.Whole → tells_possible result ≡ is_possible_in self.now point }
     {
@@ -230,13 +236,24 @@ impl<'a> MoveMarker<'a> {
             n: self.ready.turn.n,
             width: width_on(line, l),
         };
-        mark_by_forms(
+        if self.depth == 0 || !self.ready.turn.is_open() {
+            return mark_by_forms(
+                self.sweep,
+                self.stacks,
+                point,
+                &forms,
+                self.depth,
+                high,
+                asked,
+            );
+        }
+        mark_below(
             self.sweep,
             self.stacks,
             point,
             &forms,
+            high,
             self.depth,
-            near,
             asked,
         )
     }
@@ -361,14 +378,23 @@ impl<'a> MoveMarker<'a> {
         line.exceed(l, last.width, limits)
     }
 
-    /// Whether the point l steps on is outside of each outer slab throughout the move, by the slab at its greatest height: it is lower than
-    /// those above that one begin, and beside that one, so beside those below it too, which are no wider. It is then neither sure nor
-    /// possible. `near` is the number of a slab to look from.
-    pub(crate) fn is_outside(&self, line: &Line, l: u32, last: &Sample, near: usize) -> bool
+    /// The number of the lowest outer slab that begins higher than the point l steps on ever is: the point is below it throughout the move,
+    /// and below those above it. None where the point is outside of each outer slab throughout: beside the one before that number, so
+    /// beside those below it too, which are no wider. It is then neither sure nor possible. `near` is the number of a slab to look from.
+    pub(crate) fn slab_above(
+        &self,
+        line: &Line,
+        l: u32,
+        last: &Sample,
+        near: usize,
+    ) -> Option<usize>
         requires fits { FitsAt line.now (pos l) }
         requires u { last.now.u ≡ height_at line.now 2 (pos l) }
         requires width { last.now.width ≡ at (width_at line.now (pos l)) 4 }
-        ensures { IsTrue result → (p : List ℤ) → HasFormsIn line.now (pos l) self.now p → IsClearOf self.now p }
+        ensures { let v = self.now in MatchOption result
+            ((p : List ℤ) → HasFormsIn line.now (pos l) v p → IsClearOf v p)
+            (λ high. (p : List ℤ) → HasFormsIn line.now (pos l) v p
+            → IsBelowFrom (outer_stack v.cutter v.slabs) v.motion p (2 ^ v.depth) high) }
     {
         let outer = self.stacks.outer();
         let peak = Peak {
@@ -378,10 +404,13 @@ impl<'a> MoveMarker<'a> {
         };
         let reached = peak.reached(outer, near);
         if reached == 0 {
-            return true;
+            return None;
         }
         let factor = scaled_square(self.ready.scale, diameter_of(&outer[reached - 1]));
-        line.exceed_times(l, last.width, factor, &self.ready.turn.raised)
+        if line.exceed_times(l, last.width, factor, &self.ready.turn.raised) {
+            return None;
+        }
+        Some(reached)
     }
 
     /// Whether the points from the one l steps on to the one m steps on are all behind the tip throughout the move, or all beside

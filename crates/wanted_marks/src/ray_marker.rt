@@ -117,14 +117,14 @@ impl<'a> RayMarker<'a> {
         ensures sure { tells_sure result ≡ is_sure_at self.now l }
         ensures possible { asked ≡ Asked.Whole → tells_possible result ≡ is_possible_at self.now l }
     {
-        if self.mover.is_outside(line, l, last, near) {
+        let Some(high) = self.mover.slab_above(line, l, last, near) else {
             return Mark::Clear;
-        }
+        };
         if self.mover.is_held_first(line, l, near) {
             return Mark::Removed;
         }
         let point = self.grid.point(&self.ray, l);
-        self.mover.mark_on(line, l, point, near, asked)
+        self.mover.mark_on(line, l, point, high, asked)
     }
 
     /// What is asked of the point at an index, by the line through the points. `near` is the slab that was looked for last, in

@@ -1,7 +1,7 @@
-ghost use Rattle.std.specs.Prelude.{◌≡◌, ◌*◌, ◌≤◌};
+ghost use Rattle.std.specs.Prelude.{◌≡◌, ◌*◌, ◌≤◌, true, IsTrue};
 ghost use Rattle.space.specs.Ranges.{IsWithin};
 ghost use Rattle.space.specs.Vectors.{at};
-ghost use Rattle.bern_form.specs.Forms.{lifted};
+ghost use Rattle.bern_form.specs.Forms.{all_positive, lifted};
 ghost use Rattle.bern_form.specs.Sizes.{IsBounded2, axis_limit, scale_limit};
 ghost use Rattle.wanted_marks.specs.Limits.{all_not_below_zero};
 ghost use Rattle.wanted_marks.specs.Peaks.{IsLeast};
@@ -46,6 +46,15 @@ impl Turn {
             least,
             raised,
         }
+    }
+
+    /// Whether each coefficient of n is above 0, as it is where the axis turns by less than a right angle. So are those of n raised to
+    /// degree 4.
+    #[inline]
+    pub fn is_open(&self) -> bool
+        ensures { IsTrue result → all_positive (lifted self.now.n.c) ≡ true }
+    {
+        self.least > 0
     }
 
     /// n at the last sample. It fits 64 bits.

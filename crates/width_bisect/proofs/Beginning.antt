@@ -10,7 +10,7 @@ use Rattle.bern_form.specs.Marks.{some_holds}
 use Rattle.bern_form.specs.Slab.{SlabSize}
 use Rattle.axis_cells.specs.declared.mark.Mark.TheVariants.{Removed}
 use Rattle.box_bisect.specs.Between.{IsMarkBetween}
-use Rattle.box_bisect.specs.SlabTests.{TurnsAt, is_below_by, is_reached, no_slab}
+use Rattle.box_bisect.specs.SlabTests.{TurnsAt, TurnsBetween, is_below_by, is_reached, no_slab}
 use Rattle.box_bisect.proofs.Raised.{not_under}
 use Rattle.width_bisect.specs.Forms.{AreWidthForms}
 use Rattle.width_bisect.specs.Searches.{IsWidthSearch, is_not_below}
@@ -38,7 +38,7 @@ begins_at slabs S kept scale j x y raised height u n eS er eh es ex ey turns =
 
 -- a stretch of it
 pub search_of_stretch : (inner outer : List SlabSize) (u n width : List ℤ) (m : Motion) (p : List ℤ) (S high levels j : ℕ) → 0 < S → AreWidthForms u n width m p j (j + 2 ^ levels) S
-    → ((i : ℕ) → some_holds inner m p i S ≡ true → some_holds outer m p i S ≡ true) → all_positive (lifted n) ≡ true → TurnsAt (is_not_below S u n) outer high
+    → ((i : ℕ) → some_holds inner m p i S ≡ true → some_holds outer m p i S ≡ true) → all_positive (lifted n) ≡ true → TurnsBetween (is_not_below S u n) outer 0 high
     → some_holds inner m p (j + 2 ^ levels) S ≡ false → some_holds inner m p j S ≡ false → IsWidthSearch inner outer u n width m p S high levels j
 search_of_stretch inner outer u n width m p S high levels j some f enclosed above turns last first = record {
   searched = record {
@@ -50,7 +50,7 @@ search_of_stretch inner outer u n width m p S high levels j some f enclosed abov
   };
   width_is = f.width_is;
   is_open = above;
-  turns = record { within = turns.within; before = λ i e. absurd (omega (arith, e)); after = turns.after };
+  turns = turns;
 }
 
 pub last_is_held : (inner outer : List SlabSize) (m : Motion) (p : List ℤ) (j k S : ℕ) → j ≤ k → some_holds inner m p k S ≡ true → IsMarkBetween Removed inner outer m p j k S

@@ -30,7 +30,7 @@ after_within late inner outer slabs high e h within =
     subst (λ k. high ≤ k) (sym (as_many inner outer h) ∙ as_many inner slabs (after_lows late inner outer slabs e h)) within
 
 -- a test of where slabs begin turns alike
-turns_alike : (a b : List SlabSize) (S high : ℕ) (u n : List ℤ) → lows_of a ≡ lows_of b → TurnsBetween (is_not_below S u n) b 0 high → TurnsBetween (is_not_below S u n) a 0 high
+pub turns_alike : (a b : List SlabSize) (S high : ℕ) (u n : List ℤ) → lows_of a ≡ lows_of b → TurnsBetween (is_not_below S u n) b 0 high → TurnsBetween (is_not_below S u n) a 0 high
 turns_alike a b S high u n e turns =
     let many = as_many a b e in record {
       within = subst (λ k. high ≤ k) (sym many) turns.within;

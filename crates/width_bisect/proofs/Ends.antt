@@ -7,7 +7,7 @@ use Rattle.bern_form.specs.Marks.{some_holds}
 use Rattle.bern_form.specs.Slab.{SlabSize}
 use Rattle.axis_cells.specs.declared.mark.Mark.{Mark}
 use Rattle.box_bisect.specs.Between.{is_removed_mark}
-use Rattle.box_bisect.specs.SlabTests.{TurnsAt, some_covers}
+use Rattle.box_bisect.specs.SlabTests.{TurnsBetween, some_covers}
 use Rattle.width_bisect.specs.declared.sample.Sample.{Sample}
 use Rattle.width_bisect.specs.declared.stretch.Stretch.{Stretch}
 use Rattle.width_bisect.specs.Early.{sample_mark}
@@ -47,7 +47,7 @@ pub ends_searched : (inner outer : List SlabSize) (first last : Mark) (x y : Sam
     (m : Motion) (p : List ℤ) (S high levels j : ℕ)
     → 0 < S → AreWidthForms s.u s.n s.width m p j (j + 2 ^ levels) S
     → ((i : ℕ) → some_holds inner m p i S ≡ true → some_holds outer m p i S ≡ true)
-    → all_positive (lifted s.n) ≡ true → TurnsAt (is_not_below S s.u s.n) outer high
+    → all_positive (lifted s.n) ≡ true → TurnsBetween (is_not_below S s.u s.n) outer 0 high
     → IsFirstOf x s S → IsMarkBy first x inner outer → is_removed_mark first ≡ false
     → IsLastOf y s S → IsMarkBy last y inner outer → is_removed_mark last ≡ false
     → IsWidthSearch inner outer s.u s.n s.width m p S high levels j

@@ -24,3 +24,4 @@ pub mod Bounding
 pub mod Parts
 pub mod Ahead
 pub mod Beside
+pub mod Below

@@ -19,5 +19,5 @@ pub use asked::Asked;
 pub use bounds::Bounds;
 pub use forms::WholeForms;
 pub use length::{product, scaled_square};
-pub use point::{mark_by_forms, mark_on_part};
+pub use point::{mark_below, mark_by_forms, mark_on_part};
 pub use sample::Sample;

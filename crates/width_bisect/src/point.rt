@@ -1,9 +1,10 @@
-ghost use Rattle.std.specs.Prelude.{◌≡◌, ◌^◌, ◌≤◌, false};
+ghost use Rattle.std.specs.Prelude.{◌≡◌, ◌^◌, ◌<◌, ◌≤◌, false, true};
 ghost use Rattle.space.specs.Ranges.{IsPoint};
-ghost use Rattle.bern_form.specs.Forms.{all_negative};
+ghost use Rattle.bern_form.specs.Forms.{all_negative, all_positive, lifted};
 ghost use Rattle.cutter_slabs.specs.Stacks.{outer_stack};
 ghost use Rattle.cutter_marks.specs.MarkBy.{mark_by};
 ghost use Rattle.width_bisect.specs.Asked.{IsAnswer};
+ghost use Rattle.width_bisect.specs.Below.{IsBelowFrom};
 ghost use Rattle.width_bisect.specs.Forms.{AreWidthForms};
 ghost use Rattle.width_bisect.specs.Parts.{IsOpenPart};
 
@@ -104,4 +105,39 @@ pub fn mark_by_forms(
 {
     let mut near = near;
     mark_on_part(sweep, stacks, point, forms, depth, depth, &mut near, asked)
+}
+
+/// The same of a point that is known to be below the outer slab with the number `high` throughout, where there is one, on a move of two
+/// cells or more on which n raised to degree 4 is above 0 by its coefficients. The move is halved at once: whether all slabs are
+/// excluded on the whole of it isn't asked, as they hardly ever are where a caller has tried to exclude them by a test of its own. The inner
+/// slabs begin where the outer ones do, so `high` serves for both.
+#[inline]
+pub fn mark_below(
+    sweep: &Sweep,
+    stacks: &Stacks,
+    point: [i32; 3],
+    forms: &WholeForms,
+    high: usize,
+    depth: u32,
+    asked: Asked,
+) -> Mark
+    requires point { IsPoint point }
+    requires some { 0 < depth }
+    requires depth { depth ≤ 10 }
+    requires forms { AreWidthForms forms.now.u.c forms.now.n.c forms.now.width.c sweep.now point 0 (2 ^ depth) (2 ^ depth) }
+    requires positive { all_positive (lifted forms.now.n.c) ≡ true }
+    requires below { IsBelowFrom (outer_stack stacks.now.cutter stacks.now.slabs) sweep.now point (2 ^ depth) high }
+    ensures { IsAnswer asked result (mark_by stacks.now.cutter stacks.now.slabs sweep.now point (2 ^ depth)) }
+{
+    // A sweep is valid by its type, which is known where a field of it is seen.
+    let _valid = &sweep.from;
+    let scale = cells_of(depth);
+    let whole = Stretch::whole(forms);
+    let inner = stacks.inner();
+    let slabs = slabs_for(stacks, asked);
+    let reach = stacks.reach();
+    if !in_reach(sweep, reach, point) {
+        return Mark::Clear;
+    }
+    mark_of_whole(&whole, inner, slabs, scale, high, depth)
 }

@@ -51,9 +51,10 @@ pub fn mark_between(
     mark_by_halves(stretch, inner, outer, scale, reached, levels)
 }
 
-/// The same, where some outer slab is not excluded on the stretch, so that a cell is Possible. Else the sample in the middle is
-/// tried, and then both halves, the late one first: a tool that goes on takes nearly all of what is new near the end of its move.
-/// What an outer slab holds in the middle is Possible, so of both halves it is only asked whether an inner one holds it.
+/// The same, where it isn't asked whether all outer slabs are excluded on the stretch. On a cell some outer slab is not, so it is
+/// Possible. Else the sample in the middle is tried, and then both halves, the late one first: a tool that goes on takes nearly all of
+/// what is new near the end of its move. What an outer slab holds in the middle is Possible, so of both halves it is only asked whether
+/// an inner one holds it.
 #[cycle(search)]
 pub fn mark_by_halves(
     stretch: &Stretch,
@@ -70,7 +71,7 @@ pub fn mark_by_halves(
     requires lows { lows_of inner.now ≡ lows_of outer.now }
     ensures { let s = stretch.now in (m : Motion) (p : List ℤ) (j : ℕ)
         → IsWidthSearch inner.now outer.now s.u s.n s.width m p scale high levels j
-        → is_left_with outer.now scale s.u s.n (d_between m p j (j + 2 ^ levels) scale) ≡ true
+        → (levels ≡ 0 → is_left_with outer.now scale s.u s.n (d_between m p j (j + 2 ^ levels) scale) ≡ true)
         → IsMarkBetween result inner.now outer.now m p j (j + 2 ^ levels) scale }
 {
     if levels == 0 {

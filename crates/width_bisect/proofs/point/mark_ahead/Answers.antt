@@ -14,8 +14,10 @@ use Rattle.box_bisect.proofs.Marking.{far_mark, mark_is}
 use Rattle.box_bisect.proofs.Searching.{dropped, some_cells}
 use Rattle.width_bisect.specs.Early.{lows_of}
 use Rattle.width_bisect.specs.Forms.{AreWidthForms}
+use Rattle.width_bisect.specs.Searches.{is_not_below}
 use Rattle.width_bisect.proofs.Ahead.{answered_ahead, part_small}
 use Rattle.width_bisect.proofs.Answering.{answers, begin_alike}
+use Rattle.width_bisect.proofs.Below.{from_start}
 use Rattle.width_bisect.proofs.Closing.{clear_is, marked_by}
 use Rattle.width_bisect.proofs.Listed.{lists_leave}
 use Rattle.width_bisect.proofs.Searching.{forms_by, test_as}
@@ -62,7 +64,8 @@ pub mark_of_whole-requires-clause-high : goal.mark_of_whole-requires-clause-high
 mark_of_whole-requires-clause-high c =
     let S = c.cells_of-scale.result in let w = c.whole-whole.result in let l = c.of_stretch-lists.result in let e = c.of_stretch-lists.ensures in
     let slabs = c.slabs_for-slabs.result.now in let reached = c.reached_on_whole-reached.result in
-    subst (λ (t : SlabSize → Bool). TurnsAt t slabs reached) (test_as S l.scale l.raised l.height w.u w.n e.scale e.raised e.height) c.reached_on_whole-reached.ensures
+    from_start (is_not_below S w.u w.n) slabs reached
+    (subst (λ (t : SlabSize → Bool). TurnsAt t slabs reached) (test_as S l.scale l.raised l.height w.u w.n e.scale e.raised e.height) c.reached_on_whole-reached.ensures)
 
 pub mark_of_whole-requires-clause-lows : goal.mark_of_whole-requires-clause-lows
 mark_of_whole-requires-clause-lows c =
@@ -82,5 +85,5 @@ returns c =
     let near = (simp to_z-of_z at c.in_reach.ensures) ∙ ap (λ z. is_in_reach z m.from m.to p) c.reach-reach.ensures.value in
     answered_ahead a.asked c.mark_of_whole.result cutter b inner.result.now slabs.result.now w f.u.c f.n.c f.width.c m p S (2 ^ a.depth) a.levels
     e.some e.cells inner.ensures.stack slabs.ensures.stack inner.ensures.enclosed c.whole-whole.ensures c.requires.part
-    (λ j forms held. c.mark_of_whole.ensures m p j forms held (sym (left j forms) ∙ c.if-not-leaves_some.false))
+    (λ j forms held. c.mark_of_whole.ensures m p j forms held (λ one. sym (left j forms) ∙ c.if-not-leaves_some.false))
     (mark_is c.mark_of_whole.result inner.result.now (outer_stack cutter b) (pos (reach_of cutter)) m p S (sym near ∙ c.if-not-in_reach.false))

@@ -47,12 +47,13 @@ mark_between-returns t c = λ m p j s.
     lists.ensures ahead c.requires.outer reached.ensures c.leaves_some.ensures s in
     let turns = search_turns inner outer w lists.result m p S a.high reached.result a.levels j lists.ensures reached.ensures s in
     c.mark_by_halves.ensures m p j (stopped_at inner outer w.u w.n w.width m p S a.high reached.result a.levels j turns s)
-    (sym left ∙ c.if-not-leaves_some.false)
+    (λ one. sym left ∙ c.if-not-leaves_some.false)
 
 pub mark_by_halves-returns-then-levels-eq0 : goal.mark_by_halves-returns-then-levels-eq0
 mark_by_halves-returns-then-levels-eq0 t c = λ m p j s left.
     let a = c.args in let w = a.stretch.now in
-    search_cell a.inner.now a.outer.now w.u w.n w.width m p a.scale a.high a.levels j c.if-levels-eq0.true s left
+    search_cell a.inner.now a.outer.now w.u w.n w.width m p a.scale a.high a.levels j c.if-levels-eq0.true s
+    (left c.if-levels-eq0.true)
 
 pub mark_by_halves-returns-then-is_removed : goal.mark_by_halves-returns-then-is_removed
 mark_by_halves-returns-then-is_removed t c = λ m p j search left.

@@ -1,4 +1,4 @@
-use Rattle.std.proofs.Common.{ap, pos, ◌^◌, subst, sym}
+use Rattle.std.proofs.Common.{◌≡◌, ap, pos, ◌^◌, subst, sym, ◌∙◌}
 use Rattle.ray_grid.specs.Lattice.{point_of}
 use Rattle.wanted_marks.specs.Lines.{HasForms}
 use Rattle.wanted_marks.specs.Rays.{IsClearOf, IsRemovedBy, MoveOf}
@@ -7,21 +7,29 @@ use Rattle.wanted_marks.proofs.ray_marker.RayMarker.mark_further.Goals as goal
 pub mark_on-requires-clause-fits : goal.mark_on-requires-clause-fits
 mark_on-requires-clause-fits c = c.requires.line.fits c.args.l c.requires.within
 
-pub is_outside-requires-clause-fits : goal.is_outside-requires-clause-fits
-is_outside-requires-clause-fits c = c.requires.line.fits c.args.l c.requires.within
+pub mark_on-requires-clause-below : goal.mark_on-requires-clause-below
+mark_on-requires-clause-below c =
+    let r = c.args.self.now in let p = c.point-point.result in let line = c.args.line.now in let l = pos c.args.l in
+    let here = ap (λ x. x.sweep) c.self.view_is in
+    let at_point : p ≡ point_of r.grid r.ray c.args.l = c.point-point.ensures.position ∙ ap (λ x. point_of x.grid x.ray c.args.l) c.self.view_is in
+    let forms = subst (λ q. HasForms line l r.sweep.motion q (2 ^ r.sweep.depth)) (sym at_point) (c.requires.line.forms c.args.l c.requires.within) in
+    c.in-Some.ensures p (subst (λ (v : MoveOf). HasForms line l v.motion p (2 ^ v.depth)) (sym here) forms)
 
-pub returns-then-is_outside-clause-sure : goal.returns-then-is_outside-clause-sure
-returns-then-is_outside-clause-sure c =
+pub slab_above-requires-clause-fits : goal.slab_above-requires-clause-fits
+slab_above-requires-clause-fits c = c.requires.line.fits c.args.l c.requires.within
+
+pub returns-in_default-clause-sure : goal.returns-in_default-clause-sure
+returns-in_default-clause-sure c =
     let r = c.args.self.now in let p = point_of r.grid r.ray c.args.l in let here = ap (λ x. x.sweep) c.self.view_is in
     sym (subst (λ (v : MoveOf). IsClearOf v p) here
-    (c.is_outside.ensures c.if-is_outside.true p
+    (c.in_default.ensures p
     (subst (λ (v : MoveOf). HasForms c.args.line.now (pos c.args.l) v.motion p (2 ^ v.depth)) (sym here) (c.requires.line.forms c.args.l c.requires.within)))).not_sure
 
-pub returns-then-is_outside-clause-possible : goal.returns-then-is_outside-clause-possible
-returns-then-is_outside-clause-possible c = λ whole.
+pub returns-in_default-clause-possible : goal.returns-in_default-clause-possible
+returns-in_default-clause-possible c = λ whole.
     let r = c.args.self.now in let p = point_of r.grid r.ray c.args.l in let here = ap (λ x. x.sweep) c.self.view_is in
     sym (subst (λ (v : MoveOf). IsClearOf v p) here
-    (c.is_outside.ensures c.if-is_outside.true p
+    (c.in_default.ensures p
     (subst (λ (v : MoveOf). HasForms c.args.line.now (pos c.args.l) v.motion p (2 ^ v.depth)) (sym here) (c.requires.line.forms c.args.l c.requires.within)))).not_possible
 
 pub is_held_first-requires : goal.is_held_first-requires

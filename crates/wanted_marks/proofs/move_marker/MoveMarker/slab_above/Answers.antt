@@ -13,13 +13,13 @@ use Rattle.wanted_marks.specs.Lines.{heights_at, width_at}
 use Rattle.wanted_marks.specs.Peaks.{is_under}
 use Rattle.wanted_marks.specs.Rays.{MoveOf}
 use Rattle.wanted_marks.specs.Ready.{IsReadyMove}
-use Rattle.wanted_marks.proofs.Outside.{asked_slab, outside_by}
+use Rattle.wanted_marks.proofs.Outside.{asked_slab, below_from, outside_by}
 use Rattle.wanted_marks.proofs.Running.{nth}
 use Rattle.wanted_marks.proofs.Widest.{limits_are}
-use Rattle.wanted_marks.proofs.move_marker.MoveMarker.is_outside.Goals as goal
+use Rattle.wanted_marks.proofs.move_marker.MoveMarker.slab_above.Goals as goal
 
 pub returns-then-reached-eq0 : goal.returns-then-reached-eq0
-returns-then-reached-eq0 c = λ yes p forms.
+returns-then-reached-eq0 c = λ p forms.
     let s = c.self.inside in let v = c.args.self.now in let line = c.args.line.now in let l = pos c.args.l in
     let ready = subst (IsReadyMove s.ready.now) c.self.view_is c.self.invariant in
     let f : FitsSigned w128 c.peak.result = record { sfits = c.peak.type_inv } in let g : FitsSigned w64 s.ready.now.turn.least = search rules in
@@ -28,8 +28,8 @@ returns-then-reached-eq0 c = λ yes p forms.
     (ready.turn.n_is ∙ ap (λ k. n_between v.motion 0 k k) ready.scale_is) forms.width (ready.both p) ready.outer_rising c.peak.ensures s.ready.now.turn.least_is
     record { under = λ h. ap₂ (λ a b. is_under s.ready.now.scale a b (nth c.outer-outer.result.now c.reached-reached.result)) (sym (to_z-of_z w128 c.peak.result f)) (sym (to_z-of_z w64 s.ready.now.turn.least g)) ∙ c.reached-reached.ensures.under h; beside = λ i e. let none = c.if-reached-eq0.true in absurd (omega (arith, e, none)) }
 
-pub returns : goal.returns
-returns c = λ yes p forms.
+pub returns-then-exceed_times : goal.returns-then-exceed_times
+returns-then-exceed_times c = λ p forms.
     let s = c.self.inside in let v = c.args.self.now in let line = c.args.line.now in let l = pos c.args.l in
     let ready = subst (IsReadyMove s.ready.now) c.self.view_is c.self.invariant in
     let outer = c.outer-outer.result.now in let n = s.ready.now.turn.n.c in let W = width_at line l in let x = c.index-outer-reached.result in let d = c.diameter_of.result in
@@ -48,9 +48,19 @@ returns c = λ yes p forms.
           let at = asked_slab outer c.reached-reached.result i x e c.reached-reached.ensures.within c.index-outer-reached.is in (
             at.0,
             ap (λ z. all_positive (difference4 W (all_not_below_zero (squared (pos s.ready.now.scale) z n)))) (ap (λ z. z.dia) at.1 ∙ sym c.diameter_of.ensures.value)
-                ∙ ap (λ z. all_positive (difference4 W z)) (sym limits) ∙ sym (simp to_z-of_z at c.exceed_times.ensures) ∙ yes,
+                ∙ ap (λ z. all_positive (difference4 W z)) (sym limits) ∙ sym (simp to_z-of_z at c.exceed_times.ensures) ∙ c.if-exceed_times.true,
           );
     }
+
+pub returns : goal.returns
+returns c = λ p forms.
+    let s = c.self.inside in let v = c.args.self.now in let line = c.args.line.now in let l = pos c.args.l in
+    let ready = subst (IsReadyMove s.ready.now) c.self.view_is c.self.invariant in
+    let f : FitsSigned w128 c.peak.result = record { sfits = c.peak.type_inv } in let g : FitsSigned w64 s.ready.now.turn.least = search rules in
+    let stack = c.outer-outer.ensures.stack ∙ ap (λ (y : MoveOf). outer_stack y.cutter y.slabs) c.self.view_is in
+    below_from v p s.ready.now.scale c.reached-reached.result c.outer-outer.result.now (heights_at line l) s.ready.now.turn.n.c c.peak.result s.ready.now.turn.least stack ready.scale_is forms.height
+    (ready.turn.n_is ∙ ap (λ k. n_between v.motion 0 k k) ready.scale_is) c.peak.ensures s.ready.now.turn.least_is c.reached-reached.ensures.within
+    (λ h. ap₂ (λ a b. is_under s.ready.now.scale a b (nth c.outer-outer.result.now c.reached-reached.result)) (sym (to_z-of_z w128 c.peak.result f)) (sym (to_z-of_z w64 s.ready.now.turn.least g)) ∙ c.reached-reached.ensures.under h)
 
 pub peak-requires-clause-last : goal.peak-requires-clause-last
 peak-requires-clause-last c =
