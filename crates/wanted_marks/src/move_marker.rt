@@ -470,16 +470,20 @@ impl<'a> MoveMarker<'a> {
     }
 
     /// Whether some inner slab holds the point l steps on at its first sample. It is then sure. `near` is the number of a slab to look
-    /// from. A wide cutter still holds there what it leaves behind.
+    /// from. A wide cutter still holds there what it leaves behind; a point that is beside every outer slab there isn't looked at further.
     pub(crate) fn is_held_first(&self, line: &Line, l: u32, near: usize) -> bool
         requires { FitsAt line.now (pos l) }
         ensures { IsTrue result → (p : List ℤ) → HasFormsIn line.now (pos l) self.now p → IsRemovedBy self.now p }
     {
+        let width = line.first_width(l);
+        if self.ready.limits[0] < width {
+            return false;
+        }
         let first = Sample {
             scale: self.ready.scale,
             u: line.first_height(l),
             n: self.ready.turn.first_square(),
-            width: line.first_width(l),
+            width,
         };
         first.is_held(self.stacks.inner(), near)
     }

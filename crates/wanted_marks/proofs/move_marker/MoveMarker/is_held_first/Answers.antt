@@ -17,12 +17,12 @@ returns c = λ yes p forms.
     let ready = subst (IsReadyMove s.ready.now) c.self.view_is c.self.invariant in
     let f0 : FitsSigned w64 c.first_height.result = record { sfits = c.first_height.type_inv } in
     let f1 : FitsSigned w64 c.first_square.result = record { sfits = c.first_square.type_inv } in
-    let f2 : FitsSigned w128 c.first_width.result = record { sfits = c.first_width.type_inv } in
+    let f2 : FitsSigned w128 c.first_width-width.result = record { sfits = c.first_width-width.type_inv } in
     let w = spread (offset_at v.motion p (pos 0) (pos S)) (axis_at v.motion (pos 0) (pos S)) in
-    let width : c.first_width.result ≡ pos 4 *ℤ w = c.first_width.ensures ∙ ap (λ l. at l 0) forms.width ∙ first_width_is v.motion p S in
+    let width : c.first_width-width.result ≡ pos 4 *ℤ w = c.first_width-width.ensures ∙ ap (λ l. at l 0) forms.width ∙ first_width_is v.motion p S in
     let stack = c.inner.ensures.stack ∙ ap (λ (y : MoveOf). inner_stack y.cutter y.slabs) c.self.view_is in
     let u = to_z w64 (of_z w64 c.first_height.result) in let n = to_z w64 (of_z w64 c.first_square.result) in
-    let held = sym (c.is_held.ensures w (to_z-of_z w128 c.first_width.result f2 ∙ width)) ∙ yes in
+    let held = sym (c.is_held.ensures w (to_z-of_z w128 c.first_width-width.result f2 ∙ width)) ∙ yes in
     is_removed_first v p slabs u n stack (ready.both p)
     (to_z-of_z w64 c.first_height.result f0 ∙ c.first_height.ensures ∙ ap (λ l. at l 0) forms.height)
     (to_z-of_z w64 c.first_square.result f1 ∙ c.first_square.ensures ∙ ap (λ l. at l 0) ready.turn.n_is ∙ ap (λ k. at (n_between v.motion 0 k k) 0) ready.scale_is)
