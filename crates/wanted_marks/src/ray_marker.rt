@@ -44,7 +44,7 @@ impl<'a> RayMarker<'a> {
     ghost use Rattle.wanted_marks.specs.Opens.{AreOpenAt, IsOpenAt};
     ghost use Rattle.wanted_marks.specs.Parts.{AreAmong, AreFrom, AreRemoved, FollowsFrom};
     ghost use Rattle.wanted_marks.specs.Rays.{AreOnRay, IsClearOf, IsRemovedBy};
-    ghost use Rattle.wanted_marks.specs.Runs.{IsHeldAt, IsRun};
+    ghost use Rattle.wanted_marks.specs.Runs.{IsHeldFirst, IsHeldLast, IsRun};
     ghost use Rattle.wanted_marks.specs.Rays.{is_possible_at, is_possible_bit, is_sure_at, is_sure_bit, is_told_bit};
     ghost use Rattle.wanted_marks.specs.StretchLines.{IsStretchLineOf};
     ghost use Rattle.wanted_marks.specs.Told.{tells_possible, tells_sure};
@@ -138,7 +138,7 @@ impl<'a> RayMarker<'a> {
         ensures sure { tells_sure result.mark ≡ is_sure_at self.now l }
         ensures possible { asked ≡ Asked.Whole → tells_possible result.mark ≡ is_possible_at self.now l }
         ensures index { IfSome result.held (λ held. held.index ≡ l) }
-        ensures held { IfSome result.held (λ held. IsHeldAt held self.now) }
+        ensures held { IfSome result.held (λ held. IsHeldLast held self.now) }
     {
         let last = self.mover.last_sample(line, l);
         if self.mover.is_apart(line, l, &last) {
@@ -152,7 +152,7 @@ impl<'a> RayMarker<'a> {
                 mark: Mark::Removed,
                 held: Some(Held {
                     index: l,
-                    last,
+                    sample: last,
                     bounds: near.bounds,
                 }),
             };
@@ -172,7 +172,7 @@ impl<'a> RayMarker<'a> {
         ensures sure { tells_sure result.mark ≡ is_sure_at self.now l }
         ensures possible { asked ≡ Asked.Whole → tells_possible result.mark ≡ is_possible_at self.now l }
         ensures index { IfSome result.held (λ held. held.index ≡ l) }
-        ensures held { IfSome result.held (λ held. IsHeldAt held self.now) }
+        ensures held { IfSome result.held (λ held. IsHeldLast held self.now) }
     {
         match &self.line {
             None => Told {
@@ -186,8 +186,8 @@ impl<'a> RayMarker<'a> {
     /// Whether the points from one that is held at its last sample to another are all sure.
     #[inline]
     fn is_run(&self, low: &Held, high: &Held) -> bool
-        requires low { IsHeldAt low.now self.now }
-        requires high { IsHeldAt high.now self.now }
+        requires low { IsHeldLast low.now self.now }
+        requires high { IsHeldLast high.now self.now }
         ensures { IsTrue result → IsRun self.now low.now.index high.now.index }
     {
         match &self.line {
@@ -215,13 +215,116 @@ impl<'a> RayMarker<'a> {
         ensures less { part.new.rest < part.old.rest }
         ensures part { FollowsFrom part.new part.old self.now first sure_only }
         ensures index { IfSome result (λ held. held.index ≡ first + b) }
-        ensures held { IfSome result (λ held. IsHeldAt held self.now) }
+        ensures held { IfSome result (λ held. IsHeldLast held self.now) }
     {
         // The points are few by the type, which is known where a field is seen.
         let _few = &self.ray;
         let told = self.mark_at(first + b, near, asked_at(sure_only, b));
         *part = part.with_mark(b, told.mark);
         told.held
+    }
+
+    /// Whether the points from one that is held at its first sample to the one at an index are all sure, as that one is held there too.
+    fn is_first_run(&self, line: &Line, low: &Held, l: u32, near: &mut usize) -> bool
+        requires within { l < points_of self.now.grid self.now.ray.family }
+        requires line { IsLineOf line.now self.now }
+        requires low { IsHeldFirst low.now self.now }
+        ensures { IsTrue result → IsRun self.now low.now.index l }
+    {
+        match self.mover.held_first(line, l, near) {
+            None => false,
+            Some(high) => self.mover.is_run(low, &high),
+        }
+    }
+
+    /// How far a run goes up from a point that is held at its first sample, below a bit that ends none: a bit such that all points up to
+    /// its own are sure. It is looked for by halves, down to two points, which are told as fast by themselves.
+    fn half_reach(
+        &self,
+        line: &Line,
+        low: &Held,
+        first: u32,
+        b: u32,
+        top: u32,
+        near: &mut usize,
+    ) -> u32
+        requires bit { b < 64 }
+        requires top { top < 64 }
+        requires within { first + top < points_of self.now.grid self.now.ray.family }
+        requires line { IsLineOf line.now self.now }
+        requires low { IsHeldFirst low.now self.now }
+        requires index { low.now.index ≡ first + b }
+        requires sure { IsRun self.now (first + b) (first + b) }
+        ensures from { b ≤ result }
+        ensures within { result < 64 }
+        ensures run { IsRun self.now (first + b) (first + result) }
+    {
+        // The points are few by the type, which is known where a field is seen.
+        let _few = &self.ray;
+        let mut to = b;
+        let mut end = top;
+        while to + 2 < end {
+            let at = (to + end) / 2;
+            if self.is_first_run(line, low, first + at, near) {
+                to = at;
+            } else {
+                end = at;
+            }
+        }
+        to
+    }
+
+    /// How far a run goes up from a point that is held at its first sample, up to a bit that is tried first: mostly it goes as far.
+    fn reach_of_run(
+        &self,
+        line: &Line,
+        low: &Held,
+        first: u32,
+        b: u32,
+        top: u32,
+        near: &mut usize,
+    ) -> u32
+        requires bit { b < 64 }
+        requires top { top < 64 }
+        requires within { first + top < points_of self.now.grid self.now.ray.family }
+        requires line { IsLineOf line.now self.now }
+        requires low { IsHeldFirst low.now self.now }
+        requires index { low.now.index ≡ first + b }
+        requires sure { IsRun self.now (first + b) (first + b) }
+        ensures from { b ≤ result }
+        ensures within { result < 64 }
+        ensures run { IsRun self.now (first + b) (first + result) }
+    {
+        // The points are few by the type, which is known where a field is seen.
+        let _few = &self.ray;
+        if b + 1 < top && self.is_first_run(line, low, first + top, near) {
+            return top;
+        }
+        self.half_reach(line, low, first, b, top, near)
+    }
+
+    /// Those of some points that are in one run with the point of a bit, where that is held at its first sample: a wide cutter leaves many
+    /// such behind. It stands by itself, for most points are told by their last sample. `near` is the number of a slab to look from.
+    #[inline(never)]
+    fn first_run_bits(&self, first: u32, b: u32, rest: u64, near: usize) -> u64
+        requires bit { b < 64 }
+        requires within { first + b < points_of self.now.grid self.now.ray.family }
+        requires some { 0 < rest }
+        requires on_ray { AreOnRay self.now first rest }
+        ensures among { AreAmong result rest }
+        ensures sure { AreRemoved self.now first result }
+    {
+        // The points are few by the type, which is known where a field is seen.
+        let _few = &self.ray;
+        let Some(line) = &self.line else {
+            return 0;
+        };
+        let mut near = near;
+        let Some(low) = self.mover.held_first(line, first + b, &mut near) else {
+            return 0;
+        };
+        let to = self.reach_of_run(line, &low, first, b, highest_bit(rest), &mut near);
+        bits_between(rest, b, to)
     }
 
     /// Marks the points that are left from the lowest upwards, as far as the first that is held at its last sample.
@@ -237,13 +340,18 @@ impl<'a> RayMarker<'a> {
         ensures near { IsNear near.new self.now.sweep }
         ensures fewer { AreAmong part.new.rest part.old.rest }
         ensures part { FollowsFrom part.new part.old self.now first sure_only }
-        ensures held { IfSome result (λ held. IsHeldAt held self.now) }
+        ensures held { IfSome result (λ held. IsHeldLast held self.now) }
         ensures above { MatchOption result (part.new.rest ≡ 0) (λ held. AreFrom held.index first part.new.rest) }
     {
         while part.rest != 0 {
             let b = lowest_bit(part.rest);
+            let sure = part.marks.sure;
             if let Some(held) = self.mark_one(first, b, sure_only, part, near) {
                 return Some(held);
+            }
+            if part.marks.sure != sure && part.rest != 0 {
+                let run = self.first_run_bits(first, b, part.rest, near.reached);
+                *part = part.with_run(run);
             }
         }
         None
@@ -252,7 +360,7 @@ impl<'a> RayMarker<'a> {
     /// Marks the points that are left, which are above a held one, from the highest downwards, as far as one that is held too, so that
     /// all between both are sure.
     fn mark_down_to(&self, low: &Held, first: u32, sure_only: u64, part: &mut Part, near: &mut Near)
-        requires low { IsHeldAt low.now self.now }
+        requires low { IsHeldLast low.now self.now }
         requires above { AreFrom low.now.index first part.old.rest }
         requires on_ray { AreOnRay self.now first part.old.rest }
         requires near { IsNear near.old self.now.sweep }
