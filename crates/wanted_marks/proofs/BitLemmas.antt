@@ -1,7 +1,7 @@
 -- The bits of a word without one, and of a word made of two.
-use Rattle.std.proofs.Common.{sym, ◌≡◌, ◌≢◌, ℕ, ◌-◌, ◌*◌, ◌%◌, ◌^◌, ◌<◌, ◌≤◌, Bool, true, false, not, ◌&&◌, ◌||◌, eqb, leb, ⊎_elim, arith, refl, ap, ◌∙◌, if◌then◌else◌}
+use Rattle.std.proofs.Common.{sym, ◌≡◌, ◌≢◌, ℕ, ◌-◌, ◌*◌, ◌%◌, ◌^◌, ◌<◌, ◌≤◌, Bool, true, false, not, ◌&&◌, ◌||◌, eqb, ⊎_elim, arith, refl, ap, ◌∙◌, if◌then◌else◌}
 use Rattle.std.specs.Prelude.{bit_and, bit_or}
-use Rattle.std.proofs.lemmas.Bool.{or_cases, cases_eq, eq-eqb, not_from_true, and_parts, and_right, leb-true}
+use Rattle.std.proofs.lemmas.Bool.{or_cases, cases_eq, eq-eqb, not_from_true, and_right}
 use Rattle.std.proofs.lemmas.Nat.{and_le_l}
 use Rattle.vf_spans.specs.Words.{has_bit}
 use Rattle.vf_spans.proofs.WordBits.{has_bit-and, has_bit-or, has_bit-not, has_bit-one}
@@ -59,14 +59,3 @@ set_without word others less k is set = both_first (has_bit word k) (not (has_bi
 
 pub set_in_both : (a b k : ℕ) → has_bit (bit_and a b) k ≡ true → has_bit a k ≡ true
 set_in_both a b k set = both_first (has_bit a k) (has_bit b k) (sym (has_bit-and a b k) ∙ set)
-
--- a bit of a word from one place to another
-pub record IsBetween (word from to k : ℕ) : Type 0 where
-  pub set : has_bit word k ≡ true
-  pub low : from ≤ k
-  pub high : k ≤ to
-
-pub set_between : (run word from to k : ℕ) → has_bit run k ≡ ((has_bit word k && leb from k) && leb k to) → has_bit run k ≡ true → IsBetween word from to k
-set_between run word from to k is set =
-    let both = and_parts (has_bit word k && leb from k) (leb k to) (sym is ∙ set) in let ends = and_parts (has_bit word k) (leb from k) both.0 in
-    record { set = ends.0; low = leb-true from k ends.1; high = leb-true k to both.1 }

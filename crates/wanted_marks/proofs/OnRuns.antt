@@ -1,6 +1,5 @@
 -- The points of a ray between two that are held at the first sample, or at the last one.
-use Rattle.std.proofs.Common.{◌≡◌, true, Option, None, Some, ℕ, ◌^◌, ◌≤◌, ◌<◌, List, ℤ, pos, ◌*ℤ◌, ◌≤ℤ◌, arith, refl, ap, ap₂, subst, sym, ◌∙◌}
-use Rattle.std.specs.Option.{IfSome}
+use Rattle.std.proofs.Common.{◌≡◌, true, ℕ, ◌^◌, ◌≤◌, ◌<◌, List, ℤ, pos, ◌*ℤ◌, ◌≤ℤ◌, arith, refl, ap, ap₂, subst, sym, ◌∙◌}
 use Rattle.space.specs.Motion.{axis_at}
 use Rattle.space.specs.Vectors.{at}
 use Rattle.space.proofs.Naturals.{dot_natural}
@@ -11,9 +10,9 @@ use Rattle.width_bisect.specs.Bounds.{meets}
 use Rattle.width_bisect.specs.declared.bounds.Bounds.{Bounds}
 use Rattle.wanted_marks.specs.declared.held.Held.{Held}
 use Rattle.wanted_marks.specs.declared.line.Line.{Line}
-use Rattle.wanted_marks.specs.Lines.{IsLineOf, height_at, coefficient_at}
+use Rattle.wanted_marks.specs.Lines.{HasFormsIn, IsLineOf, height_at, coefficient_at}
 use Rattle.wanted_marks.specs.Nears.{AreInnerBounds}
-use Rattle.wanted_marks.specs.Rays.{IsRemovedBy, MoveOf, RayOf, is_possible_in, is_sure_in}
+use Rattle.wanted_marks.specs.Rays.{MoveOf, RayOf, is_possible_in, is_sure_in}
 use Rattle.wanted_marks.specs.Runs.{IsHeldAt, IsHeldFirst, IsHeldIn, IsHeldLast, IsRun}
 use Rattle.wanted_marks.specs.Samples.{sample_n, sample_u, sample_width}
 use Rattle.wanted_marks.proofs.Amid.{IsAmid, is_amid}
@@ -101,19 +100,14 @@ pub is_last_run : (r : RayOf) (v : MoveOf) (line : Line) (low high : Held) → r
 is_last_run r v line low high same rising both is first last less more =
     run_on r v line low high (2 ^ r.sweep.depth) 2 4 same (omega arith) rising both (at_last r line is) first last less more
 
--- a point that is held by a move is held on the ray
-pub held_on_ray : (held : Option Held) (r : RayOf) (v : MoveOf) (l k : ℕ) → v ≡ r.sweep → l < points_of r.grid r.ray.family → IfSome held (λ x. x.index ≡ l)
-    → IfSome held (λ x. IsHeldIn x v (on_ray r l) k) → IfSome held (λ x. IsHeldAt x r k)
-held_on_ray None r v l k same below index there = tt
-held_on_ray (Some held) r v l k same below index there = record {
-  within = subst (λ z. z < points_of r.grid r.ray.family) (sym index) below;
-  there = subst (λ z. IsHeldIn held r.sweep (on_ray r z) k) (sym index) (subst (λ (x : MoveOf). IsHeldIn held x (on_ray r l) k) same there);
-}
-
--- a single point
-pub run_of_one : (r : RayOf) (v : MoveOf) (l : ℕ) → v ≡ r.sweep → IsRemovedBy v (on_ray r l) → IsRun r l l
-run_of_one r v l same removed x from to =
-    let here : l ≡ x = omega (arith, from, to) in subst (λ k. IsRemovedBy r.sweep (on_ray r k)) here (subst (λ (y : MoveOf). IsRemovedBy y (on_ray r l)) same removed)
+-- a point that is held at the first sample of the move is held on the ray
+pub held_first_on : (line : Line) (r : RayOf) (v : MoveOf) (held : Held) (l : ℕ) → v ≡ r.sweep → IsLineOf line r → l < points_of r.grid r.ray.family → held.index ≡ l
+    → ((p : List ℤ) → HasFormsIn line (pos l) v p → IsHeldIn held v p 0) → IsHeldFirst held r
+held_first_on line r v held l same is below index there =
+    let forms = subst (λ (x : MoveOf). HasFormsIn line (pos l) x (on_ray r l)) (sym same) (is.forms l below) in record {
+      within = subst (λ z. z < points_of r.grid r.ray.family) (sym index) below;
+      there = subst (λ z. IsHeldIn held r.sweep (on_ray r z) 0) (sym index) (subst (λ (x : MoveOf). IsHeldIn held x (on_ray r l) 0) same (there (on_ray r l) forms));
+    }
 
 -- the slab that is kept of a move at the last sample, seen from a ray
 pub same_near : (b : Bounds) (v w : MoveOf) → v ≡ w → AreInnerBounds b v (2 ^ v.depth) → AreInnerBounds b w (2 ^ w.depth)

@@ -10,7 +10,7 @@ use axis_cells::Mark;
 use ray_grid::{Grid, Ray};
 use ray_runs::OpenStretch;
 use std::marker::Model;
-use vf_spans::bits::{highest_bit, lowest_bit};
+use vf_spans::bits::{bits_below, highest_bit, lowest_bit};
 use width_bisect::{Asked, Sample};
 
 /// A move of a cutter, ready to mark points of one ray.
@@ -237,35 +237,23 @@ impl<'a> RayMarker<'a> {
         }
     }
 
-    /// How far a run goes up from a point that is held at its first sample, below a bit that ends none: a bit such that all points up to
-    /// its own are sure. It is looked for by halves, down to two points, which are told as fast by themselves.
-    fn half_reach(
-        &self,
-        line: &Line,
-        low: &Held,
-        first: u32,
-        b: u32,
-        top: u32,
-        near: &mut usize,
-    ) -> u32
-        requires bit { b < 64 }
-        requires top { top < 64 }
-        requires within { first + top < points_of self.now.grid self.now.ray.family }
+    /// The index of a point up to which all are sure, from one on that is held at its first sample, below another at which no such run is
+    /// known to end. It is looked for by halves, down to two points, which are told as fast by themselves.
+    fn last_by_halves(&self, line: &Line, low: &Held, top: u32, near: &mut usize) -> u32
+        requires order { low.now.index ≤ top }
+        requires within { top < points_of self.now.grid self.now.ray.family }
         requires line { IsLineOf line.now self.now }
         requires low { IsHeldFirst low.now self.now }
-        requires index { low.now.index ≡ first + b }
-        requires sure { IsRun self.now (first + b) (first + b) }
-        ensures from { b ≤ result }
-        ensures within { result < 64 }
-        ensures run { IsRun self.now (first + b) (first + result) }
+        requires sure { IsRemovedBy self.now.sweep (point_of self.now.grid self.now.ray low.now.index) }
+        ensures from { low.now.index ≤ result }
+        ensures to { result ≤ top }
+        ensures run { IsRun self.now low.now.index result }
     {
-        // The points are few by the type, which is known where a field is seen.
-        let _few = &self.ray;
-        let mut to = b;
+        let mut to = low.index;
         let mut end = top;
-        while to + 2 < end {
-            let at = (to + end) / 2;
-            if self.is_first_run(line, low, first + at, near) {
+        while 2 < end - to {
+            let at = to + (end - to) / 2;
+            if self.is_first_run(line, low, at, near) {
                 to = at;
             } else {
                 end = at;
@@ -274,42 +262,30 @@ impl<'a> RayMarker<'a> {
         to
     }
 
-    /// How far a run goes up from a point that is held at its first sample, up to a bit that is tried first: mostly it goes as far.
-    fn reach_of_run(
-        &self,
-        line: &Line,
-        low: &Held,
-        first: u32,
-        b: u32,
-        top: u32,
-        near: &mut usize,
-    ) -> u32
-        requires bit { b < 64 }
-        requires top { top < 64 }
-        requires within { first + top < points_of self.now.grid self.now.ray.family }
+    /// The same up to the other, which is tried first: mostly the run goes as far.
+    fn last_of_run(&self, line: &Line, low: &Held, top: u32, near: &mut usize) -> u32
+        requires order { low.now.index ≤ top }
+        requires within { top < points_of self.now.grid self.now.ray.family }
         requires line { IsLineOf line.now self.now }
         requires low { IsHeldFirst low.now self.now }
-        requires index { low.now.index ≡ first + b }
-        requires sure { IsRun self.now (first + b) (first + b) }
-        ensures from { b ≤ result }
-        ensures within { result < 64 }
-        ensures run { IsRun self.now (first + b) (first + result) }
+        requires sure { IsRemovedBy self.now.sweep (point_of self.now.grid self.now.ray low.now.index) }
+        ensures from { low.now.index ≤ result }
+        ensures to { result ≤ top }
+        ensures run { IsRun self.now low.now.index result }
     {
-        // The points are few by the type, which is known where a field is seen.
-        let _few = &self.ray;
-        if b + 1 < top && self.is_first_run(line, low, first + top, near) {
+        if 1 < top - low.index && self.is_first_run(line, low, top, near) {
             return top;
         }
-        self.half_reach(line, low, first, b, top, near)
+        self.last_by_halves(line, low, top, near)
     }
 
-    /// Those of some points that are in one run with the point of a bit, where that is held at its first sample: a wide cutter leaves many
-    /// such behind. It stands by itself, for most points are told by their last sample. `near` is the number of a slab to look from.
+    /// Some of the points that are left, which are above the one of bit b: those of a run from that one on, where it is held at its first
+    /// sample. A wide cutter leaves many such behind. It stands by itself, for most points are told by their last sample. `near` is the
+    /// number of a slab to look from.
     #[inline(never)]
     fn first_run_bits(&self, first: u32, b: u32, rest: u64, near: usize) -> u64
-        requires bit { b < 64 }
-        requires within { first + b < points_of self.now.grid self.now.ray.family }
         requires some { 0 < rest }
+        requires above { AreFrom (first + b) first rest }
         requires on_ray { AreOnRay self.now first rest }
         ensures among { AreAmong result rest }
         ensures sure { AreRemoved self.now first result }
@@ -319,12 +295,13 @@ impl<'a> RayMarker<'a> {
         let Some(line) = &self.line else {
             return 0;
         };
+        let top = first + highest_bit(rest);
         let mut near = near;
         let Some(low) = self.mover.held_first(line, first + b, &mut near) else {
             return 0;
         };
-        let to = self.reach_of_run(line, &low, first, b, highest_bit(rest), &mut near);
-        bits_between(rest, b, to)
+        let last = self.last_of_run(line, &low, top, &mut near);
+        bits_below(rest, last - first + 1)
     }
 
     /// Marks the points that are left from the lowest upwards, as far as the first that is held at its last sample.
