@@ -151,11 +151,13 @@ ray_fits sheet m o v S j ray sweep point few within =
 four_times : (z : ℤ) → pos 0 ≤ℤ z → pos 0 ≤ℤ (pos 4 *ℤ z)
 four_times z h = omega (arith, ints, h)
 
--- the width form at the last sample goes with the square of the step across the axis
-bends_up : (line : Line) (m : Motion) (o v : List ℤ) (S : ℕ) → IsThrough line m o v S → pos 0 ≤ℤ at line.second.c 4
+-- the width form at an end of the move goes with the square of the step across the axis there
+bends_up : (line : Line) (m : Motion) (o v : List ℤ) (S : ℕ) → IsThrough line m o v S → (pos 0 ≤ℤ at line.second.c 0) × (pos 0 ≤ℤ at line.second.c 4)
 bends_up line m o v S is =
-    let C = axis_at m (pos S) (pos S) in
-    subst (λ (c : List ℤ). pos 0 ≤ℤ at c 4) (sym is.second_is) (four_times (spread v C) (spread_natural v C))
+    let up = λ (a : List ℤ). four_times (spread v a) (spread_natural v a) in (
+      subst (λ (c : List ℤ). pos 0 ≤ℤ at c 0) (sym is.second_is) (up (axis_at m (pos 0) (pos S))),
+      subst (λ (c : List ℤ). pos 0 ≤ℤ at c 4) (sym is.second_is) (up (axis_at m (pos S) (pos S))),
+    )
 
 -- the points of a ray whose ends lie within a metre
 ray_point : (r : RayOf) (l n : ℕ) → l < points_of r.grid r.ray.family → points_of r.grid r.ray.family ≤ n + 1 → IsPoint (point_of r.grid r.ray 0) → IsPoint (point_of r.grid r.ray n)
@@ -171,11 +173,13 @@ pub line_of_ray : (line : Line) (r : RayOf) (k n S : ℕ) → S ≡ 2 ^ r.sweep.
 line_of_ray line r k n S e few sweep is first last all =
     let m = r.sweep.motion in let o = point_of r.grid r.ray 0 in let x = point_at r.grid r.ray.family r.ray.i k 0 in let y = point_at r.grid r.ray.family r.ray.i k 1 in
     let forms = λ (l : ℕ). forms_are line m o x y (point_of r.grid r.ray l) S (pos l) is (along_ray r k l) in
-    let point = λ (l : ℕ) (below : l < points_of r.grid r.ray.family). ray_point r l n below all first last in record {
+    let point = λ (l : ℕ) (below : l < points_of r.grid r.ray.family). ray_point r l n below all first last in
+    let up = bends_up line m o (scaled_way (pos S) x y) S is in record {
       fits = λ l below. forms_fit line (pos l) m (point_of r.grid r.ray l) 0 S S (forms l) sweep (point l below) (omega arith) (omega arith) few;
       bends = λ h below. bend_small line m o x y (point_of r.grid r.ray h) S (pos h) is (along_ray r k h) sweep first (point h below) few;
       forms = λ l below. subst (λ z. HasForms line (pos l) m (point_of r.grid r.ray l) z) e (forms l);
-      convex = bends_up line m o (scaled_way (pos S) x y) S is;
+      first_convex = up.0;
+      last_convex = up.1;
     }
 
 -- on a stretch of the move

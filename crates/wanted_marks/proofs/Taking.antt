@@ -78,3 +78,17 @@ pub rest_taken : (now word wanted left rest : ℕ) (test : ℕ → Bool) (first 
 rest_taken now word wanted left rest test first k before is none is_wanted is_true =
     is ∙ ap (λ x. x || has_bit left k) before ∙ left_taken (has_bit wanted k) (has_bit left k) (test (first + k)) is_wanted is_true
     ∙ ap (λ x. (has_bit wanted k && not x) && test (first + k)) (sym none)
+
+-- those of a run among what is left are told
+both_true : (e t : Bool) → (e ≡ true → t ≡ true) → e ≡ (e && t)
+both_true true t h = sym (h refl)
+both_true false t h = refl
+
+pub run_taken : (now word wanted left rest run : ℕ) (test : ℕ → Bool) (first k : ℕ) → has_bit word k ≡ ((has_bit wanted k && not (has_bit left k)) && test (first + k))
+    → has_bit now k ≡ (has_bit word k || has_bit run k) → has_bit rest k ≡ (has_bit left k && not (has_bit run k)) → (has_bit run k ≡ true → has_bit wanted k ≡ true)
+    → (has_bit run k ≡ true → test (first + k) ≡ true) → has_bit now k ≡ ((has_bit wanted k && not (has_bit rest k)) && test (first + k))
+run_taken now word wanted left rest run test first k before is done is_wanted is_true =
+    is ∙ ap (λ x. x || has_bit run k) before
+    ∙ ap (λ x. ((has_bit wanted k && not (has_bit left k)) && test (first + k)) || x) (both_true (has_bit run k) (test (first + k)) is_true)
+    ∙ taken (has_bit wanted k) (has_bit left k) (has_bit run k) (test (first + k)) is_wanted
+    ∙ ap (λ x. (has_bit wanted k && not x) && test (first + k)) (sym done)

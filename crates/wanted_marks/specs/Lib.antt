@@ -3,7 +3,7 @@ pub mod Rays
 pub mod Ways
 pub mod Widths
 pub mod Lines
-pub mod Lasts
+pub mod Samples
 pub mod Nears
 pub mod Runs
 pub mod Peaks

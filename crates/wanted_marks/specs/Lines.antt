@@ -48,13 +48,14 @@ HasForms line l m p S = HasFormsBetween line l m p 0 S S
 abbrev pub HasFormsIn : Line → ℤ → MoveOf → List ℤ → Type 0
 HasFormsIn line l v p = HasForms line l v.motion p (2 ^ v.depth)
 
--- The line runs through the points of the ray, and what the width form bends by from one of them to another fits. At the last sample it
--- bends upwards.
+-- The line runs through the points of the ray, and what the width form bends by from one of them to another fits. At the first sample and
+-- at the last one it bends upwards.
 pub record IsLineOf (line : Line) (r : RayOf) : Type 0 where
   pub fits : (l : ℕ) → l < points_of r.grid r.ray.family → FitsAt line (pos l)
   pub bends : (h : ℕ) → h < points_of r.grid r.ray.family → All IsSmall (bend_over line (pos h))
   pub forms : (l : ℕ) → l < points_of r.grid r.ray.family → HasFormsIn line (pos l) r.sweep (point_of r.grid r.ray l)
-  pub convex : pos 0 ≤ℤ at line.second.c 4
+  pub first_convex : pos 0 ≤ℤ at line.second.c 0
+  pub last_convex : pos 0 ≤ℤ at line.second.c 4
 
 -- what u grows by with a step v, which is taken times S; and half of what d grows by, from the point s on, but for |v|^2
 abbrev pub u_step : Motion → List ℤ → ℕ → List ℤ

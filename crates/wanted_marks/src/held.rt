@@ -3,11 +3,12 @@ ghost use Rattle.std.specs.Prelude.{◌≡◌, int_le};
 use axis_cells::Mark;
 use width_bisect::{Bounds, Sample};
 
-/// A point of a ray that an inner slab holds at its last sample: its index, that sample, and what the slab asks of a point there.
+/// A point of a ray that an inner slab holds at the first sample of a move, or at the last one: its index, that sample, and what the slab
+/// asks of a point there.
 #[derive(Drop)]
 pub struct Held {
     pub index: u32,
-    pub last: Sample,
+    pub sample: Sample,
     pub bounds: Bounds,
 }
 
@@ -15,9 +16,9 @@ impl Held {
     /// Whether the point is no farther from the axis than another one's slab is wide.
     #[inline]
     pub fn is_narrow(&self, other: &Held) -> bool
-        ensures { result ≡ int_le self.now.last.width other.now.bounds.width }
+        ensures { result ≡ int_le self.now.sample.width other.now.bounds.width }
     {
-        self.last.width <= other.bounds.width
+        self.sample.width <= other.bounds.width
     }
 }
 

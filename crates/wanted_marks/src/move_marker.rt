@@ -49,9 +49,8 @@ impl<'a> MoveMarker<'a> {
     ghost use Rattle.bern_form.specs.Forms.{IsSmall};
     ghost use Rattle.space.specs.Vectors.{at};
     ghost use Rattle.wanted_marks.specs.FamilySheets.{IsFamilySheet};
-    ghost use Rattle.wanted_marks.specs.Lasts.{IsAtLast, IsLastOf};
     ghost use Rattle.wanted_marks.specs.Lines.{FitsAt, HasFormsIn, IsLineOf, bend_over, height_at, width_at};
-    ghost use Rattle.wanted_marks.specs.Nears.{IsNear};
+    ghost use Rattle.wanted_marks.specs.Nears.{AreInnerBounds, IsNear};
     ghost use Rattle.wanted_marks.specs.Opens.{IsOpenAt};
     ghost use Rattle.wanted_marks.specs.StretchLines.{HasFormsOn, IsStretchLineOf};
     ghost use Rattle.wanted_marks.specs.Rays.{IsClearOf, IsRemovedBy, RayOf, is_possible_in, is_sure_in, move_of};
@@ -59,7 +58,8 @@ impl<'a> MoveMarker<'a> {
     ghost use Rattle.width_bisect.specs.Below.{IsBelowFrom};
     ghost use Rattle.width_bisect.specs.Bounds.{meets};
     ghost use Rattle.wanted_marks.specs.Ready.{IsReadyMove};
-    ghost use Rattle.wanted_marks.specs.Runs.{IsHeldAt, IsRun};
+    ghost use Rattle.wanted_marks.specs.Runs.{IsHeldFirst, IsHeldIn, IsHeldLast, IsRun};
+    ghost use Rattle.wanted_marks.specs.Samples.{IsAtFirst, IsAtLast, IsFirstOf, IsLastOf, IsSampleAt};
     ghost use Rattle.wanted_marks.specs.declared.line.Line.{Line};
     ghost use Rattle.wanted_marks.specs.Strips.{IsSheetOf};
     ghost use Rattle.wanted_marks.specs.Told.{tells_possible, tells_sure};
@@ -362,6 +362,21 @@ impl<'a> MoveMarker<'a> {
         }
     }
 
+    /// The first sample of the point l steps on.
+    #[inline]
+    fn first_sample(&self, line: &Line, l: u32) -> Sample
+        requires { FitsAt line.now (pos l) }
+        ensures at_first { IsAtFirst result self.now }
+        ensures first { (p : List ℤ) → HasFormsIn line.now (pos l) self.now p → IsFirstOf result self.now p }
+    {
+        Sample {
+            scale: self.ready.scale,
+            u: line.first_height(l),
+            n: self.ready.turn.first_square(),
+            width: line.first_width(l),
+        }
+    }
+
     /// Whether the point l steps on is behind the tip throughout the move, or beside every outer slab, by its last sample first. It is
     /// then neither sure nor possible.
     #[inline]
@@ -431,6 +446,19 @@ impl<'a> MoveMarker<'a> {
         are_beside(line, l, m, limits)
     }
 
+    /// The inner slab at a point's height at a sample, and what it asks of a point there. It is looked for from the number `near` on.
+    #[inline]
+    fn inner_near(&self, sample: &Sample, near: usize) -> Near
+        ensures { (k : ℕ) → IsSampleAt sample.now self.now k → AreInnerBounds result.bounds self.now k }
+    {
+        let inner = self.stacks.inner();
+        let reached = sample.reached(inner, near);
+        Near {
+            reached,
+            bounds: sample.bounds(inner, reached),
+        }
+    }
+
     /// Looks for the inner slab at a point's height, where the one that was looked for last isn't there.
     #[inline]
     fn look_near(&self, last: &Sample, near: &mut Near)
@@ -441,12 +469,7 @@ impl<'a> MoveMarker<'a> {
         if near.bounds.is_between(last) {
             return;
         }
-        let inner = self.stacks.inner();
-        let reached = last.reached(inner, near.reached);
-        *near = Near {
-            reached,
-            bounds: last.bounds(inner, reached),
-        };
+        *near = self.inner_near(last, near.reached);
     }
 
     /// Whether some inner slab holds a point at its last sample. It is then sure. The slab at its height is looked for near the one
@@ -475,27 +498,49 @@ impl<'a> MoveMarker<'a> {
         requires { FitsAt line.now (pos l) }
         ensures { IsTrue result → (p : List ℤ) → HasFormsIn line.now (pos l) self.now p → IsRemovedBy self.now p }
     {
-        let width = line.first_width(l);
-        if self.ready.limits[0] < width {
+        let first = self.first_sample(line, l);
+        if self.ready.limits[0] < first.width {
             return false;
         }
-        let first = Sample {
-            scale: self.ready.scale,
-            u: line.first_height(l),
-            n: self.ready.turn.first_square(),
-            width,
-        };
         first.is_held(self.stacks.inner(), near)
     }
 
-    /// Whether the points of a ray from one that is held at its last sample to another are all sure: each is no farther from the axis
-    /// than the slab of the other is wide, so both are within the lower one, and no slab between is narrower. Along a ray u is linear
-    /// and the width convex, so a point between is at a height between theirs, where some slab is, and no farther from the axis than
-    /// the farther of both.
+    /// What is known of the point l steps on where an inner slab holds it at its first sample. It is then sure. `near` is the number of a
+    /// slab to look from, in whose place comes that of the slab at the point's height, where it is looked for.
+    pub(crate) fn held_first(&self, line: &Line, l: u32, near: &mut usize) -> Option<Held>
+        requires { FitsAt line.now (pos l) }
+        ensures index { IfSome result (λ held. held.index ≡ l) }
+        ensures held { (p : List ℤ) → HasFormsIn line.now (pos l) self.now p → IfSome result (λ held. IsHeldIn held self.now p 0) }
+        ensures sure { (p : List ℤ) → HasFormsIn line.now (pos l) self.now p → IfSome result (λ _held. IsRemovedBy self.now p) }
+    {
+        // A move is valid by its type, which is known where a field of it is seen.
+        let _valid = &self.depth;
+        let sample = self.first_sample(line, l);
+        if sample.u < 0 {
+            return None;
+        }
+        let found = self.inner_near(&sample, *near);
+        *near = found.reached;
+        if !found.bounds.holds(&sample) {
+            return None;
+        }
+        Some(Held {
+            index: l,
+            sample,
+            bounds: found.bounds,
+        })
+    }
+
+    /// Whether the points of a ray from one that is held to another that is held at the same sample, the first or the last one, are all
+    /// sure: each is no farther from the axis than the slab of the other is wide, so both are within the lower one, and no slab between
+    /// is narrower. Along a ray u is linear and the width convex, so a point between is at a height between theirs, where some slab is,
+    /// and no farther from the axis than the farther of both.
     #[inline]
     pub(crate) fn is_run(&self, low: &Held, high: &Held) -> bool
-        ensures { IsTrue result → (r : RayOf) (line : Line) → r.sweep ≡ self.now → IsLineOf line r
-            → IsHeldAt low.now r → IsHeldAt high.now r → IsRun r low.now.index high.now.index }
+        ensures first { IsTrue result → (r : RayOf) (line : Line) → r.sweep ≡ self.now → IsLineOf line r
+            → IsHeldFirst low.now r → IsHeldFirst high.now r → IsRun r low.now.index high.now.index }
+        ensures last { IsTrue result → (r : RayOf) (line : Line) → r.sweep ≡ self.now → IsLineOf line r
+            → IsHeldLast low.now r → IsHeldLast high.now r → IsRun r low.now.index high.now.index }
     {
         // A stack rises, which is known where a field of the move is seen.
         let _rising = &self.depth;

@@ -3,7 +3,7 @@ ghost use Rattle.wanted_marks.specs.Rays.{MoveOf};
 
 use width_bisect::Bounds;
 
-/// The inner slab that was looked for last, at the last sample of a move: the number above its own, and what it asks of a point. Points
+/// The inner slab that was looked for last, at a sample of a move: the number above its own, and what it asks of a point there. Points
 /// beside each other mostly reach the same slab, which is then not looked for again.
 #[derive(Clone, Copy, Debug, PartialEq, Eq)]
 pub struct Near {

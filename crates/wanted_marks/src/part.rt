@@ -1,6 +1,6 @@
-ghost use Rattle.std.specs.Prelude.{◌≡◌, ℕ, ◌+◌, ◌<◌, ◌&&◌, not, nat_eq, true, false};
+ghost use Rattle.std.specs.Prelude.{◌≡◌, ℕ, ◌+◌, ◌<◌, ◌≤◌, ◌&&◌, not, nat_eq, true, false};
 ghost use Rattle.vf_spans.specs.Words.{has_bit};
-ghost use Rattle.wanted_marks.specs.Parts.{AreRemoved, FollowsFrom, IsPartOf};
+ghost use Rattle.wanted_marks.specs.Parts.{AreAmong, AreRemoved, FollowsFrom, IsPartOf};
 ghost use Rattle.wanted_marks.specs.Rays.{RayOf, is_possible_at, is_sure_at};
 ghost use Rattle.wanted_marks.specs.Told.{tells_possible, tells_sure};
 
@@ -59,6 +59,20 @@ impl Part {
                 possible: self.marks.possible | self.rest,
             },
             rest: 0,
+        }
+    }
+
+    /// With some of the points that are left sure, those of these bits.
+    #[inline]
+    pub fn with_run(self, bits: u64) -> Part
+        requires { AreAmong bits self.rest }
+        ensures fewer { AreAmong result.rest self.rest }
+        ensures less { result.rest ≤ self.rest }
+        ensures part { (r : RayOf) (first sure_only : ℕ) → AreRemoved r first bits → FollowsFrom result self r first sure_only }
+    {
+        Part {
+            marks: self.marks.with_sure(bits),
+            rest: self.rest & !bits,
         }
     }
 }

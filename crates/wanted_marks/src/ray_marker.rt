@@ -10,7 +10,7 @@ use axis_cells::Mark;
 use ray_grid::{Grid, Ray};
 use ray_runs::OpenStretch;
 use std::marker::Model;
-use vf_spans::bits::{highest_bit, lowest_bit};
+use vf_spans::bits::{bits_below, highest_bit, lowest_bit};
 use width_bisect::{Asked, Sample};
 
 /// A move of a cutter, ready to mark points of one ray.
@@ -44,7 +44,7 @@ impl<'a> RayMarker<'a> {
     ghost use Rattle.wanted_marks.specs.Opens.{AreOpenAt, IsOpenAt};
     ghost use Rattle.wanted_marks.specs.Parts.{AreAmong, AreFrom, AreRemoved, FollowsFrom};
     ghost use Rattle.wanted_marks.specs.Rays.{AreOnRay, IsClearOf, IsRemovedBy};
-    ghost use Rattle.wanted_marks.specs.Runs.{IsHeldAt, IsRun};
+    ghost use Rattle.wanted_marks.specs.Runs.{IsHeldFirst, IsHeldLast, IsRun};
     ghost use Rattle.wanted_marks.specs.Rays.{is_possible_at, is_possible_bit, is_sure_at, is_sure_bit, is_told_bit};
     ghost use Rattle.wanted_marks.specs.StretchLines.{IsStretchLineOf};
     ghost use Rattle.wanted_marks.specs.Told.{tells_possible, tells_sure};
@@ -138,7 +138,7 @@ impl<'a> RayMarker<'a> {
         ensures sure { tells_sure result.mark ≡ is_sure_at self.now l }
         ensures possible { asked ≡ Asked.Whole → tells_possible result.mark ≡ is_possible_at self.now l }
         ensures index { IfSome result.held (λ held. held.index ≡ l) }
-        ensures held { IfSome result.held (λ held. IsHeldAt held self.now) }
+        ensures held { IfSome result.held (λ held. IsHeldLast held self.now) }
     {
         let last = self.mover.last_sample(line, l);
         if self.mover.is_apart(line, l, &last) {
@@ -152,7 +152,7 @@ impl<'a> RayMarker<'a> {
                 mark: Mark::Removed,
                 held: Some(Held {
                     index: l,
-                    last,
+                    sample: last,
                     bounds: near.bounds,
                 }),
             };
@@ -172,7 +172,7 @@ impl<'a> RayMarker<'a> {
         ensures sure { tells_sure result.mark ≡ is_sure_at self.now l }
         ensures possible { asked ≡ Asked.Whole → tells_possible result.mark ≡ is_possible_at self.now l }
         ensures index { IfSome result.held (λ held. held.index ≡ l) }
-        ensures held { IfSome result.held (λ held. IsHeldAt held self.now) }
+        ensures held { IfSome result.held (λ held. IsHeldLast held self.now) }
     {
         match &self.line {
             None => Told {
@@ -186,8 +186,8 @@ impl<'a> RayMarker<'a> {
     /// Whether the points from one that is held at its last sample to another are all sure.
     #[inline]
     fn is_run(&self, low: &Held, high: &Held) -> bool
-        requires low { IsHeldAt low.now self.now }
-        requires high { IsHeldAt high.now self.now }
+        requires low { IsHeldLast low.now self.now }
+        requires high { IsHeldLast high.now self.now }
         ensures { IsTrue result → IsRun self.now low.now.index high.now.index }
     {
         match &self.line {
@@ -215,7 +215,7 @@ impl<'a> RayMarker<'a> {
         ensures less { part.new.rest < part.old.rest }
         ensures part { FollowsFrom part.new part.old self.now first sure_only }
         ensures index { IfSome result (λ held. held.index ≡ first + b) }
-        ensures held { IfSome result (λ held. IsHeldAt held self.now) }
+        ensures held { IfSome result (λ held. IsHeldLast held self.now) }
     {
         // The points are few by the type, which is known where a field is seen.
         let _few = &self.ray;
@@ -224,7 +224,88 @@ impl<'a> RayMarker<'a> {
         told.held
     }
 
-    /// Marks the points that are left from the lowest upwards, as far as the first that is held at its last sample.
+    /// Whether the points from one that is held at its first sample to the one at an index are all sure, as that one is held there too.
+    fn is_first_run(&self, line: &Line, low: &Held, l: u32, near: &mut usize) -> bool
+        requires within { l < points_of self.now.grid self.now.ray.family }
+        requires line { IsLineOf line.now self.now }
+        requires low { IsHeldFirst low.now self.now }
+        ensures { IsTrue result → IsRun self.now low.now.index l }
+    {
+        match self.mover.held_first(line, l, near) {
+            None => false,
+            Some(high) => self.mover.is_run(low, &high),
+        }
+    }
+
+    /// The index of a point up to which all are sure, from one on that is held at its first sample, below another at which no such run is
+    /// known to end. It is looked for by halves, down to two points, which are told as fast by themselves.
+    fn last_by_halves(&self, line: &Line, low: &Held, top: u32, near: &mut usize) -> u32
+        requires order { low.now.index ≤ top }
+        requires within { top < points_of self.now.grid self.now.ray.family }
+        requires line { IsLineOf line.now self.now }
+        requires low { IsHeldFirst low.now self.now }
+        requires sure { IsRemovedBy self.now.sweep (point_of self.now.grid self.now.ray low.now.index) }
+        ensures from { low.now.index ≤ result }
+        ensures to { result ≤ top }
+        ensures run { IsRun self.now low.now.index result }
+    {
+        let mut to = low.index;
+        let mut end = top;
+        while 2 < end - to {
+            let at = to + (end - to) / 2;
+            if self.is_first_run(line, low, at, near) {
+                to = at;
+            } else {
+                end = at;
+            }
+        }
+        to
+    }
+
+    /// The same up to the other, which is tried first: mostly the run goes as far.
+    fn last_of_run(&self, line: &Line, low: &Held, top: u32, near: &mut usize) -> u32
+        requires order { low.now.index ≤ top }
+        requires within { top < points_of self.now.grid self.now.ray.family }
+        requires line { IsLineOf line.now self.now }
+        requires low { IsHeldFirst low.now self.now }
+        requires sure { IsRemovedBy self.now.sweep (point_of self.now.grid self.now.ray low.now.index) }
+        ensures from { low.now.index ≤ result }
+        ensures to { result ≤ top }
+        ensures run { IsRun self.now low.now.index result }
+    {
+        if 1 < top - low.index && self.is_first_run(line, low, top, near) {
+            return top;
+        }
+        self.last_by_halves(line, low, top, near)
+    }
+
+    /// Some of the points that are left, which are above the one of bit b: those of a run from that one on, where it is held at its first
+    /// sample. A wide cutter leaves many such behind. It stands by itself, for most points are told by their last sample. `near` is the
+    /// number of a slab to look from.
+    #[inline(never)]
+    fn first_run_bits(&self, first: u32, b: u32, rest: u64, near: usize) -> u64
+        requires some { 0 < rest }
+        requires above { AreFrom (first + b) first rest }
+        requires on_ray { AreOnRay self.now first rest }
+        ensures among { AreAmong result rest }
+        ensures sure { AreRemoved self.now first result }
+    {
+        // The points are few by the type, which is known where a field is seen.
+        let _few = &self.ray;
+        let Some(line) = &self.line else {
+            return 0;
+        };
+        let top = first + highest_bit(rest);
+        let mut near = near;
+        let Some(low) = self.mover.held_first(line, first + b, &mut near) else {
+            return 0;
+        };
+        let last = self.last_of_run(line, &low, top, &mut near);
+        bits_below(rest, last - first + 1)
+    }
+
+    /// Marks the points that are left from the lowest upwards, as far as the first that is held at its last sample. Where one is sure without
+    /// that, those of a run from it on at their first samples are told at once.
     fn mark_to_held(
         &self,
         first: u32,
@@ -237,13 +318,18 @@ impl<'a> RayMarker<'a> {
         ensures near { IsNear near.new self.now.sweep }
         ensures fewer { AreAmong part.new.rest part.old.rest }
         ensures part { FollowsFrom part.new part.old self.now first sure_only }
-        ensures held { IfSome result (λ held. IsHeldAt held self.now) }
+        ensures held { IfSome result (λ held. IsHeldLast held self.now) }
         ensures above { MatchOption result (part.new.rest ≡ 0) (λ held. AreFrom held.index first part.new.rest) }
     {
         while part.rest != 0 {
             let b = lowest_bit(part.rest);
+            let sure = part.marks.sure;
             if let Some(held) = self.mark_one(first, b, sure_only, part, near) {
                 return Some(held);
+            }
+            if part.marks.sure != sure && part.rest != 0 {
+                let run = self.first_run_bits(first, b, part.rest, near.reached);
+                *part = part.with_run(run);
             }
         }
         None
@@ -252,7 +338,7 @@ impl<'a> RayMarker<'a> {
     /// Marks the points that are left, which are above a held one, from the highest downwards, as far as one that is held too, so that
     /// all between both are sure.
     fn mark_down_to(&self, low: &Held, first: u32, sure_only: u64, part: &mut Part, near: &mut Near)
-        requires low { IsHeldAt low.now self.now }
+        requires low { IsHeldLast low.now self.now }
         requires above { AreFrom low.now.index first part.old.rest }
         requires on_ray { AreOnRay self.now first part.old.rest }
         requires near { IsNear near.old self.now.sweep }

@@ -1,18 +1,5 @@
-use Rattle.std.proofs.Common.{ℕ, ℤ, List, ◌^◌, ap, subst, ◌∙◌}
-use Rattle.space.specs.Vectors.{at}
-use Rattle.bern_form.specs.Between.{n_between}
-use Rattle.bern_form.specs.Slab.{SlabSize}
-use Rattle.cutter_slabs.specs.Stacks.{inner_stack}
-use Rattle.wanted_marks.specs.Nears.{AreBoundsIn}
-use Rattle.wanted_marks.specs.Rays.{MoveOf}
-use Rattle.wanted_marks.proofs.Running.{bounds_are}
+use Rattle.std.proofs.Common.{◌^◌}
 use Rattle.wanted_marks.proofs.move_marker.MoveMarker.look_near.Goals as goal
 
 pub returns : goal.returns
-returns c =
-    let v = c.args.self.now in let S = 2 ^ v.depth in let x = c.args.last.now in let b = c.bounds.result in let slabs = c.inner-inner.result.now in
-    let stack = c.inner-inner.ensures.stack ∙ ap (λ (y : MoveOf). inner_stack y.cutter y.slabs) c.self.view_is in
-    subst (λ (l : List SlabSize). AreBoundsIn b S (at (n_between v.motion 0 S S) 2) l) stack
-    (subst (λ (n : ℤ). AreBoundsIn b S n slabs) c.requires.last.n_is
-    (subst (λ (k : ℕ). AreBoundsIn b k x.n slabs) c.requires.last.scale_is
-    (bounds_are b x.scale x.n slabs c.reached-reached.result c.reached-reached.ensures.within c.bounds.ensures.none c.bounds.ensures.slab)))
+returns c = c.inner_near.ensures (2 ^ c.args.self.now.depth) c.requires.last

@@ -11,4 +11,4 @@ returns-in-Some c = λ yes.
     let ready = subst (IsReadyRay c.self.inside.line) c.self.view_is c.self.invariant in
     let line = subst (λ (o : Option Line). IfSome o (λ x. IsLineOf x r)) c.in-Some.is ready.line_of in
     let here : r.sweep ≡ c.self.inside.mover.now = ap (λ x. x.sweep) (sym c.self.view_is) in
-    c.is_run.ensures yes r c.in-Some._line here line c.requires.low c.requires.high
+    c.is_run.ensures.last yes r c.in-Some._line here line c.requires.low c.requires.high

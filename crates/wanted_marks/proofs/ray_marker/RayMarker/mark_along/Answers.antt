@@ -1,6 +1,6 @@
 use Rattle.std.proofs.Common.{ap, pos, ◌^◌, subst, sym}
 use Rattle.ray_grid.specs.Lattice.{point_of}
-use Rattle.wanted_marks.specs.Lasts.{IsLastOf}
+use Rattle.wanted_marks.specs.Samples.{IsLastOf}
 use Rattle.wanted_marks.specs.Lines.{HasForms}
 use Rattle.wanted_marks.specs.Rays.{MoveOf}
 use Rattle.wanted_marks.proofs.OnRuns.{same_near}
@@ -19,7 +19,7 @@ returns-then-is_held_last-clause-held c =
     record {
       within = c.requires.within;
       there = record {
-        last = subst (λ (v : MoveOf). IsLastOf c.last_sample-last.result v p) here (c.last_sample-last.ensures.last p forms);
+        there = subst (λ (v : MoveOf). IsLastOf c.last_sample-last.result v p) here (c.last_sample-last.ensures.last p forms);
         ahead = c.is_held_last.ensures.ahead c.if-is_held_last.true;
         met = c.is_held_last.ensures.met c.if-is_held_last.true;
         near = same_near c.is_held_last.new.near.bounds c.self.inside.mover.now r.sweep here c.is_held_last.ensures.near;
