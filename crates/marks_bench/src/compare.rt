@@ -12,7 +12,7 @@ use ray_grid::{Grid, Ray};
 use std::alloc::Global;
 use sweep_boxes::PointBox;
 use vf_io::NoMemory;
-use wanted_marks::{MoveMarker, RayMarker, ReadyMove};
+use wanted_marks::{LOW_SLAB, MoveMarker, RayMarker, ReadyMove};
 
 /// All points of a word, each third one, and each other one.
 const ALL: u64 = u64::MAX;
@@ -179,7 +179,8 @@ fn count_wanted(
     requires ray { marker.now.ray ≡ ray.now }
 {
     let wanted = wanted_word(grid, ray.family, first, pattern);
-    let marks = marker.mark(first, wanted, sure_only);
+    let mut slab = LOW_SLAB;
+    let marks = marker.mark(first, wanted, sure_only, &mut slab);
     let word = Word {
         sure: marks.sure,
         possible: marks.possible,

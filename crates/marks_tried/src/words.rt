@@ -45,7 +45,7 @@ fn marks_of<'x>(mover: &'x MoveMarker<'x>, grid: &'x Grid, ray: Ray) -> Option<W
         return None;
     }
     let marker = mover.on_ray(grid, ray);
-    Some(marker.mark(0, lowest_bits(points), 0))
+    Some(marker.mark(0, lowest_bits(points), 0, &mut 0))
 }
 
 /// A ray, and which of its points are sure and possible.

@@ -26,6 +26,7 @@ fn mark_words(
     first: AskedWord,
     window: (u32, u32),
     rapid: bool,
+    slab: &mut usize,
     marked: &mut Marked,
 ) -> Result<(), NoMemory>
     requires ray { AreSetsOf marker.now ray.now.sets }
@@ -38,12 +39,13 @@ fn mark_words(
         AreWordsMarked ray.now.sets (is_sure_at marker.now) (is_possible_at marker.now) rapid n (window.0 / 64) (words_below window.1)
         added found)) }
 {
-    mark_word(marker, ray, n, first, rapid, marked)?;
+    mark_word(marker, ray, n, first, rapid, slab, marked)?;
     let end = u64::from(window.1);
     let mut word = first.word + 1;
     while 64 * u64::from(word) < end {
         let points = asked_in(near, ray, n, word, window);
-        mark_word(marker, ray, n, AskedWord { word, points }, rapid, marked)?;
+        let asked = AskedWord { word, points };
+        mark_word(marker, ray, n, asked, rapid, slab, marked)?;
         word += 1;
     }
     Ok(())
@@ -65,7 +67,7 @@ fn keep_changed(ray: &mut WordRay, changes: &[WordChange]) -> Result<(), NoMemor
 }
 
 /// Takes in what a move changes on ray n, and what it finds there, from the first word on with points that it is asked about. Each
-/// word that changes is kept from then on.
+/// word that changes is kept from then on. `slab` is the number of a slab of the cutter to look from.
 pub fn mark_ray(
     marker: &RayMarker<'_>,
     near: &NearStrip<'_>,
@@ -74,6 +76,7 @@ pub fn mark_ray(
     first: AskedWord,
     window: (u32, u32),
     rapid: bool,
+    slab: &mut usize,
     marked: &mut Marked,
 ) -> Result<(), NoMemory>
     requires ray { AreSetsOf marker.now ray.old.sets }
@@ -89,7 +92,7 @@ pub fn mark_ray(
     // The bound fits.
     let _bound = ray.bound();
     let start = marked.changes.len();
-    mark_words(marker, near, ray, n, first, window, rapid, marked)?;
+    mark_words(marker, near, ray, n, first, window, rapid, slab, marked)?;
     keep_changed(ray, &marked.changes.as_slice()[start..])?;
     Ok(())
 }

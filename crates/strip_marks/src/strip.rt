@@ -22,9 +22,10 @@ use near_points::NearStrip;
 use ray_words::WordRay;
 use strip_plan::Plan;
 use vf_io::NoMemory;
-use wanted_marks::StripMarker;
+use wanted_marks::{LOW_SLAB, StripMarker};
 
 /// Takes in what a move changes on ray n of a strip, and what it finds there, from the first word on with points that it is asked about.
+/// `slab` is the number of a slab of the cutter to look from.
 fn mark_asked<'x>(
     marker: &'x StripMarker<'x>,
     near: &NearStrip<'_>,
@@ -33,6 +34,7 @@ fn mark_asked<'x>(
     first: AskedWord,
     along: (u32, u32),
     rapid: bool,
+    slab: &mut usize,
     marked: &mut Marked,
 ) -> Result<(), NoMemory>
     requires ray { AreSetsOf (ray_at marker.now n) ray.old.sets }
@@ -47,7 +49,7 @@ fn mark_asked<'x>(
         IsRayMarked ray.new (is_sure_at (ray_at marker.now n)) (is_possible_at (ray_at marker.now n)) rapid n added found)) }
 {
     let on_ray = marker.on_ray(n);
-    mark_ray(&on_ray, near, ray, n, first, along, rapid, marked)?;
+    mark_ray(&on_ray, near, ray, n, first, along, rapid, slab, marked)?;
     Ok(())
 }
 
@@ -89,6 +91,8 @@ fn mark_rays(
     }
     let mover = plan.marker(number);
     let marker = mover.on_strip(grid, row.family, row.i);
+    // Rays side by side mostly meet the same slab.
+    let mut slab = LOW_SLAB;
     while let Some((n, first)) = next {
         mark_asked(
             &marker,
@@ -98,6 +102,7 @@ fn mark_rays(
             first,
             along,
             rapid,
+            &mut slab,
             &mut marked,
         )?;
         next = first_in(&near, rays, along, n + 1, window.1);

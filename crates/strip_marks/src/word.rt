@@ -89,13 +89,15 @@ fn add_marks(
     Ok(())
 }
 
-/// Takes in what a move changes at the points of a word of ray n, and what it finds there, by those that it is asked about.
+/// Takes in what a move changes at the points of a word of ray n, and what it finds there, by those that it is asked about. `slab` is the
+/// number of a slab of the cutter to look from.
 pub fn mark_word(
     marker: &RayMarker<'_>,
     ray: &WordRay,
     n: u32,
     asked: AskedWord,
     rapid: bool,
+    slab: &mut usize,
     marked: &mut Marked,
 ) -> Result<(), NoMemory>
     requires ray { AreSetsOf marker.now ray.now.sets }
@@ -111,7 +113,7 @@ pub fn mark_word(
         return Ok(());
     }
     let sets = ray.word(word);
-    let marks = marker.mark(64 * word, points, sets.sure_only(rapid));
+    let marks = marker.mark(64 * word, points, sets.sure_only(rapid), slab);
     add_marks(&sets, marks, n, word, rapid, marked)?;
     Ok(())
 }

@@ -25,6 +25,7 @@ mod turn;
 mod word;
 
 pub use move_marker::MoveMarker;
+pub use near::LOW_SLAB;
 pub use ray_marker::RayMarker;
 pub use ready_move::ReadyMove;
 pub use sets::mark_wanted;

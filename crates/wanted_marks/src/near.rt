@@ -3,6 +3,9 @@ ghost use Rattle.wanted_marks.specs.Rays.{MoveOf};
 
 use width_bisect::Bounds;
 
+/// The number of a low slab, to look from where none was looked for yet: most points that are met stand near the tip, but not right at it.
+pub const LOW_SLAB: usize = 6;
+
 /// The inner slab that was looked for last, at a sample of a move: the number above its own, and what it asks of a point there. Points
 /// beside each other mostly reach the same slab, which is then not looked for again.
 #[derive(Clone, Copy, Debug, PartialEq, Eq)]
@@ -12,13 +15,12 @@ pub struct Near {
 }
 
 impl Near {
-    /// Where none was looked for yet. The first point looks from a low slab on, for most points that are met stand near the tip, but not
-    /// right at it.
-    pub fn nowhere() -> Near
+    /// Where none was looked for yet. The first point looks from a number on.
+    pub fn from_slab(reached: usize) -> Near
         ensures { (v : MoveOf) → IsNear result v }
     {
         Near {
-            reached: 6,
+            reached,
             bounds: Bounds::nowhere(),
         }
     }

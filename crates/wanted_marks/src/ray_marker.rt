@@ -356,18 +356,20 @@ impl<'a> RayMarker<'a> {
         }
     }
 
-    /// Which of the wanted points are sure, and which of those that are not in `sure_only` are possible.
-    fn mark_each(&self, first: u32, wanted: u64, sure_only: u64) -> WordMarks
+    /// Which of the wanted points are sure, and which of those that are not in `sure_only` are possible. `slab` is the number of an inner
+    /// slab to look from, in whose place comes that of the one that holds the lowest point at its last sample.
+    fn mark_each(&self, first: u32, wanted: u64, sure_only: u64, slab: &mut usize) -> WordMarks
         requires { AreOnRay self.now first wanted }
         ensures sure { (b : ℕ) → b < 64 → has_bit result.sure b ≡ is_sure_bit self.now first wanted b }
         ensures possible { (b : ℕ) → b < 64 → has_bit sure_only b ≡ false
             → has_bit result.possible b ≡ is_possible_bit self.now first wanted b }
     {
-        let mut near = Near::nowhere();
+        let mut near = Near::from_slab(*slab);
         let mut part = Part::of_word(wanted);
         match self.mark_to_held(first, sure_only, &mut part, &mut near) {
             None => part.marks,
             Some(low) => {
+                *slab = near.reached;
                 self.mark_down_to(&low, first, sure_only, &mut part, &mut near);
                 part.marks
             }
@@ -492,7 +494,14 @@ impl<'a> RayMarker<'a> {
     }
 
     /// The same, on the stretch alone where that is short.
-    fn mark_open(&self, stretch: &OpenStretch, first: u32, wanted: u64, sure_only: u64) -> WordMarks
+    fn mark_open(
+        &self,
+        stretch: &OpenStretch,
+        first: u32,
+        wanted: u64,
+        sure_only: u64,
+        slab: &mut usize,
+    ) -> WordMarks
         requires on_ray { AreOnRay self.now first wanted }
         requires open { AreOpenAt stretch.now self.now first wanted }
         ensures sure { (b : ℕ) → b < 64 → has_bit result.sure b ≡ is_sure_bit self.now first wanted b }
@@ -500,17 +509,17 @@ impl<'a> RayMarker<'a> {
             → has_bit result.possible b ≡ is_possible_bit self.now first wanted b }
     {
         if !self.mover.is_short(stretch) {
-            return self.mark_each(first, wanted, sure_only);
+            return self.mark_each(first, wanted, sure_only, slab);
         }
         match self.mover.line_on_stretch(self.grid, &self.ray, stretch) {
-            None => self.mark_each(first, wanted, sure_only),
+            None => self.mark_each(first, wanted, sure_only, slab),
             Some(line) => self.mark_on(stretch, &line, first, wanted, sure_only),
         }
     }
 
     /// The same as `mark_each` for a long move: where the halves of the time show that the points are clear but for a short part of it,
     /// they are marked on that part alone.
-    fn mark_by_parts(&self, first: u32, wanted: u64, sure_only: u64) -> WordMarks
+    fn mark_by_parts(&self, first: u32, wanted: u64, sure_only: u64, slab: &mut usize) -> WordMarks
         requires { AreOnRay self.now first wanted }
         ensures sure { (b : ℕ) → b < 64 → has_bit result.sure b ≡ is_sure_bit self.now first wanted b }
         ensures possible { (b : ℕ) → b < 64 → has_bit sure_only b ≡ false
@@ -521,13 +530,19 @@ impl<'a> RayMarker<'a> {
                 sure: 0,
                 possible: 0,
             },
-            Some(stretch) => self.mark_open(&stretch, first, wanted, sure_only),
+            Some(stretch) => self.mark_open(&stretch, first, wanted, sure_only, slab),
         }
     }
 
     /// The same, of points of which a sample has shown none to be sure. Mostly all are clear, so further samples are taken only where the
     /// halves of the time don't show that.
-    fn mark_unless_clear(&self, first: u32, wanted: u64, sure_only: u64) -> WordMarks
+    fn mark_unless_clear(
+        &self,
+        first: u32,
+        wanted: u64,
+        sure_only: u64,
+        slab: &mut usize,
+    ) -> WordMarks
         requires { AreOnRay self.now first wanted }
         ensures sure { (b : ℕ) → b < 64 → has_bit result.sure b ≡ is_sure_bit self.now first wanted b }
         ensures possible { (b : ℕ) → b < 64 → has_bit sure_only b ≡ false
@@ -541,14 +556,14 @@ impl<'a> RayMarker<'a> {
             Some(stretch) => {
                 let sure = self.sure_beside(first, wanted, 0);
                 let rest = bits_without(wanted, sure);
-                let marks = self.mark_open(&stretch, first, rest, sure_only);
+                let marks = self.mark_open(&stretch, first, rest, sure_only, slab);
                 marks.with_sure(sure)
             }
         }
     }
 
     /// The same, where what some samples show to be sure isn't asked point by point.
-    fn mark_by_runs(&self, first: u32, wanted: u64, sure_only: u64) -> WordMarks
+    fn mark_by_runs(&self, first: u32, wanted: u64, sure_only: u64, slab: &mut usize) -> WordMarks
         requires { AreOnRay self.now first wanted }
         ensures sure { (b : ℕ) → b < 64 → has_bit result.sure b ≡ is_sure_bit self.now first wanted b }
         ensures possible { (b : ℕ) → b < 64 → has_bit sure_only b ≡ false
@@ -556,24 +571,25 @@ impl<'a> RayMarker<'a> {
     {
         let known = self.sure_bits(first, wanted);
         if known == 0 {
-            return self.mark_unless_clear(first, wanted, sure_only);
+            return self.mark_unless_clear(first, wanted, sure_only, slab);
         }
         let sure = self.sure_beside(first, wanted, known);
         let rest = bits_without(wanted, sure);
-        self.mark_by_parts(first, rest, sure_only).with_sure(sure)
+        self.mark_by_parts(first, rest, sure_only, slab)
+            .with_sure(sure)
     }
 
     /// Which of the wanted points are sure, and which of those that are not in `sure_only` are possible, by what suits the move.
-    fn mark_all(&self, first: u32, wanted: u64, sure_only: u64) -> WordMarks
+    fn mark_all(&self, first: u32, wanted: u64, sure_only: u64, slab: &mut usize) -> WordMarks
         requires { AreOnRay self.now first wanted }
         ensures sure { (b : ℕ) → b < 64 → has_bit result.sure b ≡ is_sure_bit self.now first wanted b }
         ensures possible { (b : ℕ) → b < 64 → has_bit sure_only b ≡ false
             → has_bit result.possible b ≡ is_possible_bit self.now first wanted b }
     {
         if !self.mover.is_long() {
-            return self.mark_each(first, wanted, sure_only);
+            return self.mark_each(first, wanted, sure_only, slab);
         }
-        self.mark_by_runs(first, wanted, sure_only)
+        self.mark_by_runs(first, wanted, sure_only, slab)
     }
 
     /// Whether it pays to ask first whether all points of a word are apart: of a few that a short move is near, each is told as fast.
@@ -583,8 +599,9 @@ impl<'a> RayMarker<'a> {
     }
 
     /// The marks of the wanted points of a word: bit b is the point at the index `first + b`. Each wanted bit is a point of the
-    /// ray. Of those in `sure_only` it is told only whether they are sure: both words have the same bit there.
-    pub fn mark(&self, first: u32, wanted: u64, sure_only: u64) -> WordMarks
+    /// ray. Of those in `sure_only` it is told only whether they are sure: both words have the same bit there. `slab` is the number of
+    /// an inner slab to look from, such as `LOW_SLAB`: any is right, best that which a call for a ray beside it left there.
+    pub fn mark(&self, first: u32, wanted: u64, sure_only: u64, slab: &mut usize) -> WordMarks
         requires { AreOnRay self.now first wanted }
         ensures sure { (b : ℕ) → b < 64 → has_bit result.sure b ≡ is_sure_bit self.now first wanted b }
         ensures possible { (b : ℕ) → b < 64 → has_bit result.possible b ≡ is_told_bit self.now first wanted sure_only b }
@@ -595,7 +612,7 @@ impl<'a> RayMarker<'a> {
                 possible: 0,
             };
         }
-        let marks = self.mark_all(first, wanted, sure_only);
+        let marks = self.mark_all(first, wanted, sure_only, slab);
         WordMarks {
             sure: marks.sure,
             possible: chosen_bits(marks.possible, marks.sure, sure_only),

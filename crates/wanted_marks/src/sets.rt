@@ -3,6 +3,7 @@ ghost use Rattle.vf_spans.specs.Members.{has};
 ghost use Rattle.vf_spans.specs.Words.{words_below};
 ghost use Rattle.wanted_marks.specs.Rays.{IsSetOn, is_sure_at, is_told_at};
 
+use crate::near::LOW_SLAB;
 use crate::ray_marker::RayMarker;
 use vf_spans::Words;
 
@@ -33,7 +34,8 @@ fn mark_word(
     }
     // The bound fits, and so each index.
     let _bound = wanted.bound();
-    let marks = marker.mark(64 * n, word, sure_only.word(n));
+    let mut slab = LOW_SLAB;
+    let marks = marker.mark(64 * n, word, sure_only.word(n), &mut slab);
     sure.or_word(n, marks.sure);
     possible.or_word(n, marks.possible);
 }

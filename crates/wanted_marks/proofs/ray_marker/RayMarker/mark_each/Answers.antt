@@ -6,7 +6,7 @@ use Rattle.wanted_marks.proofs.Taking.{all_taken}
 use Rattle.wanted_marks.proofs.ray_marker.RayMarker.mark_each.Goals as goal
 
 pub mark_to_held-requires-clause-near : goal.mark_to_held-requires-clause-near
-mark_to_held-requires-clause-near c = c.nowhere-near.ensures c.args.self.now.sweep
+mark_to_held-requires-clause-near c = c.from_slab-near.ensures c.args.self.now.sweep
 
 pub returns-in-Some-clause-sure : goal.returns-in-Some-clause-sure
 returns-in-Some-clause-sure c = λ b below.
