@@ -1,5 +1,5 @@
 -- How a set is kept: by its edges, the first index of each range and the first one past it, in one ascending list.
-use Rattle.std.specs.Prelude.{◌≡◌, ℕ, ◌<◌, ◌≤◌, ◌%◌, Bool, false, not, nat_le, nat_eq, if◌then◌else◌, List, [], ◌∷◌, length, map, slice_index}
+use Rattle.std.specs.Prelude.{◌≡◌, ℕ, ◌<◌, ◌≤◌, ◌%◌, Bool, false, not, nat_le, nat_lt, nat_eq, if◌then◌else◌, List, [], ◌∷◌, length, map, slice_index}
 use Rattle.std.specs.List.{range_with_len}
 
 -- x is inside where an odd number of edges are at most x
@@ -14,6 +14,11 @@ is_odd passed = nat_eq (passed % 2) 1
 -- the set below a bound that has these edges
 abbrev pub flags_of : ℕ → List ℕ → List Bool
 flags_of bound edges = map (inside edges) (range_with_len 0 bound)
+
+-- the edges that are kept: those of the list, or where it has none, those of one range, if that is not empty
+abbrev pub edges_kept : List ℕ → List ℕ → List ℕ
+edges_kept one [] = if nat_lt (slice_index one 0) (slice_index one 1) then one else []
+edges_kept one (edge ∷ more) = edge ∷ more
 
 -- the edges ascend
 abbrev pub Ascends : List ℕ → Type 0

@@ -4,6 +4,7 @@ ghost use Rattle.vf_spans.specs.Members.{has, count_of, count_below, in_range, r
 ghost use Rattle.vf_spans.specs.Edges.{flags_of, AreEdges};
 ghost use Rattle.vf_spans.specs.Merge.{combined};
 
+use crate::edges::Edges;
 use crate::merge::{Operation, combine_edges};
 use crate::stretches::count_numbers;
 use std::alloc::Global;
@@ -18,15 +19,15 @@ use vf_io::NoMemory;
 #[derive(Debug, Drop)]
 pub struct Spans {
     bound: u32,
-    edges: Vec<u32>,
+    edges: Edges,
 }
 
 impl Model for Spans {
     ghost Value = { List Bool };
 
-    ghost view = { λ s. flags_of s.bound s.edges.items };
+    ghost view = { λ s. flags_of s.bound s.edges };
 
-    ghost invariant = { λ s. AreEdges s.bound s.edges.items };
+    ghost invariant = { λ s. AreEdges s.bound s.edges };
 }
 
 impl Spans {
@@ -37,7 +38,7 @@ impl Spans {
     {
         Spans {
             bound,
-            edges: Vec::new(alloc),
+            edges: Edges::new(alloc),
         }
     }
 
@@ -52,7 +53,7 @@ impl Spans {
     pub fn has(&self, i: u32) -> bool
         ensures { result ≡ has self.now i }
     {
-        self.edges.partition_point(|edge| *edge <= i) % 2 == 1
+        self.edges.as_slice().partition_point(|edge| *edge <= i) % 2 == 1
     }
 
     /// How many indices the set has.
@@ -73,7 +74,7 @@ impl Spans {
     pub fn is_empty(&self) -> bool
         ensures { IsTrue result ↔ ((i : ℕ) → has self.now i ≡ false) }
     {
-        self.edges.is_empty()
+        self.edges.as_slice().is_empty()
     }
 
     /// How many indices both sets have. It takes no memory.
@@ -114,7 +115,7 @@ impl Spans {
     {
         // There are at most half as many ranges as numbers up to the bound.
         let _bound = self.bound;
-        (self.edges.len() / 2) as u32
+        (self.edges.as_slice().len() / 2) as u32
     }
 
     /// The range of that number in ascending order: its first index and the first one past it.
@@ -150,11 +151,10 @@ impl Spans {
         ensures unchanged { OnErr result (self.new ≡ self.old) }
     {
         if ends_at(self.edges.as_slice(), lo) {
-            let last = self.edges.len() - 1;
-            self.edges[last] = hi;
+            self.edges.raise_last(hi);
             return Ok(());
         }
-        self.edges.extend_from_slice(&[lo, hi])?;
+        self.edges.push_range(lo, hi)?;
         Ok(())
     }
 
@@ -202,7 +202,7 @@ impl Spans {
     pub fn copy(&self) -> Result<Spans, NoMemory>
         ensures { IfOk result (λ r. r ≡ self.now) }
     {
-        let edges = Vec::from_slice(*self.edges.allocator(), self.edges.as_slice())?;
+        let edges = self.edges.copy()?;
         Ok(Spans {
             bound: self.bound,
             edges,
@@ -215,14 +215,14 @@ impl Spans {
         ensures combined { IfOk result (λ r. (i : ℕ) → has r i ≡ combined operation (has self.now i) (has other.now i)) }
     {
         let edges = combine_edges(
-            *self.edges.allocator(),
+            self.edges.allocator(),
             self.edges.as_slice(),
             other.edges.as_slice(),
             operation,
         )?;
         Ok(Spans {
             bound: self.bound,
-            edges,
+            edges: Edges::from_list(edges),
         })
     }
 }
