@@ -15,7 +15,7 @@ is_odd passed = nat_eq (passed % 2) 1
 abbrev pub flags_of : ℕ → List ℕ → List Bool
 flags_of bound edges = map (inside edges) (range_with_len 0 bound)
 
--- the edges that are kept: those of the list, or where it has none, those of one range, if that is not empty
+-- the edges that are kept as one range and a list: those of the list; where it has none, those of the range, if that is not empty
 abbrev pub edges_kept : List ℕ → List ℕ → List ℕ
 edges_kept one [] = if nat_lt (slice_index one 0) (slice_index one 1) then one else []
 edges_kept one (edge ∷ more) = edge ∷ more

@@ -1,13 +1,13 @@
-ghost use Rattle.std.specs.Prelude.{◌≡◌, ℕ, ◌-◌, ◌<◌, List, [], ◌∷◌, ◌++◌, IfOk, OnOk, OnErr, IsOk, length, slice_index, slice_set};
-ghost use Rattle.vf_spans.specs.Edges.{edges_kept};
+ghost use Rattle.std.specs.Prelude.{◌≡◌, ℕ, ◌-◌, ◌<◌, ◌≤◌, ◌⊎◌, List, [], ◌∷◌, ◌++◌, IfOk, OnOk, OnErr, IsOk, length, slice_index, slice_set};
+ghost use Rattle.vf_spans.specs.Edges.{edges_kept, AreEdges};
 
 use std::alloc::{AllocError, Global};
 use std::marker::Model;
 
 /// The edges of a set, in order, which take memory only where they are more than those of one range.
 ///
-/// Where `more` has edges, it has all of them. Where it has none, `one` is the only range, and if
-/// that is empty too, there is none.
+/// Where `more` has edges, it has all of them, those of two ranges or more. Where it has none, `one`
+/// is the only range; where that is empty too, there is none.
 #[derive(Debug, Drop)]
 pub struct Edges {
     one: [u32; 2],
@@ -18,6 +18,8 @@ impl Model for Edges {
     ghost Value = { List ℕ };
 
     ghost view = { λ s. edges_kept s.one s.more.items };
+
+    ghost invariant = { λ s. (s.more.items ≡ []) ⊎ (2 < length s.more.items) };
 }
 
 impl Edges {
@@ -34,32 +36,38 @@ impl Edges {
     /// The edges of the list. Where they are none or those of one range, the list's memory is given
     /// back.
     pub fn from_list(list: Vec<u32>) -> Edges
+        requires { (bound : ℕ) × AreEdges bound list.items }
         ensures { result ≡ list.items }
     {
-        if list.is_empty() {
-            return Edges::new(*list.allocator());
-        }
-        if list.len() == 2 && list[0] < list[1] {
-            return Edges {
-                one: [list[0], list[1]],
-                more: Vec::new(*list.allocator()),
-            };
-        }
+        let one = match list.len() {
+            0 => [0, 0],
+            2 => [list[0], list[1]],
+            _ => {
+                return Edges {
+                    one: [0, 0],
+                    more: list,
+                };
+            }
+        };
         Edges {
-            one: [0, 0],
-            more: list,
+            one,
+            more: Vec::new(*list.allocator()),
         }
     }
 
     /// The same edges. Those of one range take no memory.
     pub fn copy(&self) -> Result<Edges, AllocError>
-        ensures { IfOk result (λ r. r ≡ self.now) }
+        ensures copied { IfOk result (λ r. r ≡ self.now) }
+        ensures few { length self.now ≤ 2 → IsOk result }
     {
+        if self.more.is_empty() {
+            return Ok(Edges {
+                one: self.one,
+                more: Vec::new(self.allocator()),
+            });
+        }
         let more = Vec::from_slice(self.allocator(), self.more.as_slice())?;
-        Ok(Edges {
-            one: self.one,
-            more,
-        })
+        Ok(Edges { one: [0, 0], more })
     }
 
     /// What the memory is taken from.
@@ -68,6 +76,7 @@ impl Edges {
     }
 
     /// The edges in order.
+    #[inline]
     pub fn as_slice(&self) -> &[u32]
         ensures value { result.now ≡ self.now }
     {

@@ -15,7 +15,8 @@ use vf_io::NoMemory;
 ///
 /// Its ranges are sorted, disjoint, not adjacent and not empty. They are kept as one ascending list
 /// of edges, the first index of each range and the first one past it, so that two sets with one
-/// bound and the same indices have the same list.
+/// bound and the same indices have the same list. A set with one range or none takes no memory of
+/// its own.
 #[derive(Debug, Drop)]
 pub struct Spans {
     bound: u32,
@@ -141,7 +142,8 @@ impl Spans {
 
     /// Adds the indices from `lo` up to `hi`, `hi` excluded, above all that the set has.
     ///
-    /// Where the last range ends at `lo`, it grows, so that no two ranges are adjacent.
+    /// Where the last range ends at `lo`, it grows, so that no two ranges are adjacent. Memory is
+    /// taken from the second range on.
     pub fn push_range(&mut self, lo: u32, hi: u32) -> Result<(), NoMemory>
         requires not_empty { lo < hi }
         requires within { hi ≤ length self.old }
@@ -198,7 +200,7 @@ impl Spans {
         self.combine(other, Operation::Meet)
     }
 
-    /// The same set with the same bound.
+    /// The same set with the same bound. That of one range takes no memory.
     pub fn copy(&self) -> Result<Spans, NoMemory>
         ensures { IfOk result (λ r. r ≡ self.now) }
     {
@@ -234,3 +236,6 @@ fn ends_at(edges: &[u32], index: u32) -> bool
 {
     !edges.is_empty() && edges[edges.len() - 1] == index
 }
+
+#[cfg(test)]
+mod tests;
