@@ -20,6 +20,10 @@ abbrev pub edges_kept : List ℕ → List ℕ → List ℕ
 edges_kept one [] = if nat_lt (slice_index one 0) (slice_index one 1) then one else []
 edges_kept one (edge ∷ more) = edge ∷ more
 
+-- the edges of a set, in order
+pub record EdgeList : Type 0 where
+  pub items : List ℕ
+
 -- the edges ascend
 abbrev pub Ascends : List ℕ → Type 0
 Ascends edges = (k m : ℕ) → k < m → m < length edges → slice_index edges k < slice_index edges m

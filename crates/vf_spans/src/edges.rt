@@ -1,5 +1,5 @@
 ghost use Rattle.std.specs.Prelude.{◌≡◌, ℕ, ◌-◌, ◌<◌, ◌≤◌, ◌⊎◌, List, [], ◌∷◌, ◌++◌, IfOk, OnOk, OnErr, IsOk, length, slice_index, slice_set};
-ghost use Rattle.vf_spans.specs.Edges.{edges_kept, AreEdges};
+ghost use Rattle.vf_spans.specs.Edges.{edges_kept, EdgeList, AreEdges};
 
 use std::alloc::{AllocError, Global};
 use std::marker::Model;
@@ -15,9 +15,9 @@ pub struct Edges {
 }
 
 impl Model for Edges {
-    ghost Value = { List ℕ };
+    ghost Value = { EdgeList };
 
-    ghost view = { λ s. edges_kept s.one s.more.items };
+    ghost view = { λ s. record { items = edges_kept s.one s.more.items } };
 
     ghost invariant = { λ s. (s.more.items ≡ []) ⊎ (2 < length s.more.items) };
 }
@@ -25,7 +25,7 @@ impl Model for Edges {
 impl Edges {
     /// No edges. It takes no memory.
     pub fn new(alloc: Global) -> Edges
-        ensures { result ≡ [] }
+        ensures { result.items ≡ [] }
     {
         Edges {
             one: [0, 0],
@@ -37,7 +37,7 @@ impl Edges {
     /// back.
     pub fn from_list(list: Vec<u32>) -> Edges
         requires { (bound : ℕ) × AreEdges bound list.items }
-        ensures { result ≡ list.items }
+        ensures { result.items ≡ list.items }
     {
         let one = match list.len() {
             0 => [0, 0],
@@ -58,7 +58,7 @@ impl Edges {
     /// The same edges. Those of one range take no memory.
     pub fn copy(&self) -> Result<Edges, AllocError>
         ensures copied { IfOk result (λ r. r ≡ self.now) }
-        ensures few { length self.now ≤ 2 → IsOk result }
+        ensures few { length self.now.items ≤ 2 → IsOk result }
     {
         if self.more.is_empty() {
             return Ok(Edges {
@@ -78,7 +78,7 @@ impl Edges {
     /// The edges in order.
     #[inline]
     pub fn as_slice(&self) -> &[u32]
-        ensures value { result.now ≡ self.now }
+        ensures value { result.now ≡ self.now.items }
     {
         if !self.more.is_empty() {
             return self.more.as_slice();
@@ -93,9 +93,9 @@ impl Edges {
     /// edges move into a list.
     pub fn push_range(&mut self, lo: u32, hi: u32) -> Result<(), AllocError>
         requires { lo < hi }
-        ensures added { OnOk result (self.new ≡ self.old ++ lo ∷ hi ∷ []) }
+        ensures added { OnOk result (self.new.items ≡ self.old.items ++ lo ∷ hi ∷ []) }
         ensures unchanged { OnErr result (self.new ≡ self.old) }
-        ensures first { self.old ≡ [] → IsOk result }
+        ensures first { self.old.items ≡ [] → IsOk result }
     {
         if !self.more.is_empty() {
             return self.more.extend_from_slice(&[lo, hi]);
@@ -111,9 +111,9 @@ impl Edges {
 
     /// Puts a higher edge in the place of the last.
     pub fn raise_last(&mut self, edge: u32)
-        requires some { 0 < length self.old }
-        requires higher { slice_index self.old (length self.old - 1) < edge }
-        ensures { self.new ≡ slice_set self.old (length self.old - 1) edge }
+        requires some { 0 < length self.old.items }
+        requires higher { slice_index self.old.items (length self.old.items - 1) < edge }
+        ensures { self.new.items ≡ slice_set self.old.items (length self.old.items - 1) edge }
     {
         if self.more.is_empty() {
             self.one[1] = edge;

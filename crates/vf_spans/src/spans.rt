@@ -26,9 +26,9 @@ pub struct Spans {
 impl Model for Spans {
     ghost Value = { List Bool };
 
-    ghost view = { λ s. flags_of s.bound s.edges };
+    ghost view = { λ s. flags_of s.bound s.edges.items };
 
-    ghost invariant = { λ s. AreEdges s.bound s.edges };
+    ghost invariant = { λ s. AreEdges s.bound s.edges.items };
 }
 
 impl Spans {

@@ -28,4 +28,4 @@ returns c =
     so_far
     ∙ ap (sum_by span_of) (take_all c.loop-n.n (pairs xs) (let q = length-pairs xs in omega arith))
     ∙ ap (λ z. sum_by span_of (pairs z)) c.as_slice-edges.ensures.value
-    ∙ total_is c.self.inside.bound c.self.inside.edges c.args.self.now c.self.invariant c.self.view_is
+    ∙ total_is c.self.inside.bound c.self.inside.edges.items c.args.self.now c.self.invariant c.self.view_is

@@ -8,10 +8,10 @@ returns c =
     let b = c.self.inside.bound in
     counted c.count_numbers.result b (length c.args.self.now) _ _
     (c.count_numbers.ensures b
-    (edges_here b b c.self.inside.edges c.self.inside.edges c.as_slice.result.now c.args.self.now c.args.self.now c.self.view_is c.self.view_is refl c.self.invariant c.as_slice.ensures.value)
-    (edges_here b c.other.inside.bound c.self.inside.edges c.other.inside.edges c.as_slice-2.result.now c.args.self.now c.args.other.now c.self.view_is c.other.view_is c.requires c.other.invariant c.as_slice-2.ensures.value)
+    (edges_here b b c.self.inside.edges.items c.self.inside.edges.items c.as_slice.result.now c.args.self.now c.args.self.now c.self.view_is c.self.view_is refl c.self.invariant c.as_slice.ensures.value)
+    (edges_here b c.other.inside.bound c.self.inside.edges.items c.other.inside.edges.items c.as_slice-2.result.now c.args.self.now c.args.other.now c.self.view_is c.other.view_is c.requires c.other.invariant c.as_slice-2.ensures.value)
     (no_edges b _ refl))
-    (bound_is b c.self.inside.edges c.args.self.now c.self.view_is)
+    (bound_is b c.self.inside.edges.items c.args.self.now c.self.view_is)
     (λ x. and_true _ _ ∙ ap₂ (λ p q. p && q)
-    (flag_is b c.self.inside.edges c.as_slice.result.now c.args.self.now c.self.invariant c.self.view_is c.as_slice.ensures.value x)
-    (flag_is c.other.inside.bound c.other.inside.edges c.as_slice-2.result.now c.args.other.now c.other.invariant c.other.view_is c.as_slice-2.ensures.value x))
+    (flag_is b c.self.inside.edges.items c.as_slice.result.now c.args.self.now c.self.invariant c.self.view_is c.as_slice.ensures.value x)
+    (flag_is c.other.inside.bound c.other.inside.edges.items c.as_slice-2.result.now c.args.other.now c.other.invariant c.other.view_is c.as_slice-2.ensures.value x))
