@@ -1,6 +1,7 @@
 -- How a set is kept: by its edges, the first index of each range and the first one past it, in one ascending list.
 use Rattle.std.specs.Prelude.{◌≡◌, ℕ, ◌<◌, ◌≤◌, ◌%◌, Bool, false, not, nat_le, nat_lt, nat_eq, if◌then◌else◌, List, [], ◌∷◌, length, map, slice_index}
 use Rattle.std.specs.List.{range_with_len}
+use Rattle.vf_spans.specs.declared.edges.Edges.{Edges}
 
 -- x is inside where an odd number of edges are at most x
 abbrev pub inside : List ℕ → ℕ → Bool
@@ -20,9 +21,9 @@ abbrev pub edges_kept : List ℕ → List ℕ → List ℕ
 edges_kept one [] = if nat_lt (slice_index one 0) (slice_index one 1) then one else []
 edges_kept one (edge ∷ more) = edge ∷ more
 
--- the edges of a set, in order
-pub record EdgeList : Type 0 where
-  pub items : List ℕ
+-- the edges that are kept
+abbrev pub edges_of : Edges → List ℕ
+edges_of edges = edges_kept edges.one edges.more.items
 
 -- the edges ascend
 abbrev pub Ascends : List ℕ → Type 0

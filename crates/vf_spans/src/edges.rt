@@ -1,31 +1,22 @@
 ghost use Rattle.std.specs.Prelude.{◌≡◌, ℕ, ◌-◌, ◌<◌, ◌≤◌, ◌⊎◌, List, [], ◌∷◌, ◌++◌, IfOk, OnOk, OnErr, IsOk, length, slice_index, slice_set};
-ghost use Rattle.vf_spans.specs.Edges.{edges_kept, EdgeList, AreEdges};
+ghost use Rattle.vf_spans.specs.Edges.{edges_of, AreEdges};
 
 use std::alloc::{AllocError, Global};
-use std::marker::Model;
 
 /// The edges of a set, in order, which take memory only where they are more than those of one range.
 ///
-/// Where `more` has edges, it has all of them, those of two ranges or more. Where it has none, `one`
-/// is the only range; where that is empty too, there is none.
+/// Where `more` has edges, it has all of them. Where it has none, `one` is the only range; where that
+/// is empty too, there is none.
 #[derive(Debug, Drop)]
 pub struct Edges {
     one: [u32; 2],
     more: Vec<u32>,
 }
 
-impl Model for Edges {
-    ghost Value = { EdgeList };
-
-    ghost view = { λ s. record { items = edges_kept s.one s.more.items } };
-
-    ghost invariant = { λ s. (s.more.items ≡ []) ⊎ (2 < length s.more.items) };
-}
-
 impl Edges {
     /// No edges. It takes no memory.
     pub fn new(alloc: Global) -> Edges
-        ensures { result.items ≡ [] }
+        ensures { edges_of result ≡ [] }
     {
         Edges {
             one: [0, 0],
@@ -37,7 +28,7 @@ impl Edges {
     /// back.
     pub fn from_list(list: Vec<u32>) -> Edges
         requires { (bound : ℕ) × AreEdges bound list.items }
-        ensures { result.items ≡ list.items }
+        ensures { edges_of result ≡ list.items }
     {
         let one = match list.len() {
             0 => [0, 0],
@@ -57,8 +48,7 @@ impl Edges {
 
     /// The same edges. Those of one range take no memory.
     pub fn copy(&self) -> Result<Edges, AllocError>
-        ensures copied { IfOk result (λ r. r ≡ self.now) }
-        ensures few { length self.now.items ≤ 2 → IsOk result }
+        ensures { IfOk result (λ r. edges_of r ≡ edges_of self.now) }
     {
         if self.more.is_empty() {
             return Ok(Edges {
@@ -78,7 +68,7 @@ impl Edges {
     /// The edges in order.
     #[inline]
     pub fn as_slice(&self) -> &[u32]
-        ensures value { result.now ≡ self.now.items }
+        ensures value { result.now ≡ edges_of self.now }
     {
         if !self.more.is_empty() {
             return self.more.as_slice();
@@ -93,9 +83,9 @@ impl Edges {
     /// edges move into a list.
     pub fn push_range(&mut self, lo: u32, hi: u32) -> Result<(), AllocError>
         requires { lo < hi }
-        ensures added { OnOk result (self.new.items ≡ self.old.items ++ lo ∷ hi ∷ []) }
-        ensures unchanged { OnErr result (self.new ≡ self.old) }
-        ensures first { self.old.items ≡ [] → IsOk result }
+        ensures added { OnOk result (edges_of self.new ≡ edges_of self.old ++ lo ∷ hi ∷ []) }
+        ensures unchanged { OnErr result (edges_of self.new ≡ edges_of self.old) }
+        ensures first { edges_of self.old ≡ [] → IsOk result }
     {
         if !self.more.is_empty() {
             return self.more.extend_from_slice(&[lo, hi]);
@@ -111,9 +101,9 @@ impl Edges {
 
     /// Puts a higher edge in the place of the last.
     pub fn raise_last(&mut self, edge: u32)
-        requires some { 0 < length self.old.items }
-        requires higher { slice_index self.old.items (length self.old.items - 1) < edge }
-        ensures { self.new.items ≡ slice_set self.old.items (length self.old.items - 1) edge }
+        requires some { 0 < length (edges_of self.old) }
+        requires higher { slice_index (edges_of self.old) (length (edges_of self.old) - 1) < edge }
+        ensures { edges_of self.new ≡ slice_set (edges_of self.old) (length (edges_of self.old) - 1) edge }
     {
         if self.more.is_empty() {
             self.one[1] = edge;

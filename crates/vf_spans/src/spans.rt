@@ -1,7 +1,7 @@
 ghost use Rattle.std.specs.Prelude.{◌≡◌, ℕ, ◌+◌, ◌-◌, ◌*◌, ◌<◌, ◌≤◌, ◌↔◌, ◌&&◌, ◌||◌, not, nat_le, nat_lt, nat_eq, List, Bool, true, false, Some, IsTrue, IfOk, OnOk, OnErr, length, slice_get, slice_index};
 ghost use Rattle.std.specs.List.{list_any};
 ghost use Rattle.vf_spans.specs.Members.{has, count_of, count_below, in_range, ranges_of, SameIndices};
-ghost use Rattle.vf_spans.specs.Edges.{flags_of, AreEdges};
+ghost use Rattle.vf_spans.specs.Edges.{edges_of, flags_of, AreEdges};
 ghost use Rattle.vf_spans.specs.Merge.{combined};
 
 use crate::edges::Edges;
@@ -26,9 +26,9 @@ pub struct Spans {
 impl Model for Spans {
     ghost Value = { List Bool };
 
-    ghost view = { λ s. flags_of s.bound s.edges.items };
+    ghost view = { λ s. flags_of s.bound (edges_of s.edges) };
 
-    ghost invariant = { λ s. AreEdges s.bound s.edges.items };
+    ghost invariant = { λ s. AreEdges s.bound (edges_of s.edges) };
 }
 
 impl Spans {
