@@ -1,6 +1,7 @@
 -- How a set is kept: by its edges, the first index of each range and the first one past it, in one ascending list.
-use Rattle.std.specs.Prelude.{◌≡◌, ℕ, ◌<◌, ◌≤◌, ◌%◌, Bool, false, not, nat_le, nat_eq, if◌then◌else◌, List, [], ◌∷◌, length, map, slice_index}
+use Rattle.std.specs.Prelude.{◌≡◌, ℕ, ◌<◌, ◌≤◌, ◌%◌, Bool, false, not, nat_le, nat_lt, nat_eq, if◌then◌else◌, List, [], ◌∷◌, length, map, slice_index}
 use Rattle.std.specs.List.{range_with_len}
+use Rattle.vf_spans.specs.declared.edges.Edges.{Edges}
 
 -- x is inside where an odd number of edges are at most x
 abbrev pub inside : List ℕ → ℕ → Bool
@@ -14,6 +15,15 @@ is_odd passed = nat_eq (passed % 2) 1
 -- the set below a bound that has these edges
 abbrev pub flags_of : ℕ → List ℕ → List Bool
 flags_of bound edges = map (inside edges) (range_with_len 0 bound)
+
+-- the edges that are kept as one range and a list: those of the list; where it has none, those of the range, if that is not empty
+abbrev pub edges_kept : List ℕ → List ℕ → List ℕ
+edges_kept one [] = if nat_lt (slice_index one 0) (slice_index one 1) then one else []
+edges_kept one (edge ∷ more) = edge ∷ more
+
+-- the edges that are kept
+abbrev pub edges_of : Edges → List ℕ
+edges_of edges = edges_kept edges.one edges.more.items
 
 -- the edges ascend
 abbrev pub Ascends : List ℕ → Type 0

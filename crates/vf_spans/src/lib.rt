@@ -2,6 +2,7 @@
 #![tactic(auto)]
 
 pub mod bits;
+mod edges;
 mod merge;
 mod spans;
 mod stretches;

@@ -1,9 +1,10 @@
 ghost use Rattle.std.specs.Prelude.{◌≡◌, ℕ, ◌+◌, ◌-◌, ◌*◌, ◌<◌, ◌≤◌, ◌↔◌, ◌&&◌, ◌||◌, not, nat_le, nat_lt, nat_eq, List, Bool, true, false, Some, IsTrue, IfOk, OnOk, OnErr, length, slice_get, slice_index};
 ghost use Rattle.std.specs.List.{list_any};
 ghost use Rattle.vf_spans.specs.Members.{has, count_of, count_below, in_range, ranges_of, SameIndices};
-ghost use Rattle.vf_spans.specs.Edges.{flags_of, AreEdges};
+ghost use Rattle.vf_spans.specs.Edges.{edges_of, flags_of, AreEdges};
 ghost use Rattle.vf_spans.specs.Merge.{combined};
 
+use crate::edges::Edges;
 use crate::merge::{Operation, combine_edges};
 use crate::stretches::count_numbers;
 use std::alloc::Global;
@@ -14,19 +15,20 @@ use vf_io::NoMemory;
 ///
 /// Its ranges are sorted, disjoint, not adjacent and not empty. They are kept as one ascending list
 /// of edges, the first index of each range and the first one past it, so that two sets with one
-/// bound and the same indices have the same list.
+/// bound and the same indices have the same list. A set with one range or none takes no memory of
+/// its own.
 #[derive(Debug, Drop)]
 pub struct Spans {
     bound: u32,
-    edges: Vec<u32>,
+    edges: Edges,
 }
 
 impl Model for Spans {
     ghost Value = { List Bool };
 
-    ghost view = { λ s. flags_of s.bound s.edges.items };
+    ghost view = { λ s. flags_of s.bound (edges_of s.edges) };
 
-    ghost invariant = { λ s. AreEdges s.bound s.edges.items };
+    ghost invariant = { λ s. AreEdges s.bound (edges_of s.edges) };
 }
 
 impl Spans {
@@ -37,7 +39,7 @@ impl Spans {
     {
         Spans {
             bound,
-            edges: Vec::new(alloc),
+            edges: Edges::new(alloc),
         }
     }
 
@@ -52,7 +54,7 @@ impl Spans {
     pub fn has(&self, i: u32) -> bool
         ensures { result ≡ has self.now i }
     {
-        self.edges.partition_point(|edge| *edge <= i) % 2 == 1
+        self.edges.as_slice().partition_point(|edge| *edge <= i) % 2 == 1
     }
 
     /// How many indices the set has.
@@ -73,7 +75,7 @@ impl Spans {
     pub fn is_empty(&self) -> bool
         ensures { IsTrue result ↔ ((i : ℕ) → has self.now i ≡ false) }
     {
-        self.edges.is_empty()
+        self.edges.as_slice().is_empty()
     }
 
     /// How many indices both sets have. It takes no memory.
@@ -114,7 +116,7 @@ impl Spans {
     {
         // There are at most half as many ranges as numbers up to the bound.
         let _bound = self.bound;
-        (self.edges.len() / 2) as u32
+        (self.edges.as_slice().len() / 2) as u32
     }
 
     /// The range of that number in ascending order: its first index and the first one past it.
@@ -140,7 +142,8 @@ impl Spans {
 
     /// Adds the indices from `lo` up to `hi`, `hi` excluded, above all that the set has.
     ///
-    /// Where the last range ends at `lo`, it grows, so that no two ranges are adjacent.
+    /// Where the last range ends at `lo`, it grows, so that no two ranges are adjacent. Memory is
+    /// taken from the second range on.
     pub fn push_range(&mut self, lo: u32, hi: u32) -> Result<(), NoMemory>
         requires not_empty { lo < hi }
         requires within { hi ≤ length self.old }
@@ -150,11 +153,10 @@ impl Spans {
         ensures unchanged { OnErr result (self.new ≡ self.old) }
     {
         if ends_at(self.edges.as_slice(), lo) {
-            let last = self.edges.len() - 1;
-            self.edges[last] = hi;
+            self.edges.raise_last(hi);
             return Ok(());
         }
-        self.edges.extend_from_slice(&[lo, hi])?;
+        self.edges.push_range(lo, hi)?;
         Ok(())
     }
 
@@ -198,11 +200,11 @@ impl Spans {
         self.combine(other, Operation::Meet)
     }
 
-    /// The same set with the same bound.
+    /// The same set with the same bound. That of one range takes no memory.
     pub fn copy(&self) -> Result<Spans, NoMemory>
         ensures { IfOk result (λ r. r ≡ self.now) }
     {
-        let edges = Vec::from_slice(*self.edges.allocator(), self.edges.as_slice())?;
+        let edges = self.edges.copy()?;
         Ok(Spans {
             bound: self.bound,
             edges,
@@ -215,14 +217,14 @@ impl Spans {
         ensures combined { IfOk result (λ r. (i : ℕ) → has r i ≡ combined operation (has self.now i) (has other.now i)) }
     {
         let edges = combine_edges(
-            *self.edges.allocator(),
+            self.edges.allocator(),
             self.edges.as_slice(),
             other.edges.as_slice(),
             operation,
         )?;
         Ok(Spans {
             bound: self.bound,
-            edges,
+            edges: Edges::from_list(edges),
         })
     }
 }
@@ -234,3 +236,6 @@ fn ends_at(edges: &[u32], index: u32) -> bool
 {
     !edges.is_empty() && edges[edges.len() - 1] == index
 }
+
+#[cfg(test)]
+mod tests;

@@ -1,16 +1,27 @@
-use Rattle.vf_spans.specs.Edges.{AreEdges}
+use Rattle.std.proofs.Common.{ℕ, List, sym, ap, ◌∙◌, subst}
+use Rattle.vf_spans.specs.Edges.{edges_of, AreEdges, flags_of}
+use Rattle.vf_spans.specs.Members.{has}
 use Rattle.vf_spans.proofs.Flags.{combined_edges, combined_has}
 use Rattle.vf_spans.proofs.spans.Spans.combine.Goals as goal
 
+pub from_list-requires : goal.from_list-requires
+from_list-requires c = (
+  c.self.inside.bound,
+  combined_edges c.args.operation c.self.inside.bound c.other.inside.bound (edges_of c.self.inside.edges) (edges_of c.other.inside.edges) c.as_slice.result.now c.as_slice-2.result.now c.in_ok-edges.edges.items
+      c.args.self.now c.args.other.now c.self.view_is c.other.view_is c.requires c.self.invariant c.other.invariant c.as_slice.ensures.value c.as_slice-2.ensures.value c.in_ok-edges.ensures.edges,
+)
+
 pub invariant_of-result : goal.invariant_of-result
 invariant_of-result c =
-    combined_edges c.args.operation c.self.inside.bound c.other.inside.bound c.self.inside.edges.items c.other.inside.edges.items c.as_slice.result.now c.as_slice-2.result.now c.in_ok-edges.edges.items
-    c.args.self.now c.args.other.now c.self.view_is c.other.view_is c.requires c.self.invariant c.other.invariant c.as_slice.ensures.value c.as_slice-2.ensures.value c.in_ok-edges.ensures.edges
+    subst (λ (z : List ℕ). AreEdges c.self.inside.bound z) (sym c.from_list.ensures)
+    (combined_edges c.args.operation c.self.inside.bound c.other.inside.bound (edges_of c.self.inside.edges) (edges_of c.other.inside.edges) c.as_slice.result.now c.as_slice-2.result.now c.in_ok-edges.edges.items
+    c.args.self.now c.args.other.now c.self.view_is c.other.view_is c.requires c.self.invariant c.other.invariant c.as_slice.ensures.value c.as_slice-2.ensures.value c.in_ok-edges.ensures.edges)
 
 pub returns-clause-combined : goal.returns-clause-combined
 returns-clause-combined c =
     let edges : AreEdges c.self.inside.bound c.in_ok-edges.edges.items =
-    combined_edges c.args.operation c.self.inside.bound c.other.inside.bound c.self.inside.edges.items c.other.inside.edges.items c.as_slice.result.now c.as_slice-2.result.now c.in_ok-edges.edges.items
+    combined_edges c.args.operation c.self.inside.bound c.other.inside.bound (edges_of c.self.inside.edges) (edges_of c.other.inside.edges) c.as_slice.result.now c.as_slice-2.result.now c.in_ok-edges.edges.items
     c.args.self.now c.args.other.now c.self.view_is c.other.view_is c.requires c.self.invariant c.other.invariant c.as_slice.ensures.value c.as_slice-2.ensures.value c.in_ok-edges.ensures.edges in
-    combined_has c.args.operation c.self.inside.bound c.other.inside.bound c.self.inside.edges.items c.other.inside.edges.items c.as_slice.result.now c.as_slice-2.result.now c.in_ok-edges.edges.items
-    c.args.self.now c.args.other.now c.self.view_is c.other.view_is c.self.invariant c.other.invariant edges c.as_slice.ensures.value c.as_slice-2.ensures.value c.in_ok-edges.ensures.set
+    λ x. ap (λ z. has (flags_of c.self.inside.bound z) x) c.from_list.ensures
+    ∙ combined_has c.args.operation c.self.inside.bound c.other.inside.bound (edges_of c.self.inside.edges) (edges_of c.other.inside.edges) c.as_slice.result.now c.as_slice-2.result.now c.in_ok-edges.edges.items
+    c.args.self.now c.args.other.now c.self.view_is c.other.view_is c.self.invariant c.other.invariant edges c.as_slice.ensures.value c.as_slice-2.ensures.value c.in_ok-edges.ensures.set x

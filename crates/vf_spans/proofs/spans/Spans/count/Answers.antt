@@ -1,7 +1,7 @@
 use Rattle.std.proofs.Common.{◌≡◌, ◌+◌, ◌*◌, ◌-◌, arith, sym, ap, ◌∙◌, take, get_or, subst, List, ℕ}
 use Rattle.std.proofs.lemmas.List.{take_all}
 use Rattle.std.specs.List.{sum_by}
-use Rattle.vf_spans.specs.Edges.{AreEdges}
+use Rattle.vf_spans.specs.Edges.{edges_of, AreEdges}
 use Rattle.vf_spans.proofs.Ranges.{pairs}
 use Rattle.vf_spans.proofs.Counts.{span_of, total_more, total_part, total_is, length-pairs}
 use Rattle.vf_spans.proofs.spans.Spans.count.Goals as goal
@@ -28,4 +28,4 @@ returns c =
     so_far
     ∙ ap (sum_by span_of) (take_all c.loop-n.n (pairs xs) (let q = length-pairs xs in omega arith))
     ∙ ap (λ z. sum_by span_of (pairs z)) c.as_slice-edges.ensures.value
-    ∙ total_is c.self.inside.bound c.self.inside.edges.items c.args.self.now c.self.invariant c.self.view_is
+    ∙ total_is c.self.inside.bound (edges_of c.self.inside.edges) c.args.self.now c.self.invariant c.self.view_is

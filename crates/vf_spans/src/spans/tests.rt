@@ -1,0 +1,191 @@
+ghost use Rattle.std.specs.Prelude.{◌≡◌, IfOk, length};
+
+use super::*;
+use std::test::Fail;
+
+/// Whether the index is among the bits, of which the lowest is index 0.
+fn is_marked(bits: u8, i: u32) -> bool {
+    i < 8 && (bits >> i) & 1 == 1
+}
+
+/// The set below 8 of these bits.
+fn set_of(alloc: Global, bits: u8) -> Result<Spans, NoMemory>
+    ensures { IfOk result (λ s. length s ≡ 8) }
+{
+    let mut set = Spans::new(alloc, 8);
+    for i in 0..8 {
+        if is_marked(bits, i) {
+            set.push(i)?;
+        }
+    }
+    Ok(set)
+}
+
+/// The bits of a set, and how many ranges it has.
+#[derive(Clone, Copy)]
+struct Shown {
+    bits: u8,
+    ranges: u32,
+}
+
+/// Whether the set has these bits and as many ranges.
+fn shows(set: &Spans, shown: Shown) -> bool {
+    for i in 0..9 {
+        if set.has(i) != is_marked(shown.bits, i) {
+            return false;
+        }
+    }
+    set.ranges() == shown.ranges
+        && set.count() == shown.bits.count_ones()
+        && set.is_empty() == (shown.bits == 0)
+}
+
+/// Whether the set shows that, a copy of it too, and both are the same as the set that was pushed.
+fn is_made(alloc: Global, set: &Spans, shown: Shown) -> Result<bool, NoMemory> {
+    let copy = set.copy()?;
+    let pushed = set_of(alloc, shown.bits)?;
+    Ok(
+        shows(set, shown)
+            && shows(&copy, shown)
+            && shows(&pushed, shown)
+            && set.is_same(&copy)
+            && set.is_same(&pushed),
+    )
+}
+
+/// Two sets, and what is made of them.
+#[derive(Clone, Copy)]
+struct Row {
+    what: &'static str,
+    first: u8,
+    second: u8,
+    union: Shown,
+    minus: Shown,
+    meet: Shown,
+}
+
+const ROWS: [Row; 7] = [
+    Row {
+        what: "no range and none",
+        first: 0,
+        second: 0,
+        union: Shown { bits: 0, ranges: 0 },
+        minus: Shown { bits: 0, ranges: 0 },
+        meet: Shown { bits: 0, ranges: 0 },
+    },
+    Row {
+        what: "one range and none",
+        first: 0b0001_1100,
+        second: 0,
+        union: Shown {
+            bits: 0b0001_1100,
+            ranges: 1,
+        },
+        minus: Shown {
+            bits: 0b0001_1100,
+            ranges: 1,
+        },
+        meet: Shown { bits: 0, ranges: 0 },
+    },
+    Row {
+        what: "one range and one apart from it",
+        first: 0b0000_0011,
+        second: 0b1100_0000,
+        union: Shown {
+            bits: 0b1100_0011,
+            ranges: 2,
+        },
+        minus: Shown {
+            bits: 0b0000_0011,
+            ranges: 1,
+        },
+        meet: Shown { bits: 0, ranges: 0 },
+    },
+    Row {
+        what: "one range and one adjacent to it",
+        first: 0b0000_0011,
+        second: 0b0011_1100,
+        union: Shown {
+            bits: 0b0011_1111,
+            ranges: 1,
+        },
+        minus: Shown {
+            bits: 0b0000_0011,
+            ranges: 1,
+        },
+        meet: Shown { bits: 0, ranges: 0 },
+    },
+    Row {
+        what: "one range and one within it",
+        first: 0b0111_1110,
+        second: 0b0001_1000,
+        union: Shown {
+            bits: 0b0111_1110,
+            ranges: 1,
+        },
+        minus: Shown {
+            bits: 0b0110_0110,
+            ranges: 2,
+        },
+        meet: Shown {
+            bits: 0b0001_1000,
+            ranges: 1,
+        },
+    },
+    Row {
+        what: "two ranges and one that fills the gap",
+        first: 0b0110_0110,
+        second: 0b0001_1100,
+        union: Shown {
+            bits: 0b0111_1110,
+            ranges: 1,
+        },
+        minus: Shown {
+            bits: 0b0110_0010,
+            ranges: 2,
+        },
+        meet: Shown {
+            bits: 0b0000_0100,
+            ranges: 1,
+        },
+    },
+    Row {
+        what: "two ranges and two",
+        first: 0b0110_0110,
+        second: 0b1010_0011,
+        union: Shown {
+            bits: 0b1110_0111,
+            ranges: 2,
+        },
+        minus: Shown {
+            bits: 0b0100_0100,
+            ranges: 2,
+        },
+        meet: Shown {
+            bits: 0b0010_0010,
+            ranges: 2,
+        },
+    },
+];
+
+/// Whether each operation makes of the row's sets what the row says.
+fn is_row(alloc: Global, row: &Row) -> Result<bool, NoMemory> {
+    let first = set_of(alloc, row.first)?;
+    let second = set_of(alloc, row.second)?;
+    let union = first.union(&second)?;
+    let minus = first.minus(&second)?;
+    let meet = first.meet(&second)?;
+    Ok(
+        is_made(alloc, &union, row.union)?
+            && is_made(alloc, &minus, row.minus)?
+            && is_made(alloc, &meet, row.meet)?,
+    )
+}
+
+#[test]
+fn sets_of_few_ranges(rt: HostRuntime) -> Result<(), Fail> {
+    for row in &ROWS {
+        assert!(rt; is_row(rt.alloc(), row)?, "{}", row.what);
+    }
+    Ok(())
+}
