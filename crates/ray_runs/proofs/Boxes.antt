@@ -21,7 +21,7 @@ use Rattle.box_bisect.specs.Stretches.{AreFormsBetween}
 use Rattle.box_bisect.proofs.RayExcluded.{decides_across}
 use Rattle.box_bisect.proofs.RayLines.{IsLine, decided_at}
 use Rattle.box_bisect.proofs.Searching.{dropped}
-use Rattle.ray_runs.specs.Apart.{AreAbove, AreApart, AreBeside, AreOutBeside, IsBehind, IsNoWider, IsPairAt}
+use Rattle.ray_runs.specs.Apart.{AreAbove, AreApart, AreBeside, AreOutBeside, IsBehind, IsNoWider}
 use Rattle.ray_runs.specs.Moments.{moment_product}
 use Rattle.ray_runs.proofs.Convex.{product_natural, squares_rise}
 use Rattle.ray_runs.proofs.Lagrange.{lagrange_at, less_squares}
@@ -139,7 +139,7 @@ out_between m p S levels j slabs some left =
     let forms : AreFormsBetween (u_between m p j k S) (n_between m j k S) (d_between m p j k S) m p j k S = record { u_is = refl; n_is = refl; d_is = refl } in
     (dropped [] slabs (u_between m p j k S) (n_between m j k S) (d_between m p j k S) m p S levels j some forms (λ i h. holds_none m p i S slabs h) left).1
 
-apart_at : (m : Motion) (point : ℕ → List ℤ) (S from to j levels : ℕ) (f : ℤ) → IsLine point → 0 < S
+pub apart_at : (m : Motion) (point : ℕ → List ℤ) (S from to j levels : ℕ) (f : ℤ) → IsLine point → 0 < S
     → (let k = j + 2 ^ levels in AreApart f (offset_at m (point from) (pos j) (pos S)) (offset_at m (point from) (pos k) (pos S)) (offset_at m (point to) (pos j) (pos S)) (offset_at m (point to) (pos k) (pos S)) (axis_at m (pos j) (pos S)) (axis_at m (pos k) (pos S)))
     → AreOutBeside f m point S from to j (j + 2 ^ levels)
 apart_at m point S from to j levels f line some apart slabs most e narrow l after before =
@@ -150,12 +150,7 @@ apart_at m point S from to j levels f line some apart slabs most e narrow l afte
     subst (λ i. list_any (λ s. not (is_excluded_in_box m (point from) (point i) j k S s)) slabs ≡ false) (sym last) none in
     out_between m (point l) S levels j slabs some (decided_at slabs m point S levels j from (to + 1) l line after (omega (arith, before)) undecided)
 
-apart_same : (f : ℤ) (p p' q q' a c P P' Q Q' A C : List ℤ) → p ≡ P → p' ≡ P' → q ≡ Q → q' ≡ Q' → a ≡ A → c ≡ C → AreApart f p p' q q' a c → AreApart f P P' Q Q' A C
+pub apart_same : (f : ℤ) (p p' q q' a c P P' Q Q' A C : List ℤ) → p ≡ P → p' ≡ P' → q ≡ Q → q' ≡ Q' → a ≡ A → c ≡ C → AreApart f p p' q q' a c → AreApart f P P' Q Q' A C
 apart_same f p p' q q' a c P P' Q Q' A C e1 e2 e3 e4 e5 e6 h =
     subst (λ z. AreApart f P P' Q Q' A z) e6 (subst (λ z. AreApart f P P' Q Q' z c) e5
     (subst (λ z. AreApart f P P' Q z a c) e4 (subst (λ z. AreApart f P P' z q' a c) e3 (subst (λ z. AreApart f P z q q' a c) e2 (subst (λ z. AreApart f z p' q q' a c) e1 h)))))
-
-pub apart_out : (m : Motion) (point : ℕ → List ℤ) (S from to j levels : ℕ) (f : ℤ) (p q a p' q' c : List ℤ) → IsLine point → 0 < S → IsPairAt m point from to j S p q a
-    → IsPairAt m point from to (j + 2 ^ levels) S p' q' c → AreApart f p p' q q' a c → AreOutBeside f m point S from to j (j + 2 ^ levels)
-apart_out m point S from to j levels f p q a p' q' c line some x y apart =
-    apart_at m point S from to j levels f line some (apart_same f p p' q q' a c _ _ _ _ _ _ x.first y.first x.last y.last x.axis y.axis apart)

@@ -11,12 +11,12 @@ use Rattle.ray_runs.specs.Moments.{moment_product}
 abbrev across : (ℕ → Term) → (ℕ → Term) → (ℕ → Term) → (ℕ → Term) → ℕ → Term
 across p p' q q' k = add (mul (p k) (q' k)) (mul (p' k) (q k))
 
-abbrev cell : (ℕ → Term) → (ℕ → Term) → (ℕ → Term) → (ℕ → Term) → ℕ → Term
+abbrev pub cell : (ℕ → Term) → (ℕ → Term) → (ℕ → Term) → (ℕ → Term) → ℕ → Term
 cell p p' q q' zero = dots p q
 cell p p' q q' (suc zero) = add (add (across p p' q q' 0) (across p p' q q' 1)) (across p p' q q' 2)
 cell p p' q q' (suc (suc k)) = dots p' q'
 
-abbrev conv : (ℕ → Term) → (ℕ → Term) → ℕ → Term
+abbrev pub conv : (ℕ → Term) → (ℕ → Term) → ℕ → Term
 conv a b zero = mul (a 0) (b 0)
 conv a b (suc zero) = add (mul (a 0) (b 1)) (mul (a 1) (b 0))
 conv a b (suc (suc zero)) = add (add (mul (a 0) (b 2)) (mul (a 1) (b 1))) (mul (a 2) (b 0))

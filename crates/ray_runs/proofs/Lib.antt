@@ -6,3 +6,6 @@ pub mod Boxes
 pub mod ClearPoints
 pub mod StretchTests
 pub mod Open
+pub mod Parts
+pub mod Weights
+pub mod Within

@@ -16,7 +16,7 @@ use Rattle.ray_runs.specs.declared.clear.OpenStretch.{OpenStretch}
 out_on_none : (f : ℤ) (m : Motion) (point : ℕ → List ℤ) (S from to j k : ℕ) → k ≤ j → AreOutBeside f m point S from to j k
 out_on_none f m point S from to j k none slabs most e narrow l after before = record { none = λ c x y. absurd (omega (arith, none, x, y)) }
 
-beside_both : (f : ℤ) (m : Motion) (point : ℕ → List ℤ) (S from to j i k : ℕ) → AreOutBeside f m point S from to j i → AreOutBeside f m point S from to i k → AreOutBeside f m point S from to j k
+pub beside_both : (f : ℤ) (m : Motion) (point : ℕ → List ℤ) (S from to j i k : ℕ) → AreOutBeside f m point S from to j i → AreOutBeside f m point S from to i k → AreOutBeside f m point S from to j k
 beside_both f m point S from to j i k early late slabs most e narrow l after before =
     out_both slabs m (point l) j i k S (early slabs most e narrow l after before) (late slabs most e narrow l after before)
 

@@ -10,6 +10,7 @@ ghost use Rattle.ray_runs.specs.Open.{AreOutBut, IsOpenOnly, joined_stretch};
 
 use crate::apart::are_apart;
 use crate::length::scaled_square;
+use crate::likely::likely_sample;
 use crate::pair::Pair;
 use axis_cells::{Sweep, cells_of};
 use bern_form::Slab;
@@ -26,6 +27,10 @@ pub struct OpenStretch {
 /// How often the time is halved at most, down to a part in 256 of the move. Fewer halves leave more points to be marked one by one, on
 /// longer stretches; more of them settle hardly any more.
 const HALVINGS: u32 = 8;
+
+/// Moves of more than 2^`CUT_FROM` cells are cut once ahead of the halves. It is a matter of speed alone: the halves of a shorter move
+/// soon come to an end, and the cut would cost more than it saves.
+const CUT_FROM: u32 = 4;
 
 /// The diameter of the widest of the slabs, which is the highest.
 fn widest(slabs: &[Slab]) -> i32
@@ -143,6 +148,47 @@ fn open_in(
     joined(early, late, whole)
 }
 
+/// Whether one cut of a move's time shows at once that all points from one index to another are clear: at the sample at which the middle one
+/// is likely to be nearest to the axis. Where that isn't shown nothing is said.
+fn are_clear_by_cut(
+    sweep: &Sweep,
+    grid: &Grid,
+    ray: &Ray,
+    from: u32,
+    to: u32,
+    scale: u32,
+    square: i64,
+    start: &Pair,
+    end: &Pair,
+) -> bool
+    requires ray { IsRay grid.now ray.now }
+    requires order { from ≤ to }
+    requires within { to < points_of grid.now ray.now.family }
+    requires scale { scale ≤ scale_limit }
+    requires some { 0 < scale }
+    requires start { let s = start.now in
+        IsPairAt sweep.now (point_of grid.now ray.now) from to 0 scale s.first.offset s.last.offset s.first.axis }
+    requires end { let e = end.now in
+        IsPairAt sweep.now (point_of grid.now ray.now) from to scale scale e.first.offset e.last.offset e.first.axis }
+    requires start_beside { let s = start.now in IsTrue s.is_beside → AreBesideAt square s.first_moment s.last_moment s.first.axis }
+    requires end_beside { let e = end.now in IsTrue e.is_beside → AreBesideAt square e.first_moment e.last_moment e.first.axis }
+    ensures { IsTrue result → AreOutBeside square sweep.now (point_of grid.now ray.now) scale from to 0 scale }
+{
+    if are_open(start, end) {
+        return false;
+    }
+    let point = grid.point(ray, from + (to - from) / 2);
+    let k = likely_sample(sweep, &point, scale);
+    let pair = Pair::at_sample(sweep, grid, ray, from, to, k, scale, square);
+    if pair.is_open() {
+        return false;
+    }
+    if !are_apart(start, &pair, square) {
+        return false;
+    }
+    are_apart(&pair, end, square)
+}
+
 /// The part of a move outside of which all points from one index to another are clear of it. Where there is none they are clear: none
 /// is sure, and none is possible. That the part is as short as it could be isn't said. It is looked for down to a part in 256 of
 /// the move.
@@ -169,6 +215,11 @@ pub fn open_stretch(
     let square = scaled_square(scale, widest(stacks.outer()));
     let start = Pair::at_sample(sweep, grid, ray, from, to, 0, scale, square);
     let end = Pair::at_sample(sweep, grid, ray, from, to, scale, scale, square);
+    if CUT_FROM < depth
+        && are_clear_by_cut(sweep, grid, ray, from, to, scale, square, &start, &end)
+    {
+        return None;
+    }
     let stop = depth.saturating_sub(HALVINGS);
     open_in(
         sweep, grid, ray, from, to, scale, square, &start, &end, 0, depth, stop,

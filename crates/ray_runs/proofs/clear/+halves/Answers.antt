@@ -6,13 +6,13 @@ use Rattle.box_bisect.proofs.RayLines.{ray_line}
 use Rattle.box_bisect.proofs.Searching.{halved}
 use Rattle.ray_runs.specs.Apart.{AreApart, AreBesideAt, IsPairAt}
 use Rattle.ray_runs.proofs.Open.{but_as, halves_open, out_around_whole}
-use Rattle.ray_runs.proofs.Boxes.{apart_out}
+use Rattle.ray_runs.proofs.Within.{apart_out}
 use Rattle.ray_runs.proofs.clear.+halves.Goals as goal
 
 pub returns-then-are_apart : goal.returns-then-are_apart
 returns-then-are_apart g c =
     let a = c.args in let r = c.requires in
-    apart_out a.sweep.now (point_of a.grid.now a.ray.now) a.scale a.from a.to a.j a.levels a.square _ _ _ _ _ _ (ray_line a.grid.now a.ray.now) r.some r.start r.end
+    apart_out a.sweep.now (point_of a.grid.now a.ray.now) a.scale a.from a.to a.j (a.j + 2 ^ a.levels) a.square _ _ _ _ _ _ (ray_line a.grid.now a.ray.now) r.some r.start r.end
     (subst (λ f. AreApart f a.start.now.first.offset a.end.now.first.offset a.start.now.last.offset a.end.now.last.offset a.start.now.first.axis a.end.now.first.axis) (to_z-of_z w64 a.square c.ranges.square) (c.if-are_apart.ensures refl))
 
 pub returns-then-levels-stop : goal.returns-then-levels-stop
