@@ -196,16 +196,9 @@ impl<'a> RayMarker<'a> {
         }
     }
 
-    /// Marks one of the points that are left. Where it is held at its last sample, it is given as that.
+    /// Marks one of the points that are left, and gives what is told of it.
     #[inline(always)]
-    fn mark_one(
-        &self,
-        first: u32,
-        b: u32,
-        sure_only: u64,
-        part: &mut Part,
-        near: &mut Near,
-    ) -> Option<Held>
+    fn mark_one(&self, first: u32, b: u32, sure_only: u64, part: &mut Part, near: &mut Near) -> Told
         requires bit { b < 64 }
         requires left { has_bit part.old.rest b ≡ true }
         requires on_ray { AreOnRay self.now first part.old.rest }
@@ -214,14 +207,14 @@ impl<'a> RayMarker<'a> {
         ensures rest { (k : ℕ) → k < 64 → has_bit part.new.rest k ≡ (has_bit part.old.rest k && not (nat_eq k b)) }
         ensures less { part.new.rest < part.old.rest }
         ensures part { FollowsFrom part.new part.old self.now first sure_only }
-        ensures index { IfSome result (λ held. held.index ≡ first + b) }
-        ensures held { IfSome result (λ held. IsHeldLast held self.now) }
+        ensures index { IfSome result.held (λ held. held.index ≡ first + b) }
+        ensures held { IfSome result.held (λ held. IsHeldLast held self.now) }
     {
         // The points are few by the type, which is known where a field is seen.
         let _few = &self.ray;
         let told = self.mark_at(first + b, near, asked_at(sure_only, b));
         *part = part.with_mark(b, told.mark);
-        told.held
+        told
     }
 
     /// Whether the points from one that is held at its first sample to the one at an index are all sure, as that one is held there too.
@@ -282,6 +275,7 @@ impl<'a> RayMarker<'a> {
     /// Some of the points that are left, which are above the one of bit b: those of a run from that one on, where it is held at its first
     /// sample. A wide cutter leaves many such behind. It stands by itself, for most points are told by their last sample. `near` is the
     /// number of a slab to look from.
+    #[cold]
     #[inline(never)]
     fn first_run_bits(&self, first: u32, b: u32, rest: u64, near: usize) -> u64
         requires some { 0 < rest }
@@ -323,11 +317,11 @@ impl<'a> RayMarker<'a> {
     {
         while part.rest != 0 {
             let b = lowest_bit(part.rest);
-            let sure = part.marks.sure;
-            if let Some(held) = self.mark_one(first, b, sure_only, part, near) {
+            let told = self.mark_one(first, b, sure_only, part, near);
+            if let Some(held) = told.held {
                 return Some(held);
             }
-            if part.marks.sure != sure && part.rest != 0 {
+            if matches!(told.mark, Mark::Removed) && part.rest != 0 {
                 let run = self.first_run_bits(first, b, part.rest, near.reached);
                 *part = part.with_run(run);
             }
@@ -347,7 +341,7 @@ impl<'a> RayMarker<'a> {
     {
         while part.rest != 0 {
             let b = highest_bit(part.rest);
-            if let Some(high) = self.mark_one(first, b, sure_only, part, near) {
+            if let Some(high) = self.mark_one(first, b, sure_only, part, near).held {
                 if self.is_run(low, &high) {
                     *part = part.with_rest_removed();
                     return;

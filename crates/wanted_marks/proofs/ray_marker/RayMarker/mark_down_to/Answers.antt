@@ -1,6 +1,8 @@
-use Rattle.std.proofs.Common.{◌+◌, arith, sym, ◌∙◌}
+use Rattle.std.proofs.Common.{◌≡◌, ◌+◌, Option, arith, subst, sym, ◌∙◌}
+use Rattle.std.specs.Option.{IfSome}
 use Rattle.std.proofs.lemmas.Bool.{and_parts}
 use Rattle.vf_spans.proofs.HighestBit.{at_most}
+use Rattle.wanted_marks.specs.declared.held.Held.{Held}
 use Rattle.wanted_marks.proofs.ray_marker.RayMarker.mark_down_to.Goals as goal
 
 pub returns-then-is_run-clause-part : goal.returns-then-is_run-clause-part
@@ -9,6 +11,6 @@ returns-then-is_run-clause-part c = λ wanted before.
     c.with_rest_removed.ensures.part c.args.self.now first c.args.sure_only
     (λ k below set.
     let was = (and_parts _ _ (sym (c.mark_one.ensures.rest k below) ∙ set)).0 in
-    let at = c.in-Some.ensures.index in let top = at_most l.part.rest b.result k b.ensures.highest was in
+    let at = subst (λ (o : Option Held). IfSome o (λ x. x.index ≡ first + b.result)) c.in-Some.is c.mark_one.ensures.index in let top = at_most l.part.rest b.result k b.ensures.highest was in
     c.is_run.ensures c.if-is_run.true (first + k) (c.requires.above k below (l.invariant.fewer k below was)) (omega (arith, at, top)))
     wanted (c.mark_one.ensures.part wanted (l.invariant.part wanted before))
