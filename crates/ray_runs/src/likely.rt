@@ -132,6 +132,7 @@ fn part_of(scale: u32, part: i128, whole: i128) -> u32
 
 /// The sample at which a point is likely to be nearest to the axis, taken as the mean of the axes at both ends: there the way across
 /// the axis has come as far as the point.
+#[inline]
 pub fn likely_sample(sweep: &Sweep, point: &[i32; 3], scale: u32) -> u32
     requires point { IsPoint point.now }
     requires scale { scale ≤ scale_limit }
