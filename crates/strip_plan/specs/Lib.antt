@@ -2,6 +2,7 @@ pub mod Plans
 pub mod Cutters
 pub mod Windows
 pub mod Ranges
+pub mod StripRanges
 pub mod IndexBoxes
 pub mod Boxed
 pub mod Cylinders

@@ -1,11 +1,11 @@
 ghost use Rattle.std.specs.Prelude.{◌≡◌, ℕ};
-ghost use Rattle.ray_grid.specs.Families.{second_axis};
 ghost use Rattle.ray_grid.specs.Grids.{GridSize};
-ghost use Rattle.ray_grid.specs.Lattice.{nodes_of, points_of};
 ghost use Rattle.strip_plan.specs.IndexBoxes.{HasPoint, IsBoxOf, JoinsBoxes, ranges_for};
 ghost use Rattle.strip_plan.specs.Ranges.{IsIn, IsRangeOf, Joins};
+ghost use Rattle.strip_plan.specs.StripRanges.{count_of, index_of};
 
 use crate::ranges::{hull, is_in};
+use crate::strip_range::StripRange;
 use ray_grid::{Family, Ray};
 
 /// What a box has on one axis: its nodes, and the points of a ray along it. The second end of a range is excluded.
@@ -98,35 +98,22 @@ impl IndexBox {
         }
     }
 
-    /// From the one index to the other lie the points that the box has on the rays of a strip: on those of a family's rays with the
-    /// first node `i`.
-    #[inline]
-    pub fn strip_along(&self, family: Family, i: u32) -> (u32, u32)
-        ensures range { (grid : GridSize) → IsBoxOf grid self.now → IsRangeOf (points_of grid family) result }
-        ensures has { (j l : ℕ) → HasPoint self.now record { family = family; i = i; j = j } l → IsIn result l }
-    {
-        if is_in(self.first(family), i) {
-            self.along(family)
-        } else {
-            (0, 0)
-        }
-    }
-
-    /// From the one number to the other stand the rays with a point that the box has in a strip: in that of a family's rays with the
-    /// first node `i`.
-    #[inline]
-    pub fn strip_window(&self, family: Family, i: u32) -> (u32, u32)
-        ensures range { (grid : GridSize) → IsBoxOf grid self.now → IsRangeOf (nodes_of grid (second_axis family)) result }
-        ensures has { (j l : ℕ) → HasPoint self.now record { family = family; i = i; j = j } l → IsIn result j }
+    /// A range that the box has of a strip, that of a family's rays with the first node `i`: the numbers of the rays with a point in it, or
+    /// the indices of the points that it has on them.
+    // Written into each of its calls, so that it isn't asked which.
+    #[inline(always)]
+    pub fn in_strip(&self, family: Family, i: u32, which: StripRange) -> (u32, u32)
+        ensures range { (grid : GridSize) → IsBoxOf grid self.now → IsRangeOf (count_of grid family which) result }
+        ensures has { (j l : ℕ) → HasPoint self.now record { family = family; i = i; j = j } l → IsIn result (index_of which j l) }
     {
         if !is_in(self.first(family), i) {
             return (0, 0);
         }
         let along = self.along(family);
-        if along.0 < along.1 {
-            self.second(family)
-        } else {
-            (0, 0)
+        match which {
+            StripRange::Points => along,
+            StripRange::Rays if along.0 < along.1 => self.second(family),
+            StripRange::Rays => (0, 0),
         }
     }
 }

@@ -7,6 +7,7 @@ ghost use Rattle.strip_plan.specs.declared.index_box.IndexBox.{IndexBox};
 ghost use Rattle.strip_plan.specs.Passing.{AppliesNone, AreGroups, HasNone, IsAppliedIn};
 
 use crate::index_box::IndexBox;
+use crate::strip_range::StripRange;
 use edit_plan::Edit;
 use ray_grid::Family;
 use std::alloc::Global;
@@ -53,7 +54,7 @@ pub fn groups_of(
 fn is_off(held: &IndexBox, family: Family, i: u32) -> bool
     ensures { IsTrue result → HasNone held.now family i }
 {
-    let window = held.strip_window(family, i);
+    let window = held.in_strip(family, i, StripRange::Rays);
     window.0 == window.1
 }
 

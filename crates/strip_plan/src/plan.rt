@@ -14,7 +14,8 @@ use crate::index_box::IndexBox;
 use crate::passing::{count_alone, groups_of};
 use crate::plan_move::PlanMove;
 use crate::ready_moves::ready_moves_of;
-use crate::windows::{boxes_strip_along, boxes_strip_window, row};
+use crate::strip_range::StripRange;
+use crate::windows::{range_in_strip, row};
 use edit_plan::{Edit, Edits};
 use ray_grid::{Family, Grid, Ray};
 use std::alloc::Global;
@@ -176,7 +177,7 @@ impl Plan {
         if start == end {
             return self.boxes.hulls[number as usize].along(family);
         }
-        boxes_strip_along(&self.boxes.boxes, start, end, family, i)
+        range_in_strip(&self.boxes.boxes, start, end, family, i, StripRange::Points)
     }
 
     /// The cylinder that holds the points of the lattice at which a move is possible.
@@ -197,7 +198,7 @@ impl Plan {
         ensures holds { (move : JobMove) → HasNumber self.now number move → HoldsEntered self.now move strip result.0 result.1 }
     {
         let (family, i) = row(&self.grid, strip);
-        let window = self.boxes.hulls[number as usize].strip_window(family, i);
+        let window = self.boxes.hulls[number as usize].in_strip(family, i, StripRange::Rays);
         if window.0 == window.1 {
             return window;
         }
@@ -206,7 +207,7 @@ impl Plan {
         if start == end {
             return window;
         }
-        boxes_strip_window(&self.boxes.boxes, start, end, family, i)
+        range_in_strip(&self.boxes.boxes, start, end, family, i, StripRange::Rays)
     }
 
     /// How many of the edits from a version on, one after the other and at most `most`, apply a move whose boxes leave a strip alone.

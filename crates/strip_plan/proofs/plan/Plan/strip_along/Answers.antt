@@ -25,8 +25,8 @@ returns-then-start-end c =
           (in_hull plan own.hulls.items own.boxes.items own.starts.items c.args.number box move _ l has c.requires c.index.ensures named is).along;
     })
 
-pub boxes_strip_along-requires : goal.boxes_strip_along-requires
-boxes_strip_along-requires c =
+pub range_in_strip-requires : goal.range_in_strip-requires
+range_in_strip-requires c =
     let plan = c.args.self.now in
     let own = c.self.inside.boxes in
     let has = subst (λ (p : PlanOf). HasBoxes p.grid p.slabs p.depth p.moves own.hulls.items own.boxes.items own.starts.items
@@ -40,14 +40,14 @@ returns c =
     let own = c.self.inside.boxes in
     let has = subst (λ (p : PlanOf). HasBoxes p.grid p.slabs p.depth p.moves own.hulls.items own.boxes.items own.starts.items
     (length p.moves)) c.self.view_is c.self.invariant.5 in
-    let range = c.boxes_strip_along.ensures.range plan.grid (subst (AreBoxesOf plan.grid) (sym c.deref.ensures.value) has.boxes_fit) in
+    let range = c.range_in_strip.ensures.range plan.grid (subst (AreBoxesOf plan.grid) (sym c.deref.ensures.value) has.boxes_fit) in
     record {
       order = range.order;
       within = range.within;
       holds = λ move j named l is.
           let inside = in_own plan own.hulls.items own.boxes.items own.starts.items c.args.number c.index-start.result.now
           c.index-end.result.now no_box move _ l has c.requires c.index-start.ensures c.index-end.ensures c.if-start-end.false named is in
-          c.boxes_strip_along.ensures.has j l
+          c.range_in_strip.ensures.has j l
           (subst (λ (boxes : List IndexBox). IsInOneOf boxes c.index-start.result.now c.index-end.result.now
           (record { family = c.args.family; i = c.args.i; j = j }) l) (sym c.deref.ensures.value)
           inside);

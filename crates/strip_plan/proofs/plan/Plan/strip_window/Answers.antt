@@ -20,7 +20,7 @@ returns-then-window-clause-within c =
     let row = subst (λ (g : GridSize). strip_at g c.args.strip ≡ strip_of g family i) (ap (λ (p : PlanOf). p.grid) c.self.view_is) c.row-family.ensures in
     let fits = hull_fits plan own.hulls.items own.boxes.items own.starts.items c.args.number c.index.result.now has c.requires.number c.index.ensures in
     let many = rays_in plan.grid c.args.strip family i row in
-    let within = (c.strip_window-window.ensures.range plan.grid fits).within in omega (arith, many, within)
+    let within = (c.in_strip-window.ensures.range plan.grid fits).within in omega (arith, many, within)
 
 pub returns-then-window-clause-holds : goal.returns-then-window-clause-holds
 returns-then-window-clause-holds c move named n ray l there is =
@@ -31,7 +31,7 @@ returns-then-window-clause-holds c move named n ray l there is =
     let i = c.row-family.result.1 in
     let row = subst (λ (g : GridSize). strip_at g c.args.strip ≡ strip_of g family i) (ap (λ (p : PlanOf). p.grid) c.self.view_is) c.row-family.ensures in
     let point = in_hull plan own.hulls.items own.boxes.items own.starts.items c.args.number c.index.result.now move ray l has c.requires.number c.index.ensures named is in
-    c.strip_window-window.ensures.has n l (subst (λ (r : Ray). HasPoint c.index.result.now r l) (ray_is plan.grid c.args.strip n family i ray row there) point)
+    c.in_strip-window.ensures.has n l (subst (λ (r : Ray). HasPoint c.index.result.now r l) (ray_is plan.grid c.args.strip n family i ray row there) point)
 
 pub returns-then-start-end-clause-order : goal.returns-then-start-end-clause-order
 returns-then-start-end-clause-order c =
@@ -39,7 +39,7 @@ returns-then-start-end-clause-order c =
     let own = c.self.inside.boxes in
     let has = subst (λ (p : PlanOf). HasBoxes p.grid p.slabs p.depth p.moves own.hulls.items own.boxes.items own.starts.items (length p.moves)) c.self.view_is c.self.invariant.5 in
     let fits = hull_fits plan own.hulls.items own.boxes.items own.starts.items c.args.number c.index.result.now has c.requires.number c.index.ensures in
-    (c.strip_window-window.ensures.range plan.grid fits).order
+    (c.in_strip-window.ensures.range plan.grid fits).order
 
 pub returns-then-start-end-clause-within : goal.returns-then-start-end-clause-within
 returns-then-start-end-clause-within c =
@@ -51,7 +51,7 @@ returns-then-start-end-clause-within c =
     let row = subst (λ (g : GridSize). strip_at g c.args.strip ≡ strip_of g family i) (ap (λ (p : PlanOf). p.grid) c.self.view_is) c.row-family.ensures in
     let fits = hull_fits plan own.hulls.items own.boxes.items own.starts.items c.args.number c.index.result.now has c.requires.number c.index.ensures in
     let many = rays_in plan.grid c.args.strip family i row in
-    let within = (c.strip_window-window.ensures.range plan.grid fits).within in omega (arith, many, within)
+    let within = (c.in_strip-window.ensures.range plan.grid fits).within in omega (arith, many, within)
 
 pub returns-then-start-end-clause-holds : goal.returns-then-start-end-clause-holds
 returns-then-start-end-clause-holds c move named n ray l there is =
@@ -62,10 +62,10 @@ returns-then-start-end-clause-holds c move named n ray l there is =
     let i = c.row-family.result.1 in
     let row = subst (λ (g : GridSize). strip_at g c.args.strip ≡ strip_of g family i) (ap (λ (p : PlanOf). p.grid) c.self.view_is) c.row-family.ensures in
     let point = in_hull plan own.hulls.items own.boxes.items own.starts.items c.args.number c.index.result.now move ray l has c.requires.number c.index.ensures named is in
-    c.strip_window-window.ensures.has n l (subst (λ (r : Ray). HasPoint c.index.result.now r l) (ray_is plan.grid c.args.strip n family i ray row there) point)
+    c.in_strip-window.ensures.has n l (subst (λ (r : Ray). HasPoint c.index.result.now r l) (ray_is plan.grid c.args.strip n family i ray row there) point)
 
-pub boxes_strip_window-requires : goal.boxes_strip_window-requires
-boxes_strip_window-requires c =
+pub range_in_strip-requires : goal.range_in_strip-requires
+range_in_strip-requires c =
     let plan = c.args.self.now in
     let own = c.self.inside.boxes in
     let has = subst (λ (p : PlanOf). HasBoxes p.grid p.slabs p.depth p.moves own.hulls.items own.boxes.items own.starts.items (length p.moves)) c.self.view_is c.self.invariant.5 in
@@ -77,7 +77,7 @@ returns-clause-order c =
     let plan = c.args.self.now in
     let own = c.self.inside.boxes in
     let has = subst (λ (p : PlanOf). HasBoxes p.grid p.slabs p.depth p.moves own.hulls.items own.boxes.items own.starts.items (length p.moves)) c.self.view_is c.self.invariant.5 in
-    (c.boxes_strip_window.ensures.range plan.grid (subst (AreBoxesOf plan.grid) (sym c.deref.ensures.value) has.boxes_fit)).order
+    (c.range_in_strip.ensures.range plan.grid (subst (AreBoxesOf plan.grid) (sym c.deref.ensures.value) has.boxes_fit)).order
 
 pub returns-clause-within : goal.returns-clause-within
 returns-clause-within c =
@@ -88,7 +88,7 @@ returns-clause-within c =
     let i = c.row-family.result.1 in
     let row = subst (λ (g : GridSize). strip_at g c.args.strip ≡ strip_of g family i) (ap (λ (p : PlanOf). p.grid) c.self.view_is) c.row-family.ensures in
     let many = rays_in plan.grid c.args.strip family i row in
-    let within = (c.boxes_strip_window.ensures.range plan.grid (subst (AreBoxesOf plan.grid) (sym c.deref.ensures.value) has.boxes_fit)).within in
+    let within = (c.range_in_strip.ensures.range plan.grid (subst (AreBoxesOf plan.grid) (sym c.deref.ensures.value) has.boxes_fit)).within in
     omega (arith, many, within)
 
 pub returns-clause-holds : goal.returns-clause-holds
@@ -102,5 +102,5 @@ returns-clause-holds c move named n ray l there is =
     let inside = in_own plan own.hulls.items own.boxes.items own.starts.items c.args.number c.index-start.result.now c.index-end.result.now c.index.result.now move ray l has c.requires.number
     c.index-start.ensures c.index-end.ensures c.if-start-end.false named is in
     let here = subst (λ (boxes : List IndexBox). IsInOneOf boxes c.index-start.result.now c.index-end.result.now ray l) (sym c.deref.ensures.value) inside in
-    c.boxes_strip_window.ensures.has n l
+    c.range_in_strip.ensures.has n l
     (subst (λ (r : Ray). IsInOneOf c.deref.result.now c.index-start.result.now c.index-end.result.now r l) (ray_is plan.grid c.args.strip n family i ray row there) here)

@@ -1,15 +1,15 @@
 use Rattle.std.proofs.Common.{⊎_elim, arith}
 use Rattle.strip_plan.proofs.Boxed.{before_or_at, up_to}
-use Rattle.strip_plan.proofs.windows.strip_window_of.Goals as goal
+use Rattle.strip_plan.proofs.windows.range_of.Goals as goal
 
 pub loop-place-preserved : goal.loop-place-preserved
 loop-place-preserved c =
     let before = c.loop-place.invariant in (
       λ grid fit.
-          c.hull-window.ensures.range _ (before.0 grid fit) (c.strip_window.ensures.range grid (fit c.loop-place.place _ (omega (arith, c.loop-place-test.true, c.requires)))),
+          c.hull-range.ensures.range _ (before.0 grid fit) (c.in_strip.ensures.range grid (fit c.loop-place.place _ (omega (arith, c.loop-place-test.true, c.requires)))),
       λ j x is.
-          ⊎_elim (λ less. c.hull-window.ensures.of_one j (before.1 j x less))
-          (λ here. c.hull-window.ensures.of_other j (c.strip_window.ensures.has j x (here _)))
+          ⊎_elim (λ less. c.hull-range.ensures.of_one _ (before.1 j x less))
+          (λ here. c.hull-range.ensures.of_other _ (c.in_strip.ensures.has j x (here _)))
           (before_or_at c.args.boxes.now c.args.start c.loop-place.place _ x is),
     )
 
