@@ -15,7 +15,7 @@ use Rattle.ray_grid.specs.declared.ray.Family.TheVariants.{X, Y, Z}
 use Rattle.ray_grid.specs.Families.{first_axis, ray_axis, second_axis}
 use Rattle.ray_grid.specs.Lattice.{node_at, nodes_of, per_node, place_at, point_at, points_of}
 use Rattle.ray_grid.specs.Ranges.{IsGrid}
-use Rattle.ray_grid.proofs.Sizes.{abs_is, axis_of, few_places, node_within, place_within, some_per_node, times_is}
+use Rattle.ray_grid.proofs.Sizes.{abs_is, axis_of, few_places, has_first, node_within, place_within, times_is}
 use Rattle.sweep_boxes.specs.declared.cylinder.BoundingCylinder.{BoundingCylinder}
 use Rattle.sweep_boxes.specs.Limits.{aim_limit, place_limit, side_limit}
 use Rattle.sweep_boxes.specs.Vectors.{cross}
@@ -58,14 +58,6 @@ point_near g X i j l h first second lt = (place_coordinate g 0 l h (omega arith)
 point_near g Y i j l h first second lt = (node_coordinate g 0 i h (omega arith) first, place_coordinate g 1 l h (omega arith) lt, node_coordinate g 2 j h (omega arith) second)
 point_near g Z i j l h first second lt = (node_coordinate g 0 i h (omega arith) first, node_coordinate g 1 j h (omega arith) second, place_coordinate g 2 l h (omega arith) lt)
 
-some_points : (g : GridSize) (axis : ℕ) → IsGrid g → axis < 3 → 1 ≤ nodes_of g axis * per_node g
-some_points g axis h three =
-    let ax = axis_of g axis h three in
-    let a = h.step_in.from_least in let b = h.step_in.to_most in
-    let sp = abs_is g.step a in let pp = abs_is g.pitch h.pitch_in.from_least in
-    let per = some_per_node (unsigned_abs g.pitch) (unsigned_abs g.step) (omega (arith, ints)) (omega (arith, ints)) h.divides in
-    mul-le-mul ax.some per.0
-
 axis_below : (f : Family) → ray_axis f < 3
 axis_below X = omega arith
 axis_below Y = omega arith
@@ -75,9 +67,6 @@ second_below : (f : Family) → second_axis f < 3
 second_below X = omega arith
 second_below Y = omega arith
 second_below Z = omega arith
-
-pub has_first : (g : GridSize) (f : Family) → IsGrid g → 0 < points_of g f
-has_first g f h = some_points g (ray_axis f) h (axis_below f)
 
 pub has_second : (g : GridSize) (f : Family) → IsGrid g → 0 < nodes_of g (second_axis f)
 has_second g f h = (axis_of g (second_axis f) h (second_below f)).some

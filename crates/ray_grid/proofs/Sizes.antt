@@ -4,7 +4,9 @@ use Rattle.std.proofs.lemmas.Int.{ints, to_z-of_z, to_z_pos}
 use Rattle.std.proofs.Math.IntN.{pos-*ℤ-pos}
 use Rattle.std.proofs.Math.Nat.{mul-le-mul, mul-le-mul_right}
 use Rattle.ray_grid.specs.Grids.{GridSize}
-use Rattle.ray_grid.specs.Lattice.{nodes_of, per_node, node_at, place_at}
+use Rattle.ray_grid.specs.declared.ray.Family.{Family}
+use Rattle.ray_grid.specs.declared.ray.Family.TheVariants.{X, Y, Z}
+use Rattle.ray_grid.specs.Lattice.{nodes_of, per_node, points_of, node_at, place_at}
 use Rattle.ray_grid.specs.Ranges.{IsGrid, IsGridAxis}
 use Rattle.space.specs.Ranges.{metre}
 use Rattle.space.specs.Vectors.{at}
@@ -81,6 +83,19 @@ node_scaled g axis n is fits three lt =
     let most = ax.most in
     scaled (at g.origin axis) g.pitch n fits (omega arith) ax.origin_in one
     (node_within (at g.origin axis) (unsigned_abs g.pitch) (unsigned_abs g.step) (nodes_of g axis) n (omega (arith, ints)) (omega (arith, ints)) is.divides lt ax.last)
+
+-- each ray has a point
+pub some_points : (g : GridSize) (axis : ℕ) → IsGrid g → axis < 3 → 1 ≤ nodes_of g axis * per_node g
+some_points g axis is three =
+    let pitch = is.pitch_in.from_least in let least = is.step_in.from_least in let most = is.step_in.to_most in
+    let sp = abs_is g.step least in let pp = abs_is g.pitch pitch in
+    let per = some_per_node (unsigned_abs g.pitch) (unsigned_abs g.step) (omega (arith, ints)) (omega (arith, ints)) is.divides in
+    mul-le-mul (axis_of g axis is three).some per.0
+
+pub has_first : (g : GridSize) (f : Family) → IsGrid g → 0 < points_of g f
+has_first g X is = some_points g 0 is (omega arith)
+has_first g Y is = some_points g 1 is (omega arith)
+has_first g Z is = some_points g 2 is (omega arith)
 
 pub few_places : (g : GridSize) (axis : ℕ) → IsGrid g → axis < 3 → nodes_of g axis * per_node g ≤ 400000
 few_places g axis is three = mul-le-mul (axis_of g axis is three).most is.fine

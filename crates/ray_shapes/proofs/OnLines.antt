@@ -11,7 +11,7 @@ use Rattle.space.specs.Ranges.{IsBetween, metre}
 use Rattle.ray_grid.specs.Ranges.{IsGrid}
 use Rattle.ray_grid.specs.Families.{ray_axis, first_axis, second_axis}
 use Rattle.ray_grid.specs.Lattice.{nodes_of, per_node, points_of, node_at, place_at, point_at}
-use Rattle.ray_grid.proofs.Sizes.{abs_is, times_is, axis_of, some_per_node, node_within, place_within}
+use Rattle.ray_grid.proofs.Sizes.{abs_is, times_is, axis_of, node_within, place_within, some_points}
 use Rattle.ray_shapes.specs.declared.plane.Plane.{Plane}
 use Rattle.ray_shapes.specs.Sizes.{IsTerm, IsLine}
 use Rattle.ray_shapes.specs.Lines.{position}
@@ -78,14 +78,6 @@ place_coordinate g axis l h three lt =
     let there = size_is (place_at g axis l) in
     omega (arith, ints)
 
-pub some_points : (g : GridSize) (axis : ℕ) → IsGrid g → axis < 3 → 1 ≤ nodes_of g axis * per_node g
-some_points g axis h three =
-    let ax = axis_of g axis h three in
-    let a = h.step_in.from_least in let b = h.step_in.to_most in
-    let sp = abs_is g.step a in let pp = abs_is g.pitch h.pitch_in.from_least in
-    let per = some_per_node (unsigned_abs g.pitch) (unsigned_abs g.step) (omega (arith, ints)) (omega (arith, ints)) h.divides in
-    mul-le-mul ax.some per.0
-
 span_within : (g : GridSize) (axis l : ℕ) → IsGrid g → axis < 3 → l < nodes_of g axis * per_node g → IsBetween (pos 0) (pos 2000000) (g.step *ℤ pos l)
 span_within g axis l h three lt =
     let ax = axis_of g axis h three in
@@ -106,14 +98,6 @@ is_line g Y i j h first second =
 is_line g Z i j h first second =
     let some = some_points g 2 h (omega arith) in
     record { some = some; x = node_coordinate g 0 i h (omega arith) first; y = node_coordinate g 1 j h (omega arith) second; z = place_coordinate g 2 0 h (omega arith) some; span = λ l lt. span_within g 2 l h (omega arith) lt }
-
-axis_below : (f : Family) → ray_axis f < 3
-axis_below X = omega arith
-axis_below Y = omega arith
-axis_below Z = omega arith
-
-pub has_first : (g : GridSize) (f : Family) → IsGrid g → 0 < points_of g f
-has_first g f h = some_points g (ray_axis f) h (axis_below f)
 
 test_is : (x y : ℤ) → (x ≤ℤ y) ↔ IsTrue (int_le x y)
 test_is x y = (λ p. grind (arith, ints), λ p. grind (arith, ints))

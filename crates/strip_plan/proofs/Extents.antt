@@ -11,18 +11,11 @@ use Rattle.ray_grid.specs.declared.ray.Family.TheVariants.{X, Y, Z}
 use Rattle.ray_grid.specs.Families.{first_axis, second_axis}
 use Rattle.ray_grid.specs.Lattice.{IsRay, node_at, nodes_of, per_node, place_at, point_at, point_of, points_of}
 use Rattle.ray_grid.specs.Ranges.{IsGrid}
-use Rattle.ray_grid.proofs.Sizes.{axis_of, node_within, place_within, some_per_node, times_is}
+use Rattle.ray_grid.proofs.Sizes.{axis_of, node_within, place_within, times_is}
 use Rattle.sweep_boxes.specs.Pieces.{IsAmong}
 
 pub some_nodes : (g : GridSize) (axis : ℕ) → IsGrid g → axis < 3 → 1 ≤ nodes_of g axis
 some_nodes g axis is three = (axis_of g axis is three).some
-
--- each ray has a point
-pub some_points : (g : GridSize) (axis : ℕ) → IsGrid g → axis < 3 → 1 ≤ nodes_of g axis * per_node g
-some_points g axis is three =
-    let one = is.pitch_in.from_least in let a = is.step_in.from_least in let b = is.step_in.to_most in
-    let per = some_per_node (unsigned_abs g.pitch) (unsigned_abs g.step) (omega (arith, ints, a)) (omega (arith, ints, one, a, b)) is.divides in
-    mul-le-mul (some_nodes g axis is three) per.0
 
 -- a place along a ray, and a node, are from the first to the last point on their axis
 pub place_between : (g : GridSize) (axis l : ℕ) → IsGrid g → axis < 3 → l < nodes_of g axis * per_node g
@@ -83,7 +76,3 @@ first_ray g X is = record { first = some_nodes g 1 is (omega arith); second = so
 first_ray g Y is = record { first = some_nodes g 0 is (omega arith); second = some_nodes g 2 is (omega arith) }
 first_ray g Z is = record { first = some_nodes g 0 is (omega arith); second = some_nodes g 1 is (omega arith) }
 
-pub family_has_points : (g : GridSize) (f : Family) → IsGrid g → 1 ≤ points_of g f
-family_has_points g X is = some_points g 0 is (omega arith)
-family_has_points g Y is = some_points g 1 is (omega arith)
-family_has_points g Z is = some_points g 2 is (omega arith)

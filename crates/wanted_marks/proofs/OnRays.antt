@@ -21,10 +21,7 @@ use Rattle.ray_runs.proofs.Fits.{minor_small, two_small}
 use Rattle.ray_grid.specs.Grids.{GridSize}
 use Rattle.ray_grid.specs.declared.ray.Family.{Family}
 use Rattle.ray_grid.specs.declared.ray.Family.TheVariants.{X, Y, Z}
-use Rattle.ray_grid.specs.Families.{ray_axis}
-use Rattle.ray_grid.specs.Lattice.{node_at, nodes_of, per_node, place_at, point_at, point_of, points_of}
-use Rattle.ray_grid.specs.Ranges.{IsGrid}
-use Rattle.ray_grid.proofs.Sizes.{abs_is as size_is, axis_of, some_per_node}
+use Rattle.ray_grid.specs.Lattice.{node_at, place_at, point_at, point_of, points_of}
 use Rattle.wanted_marks.specs.Ways.{IsAlong, scaled_way}
 use Rattle.wanted_marks.specs.Rays.{RayOf}
 use Rattle.ray_runs.specs.declared.clear.OpenStretch.{OpenStretch}
@@ -194,16 +191,3 @@ stretch_line_of_ray x s r n S e few sweep within is first last all =
       forms = λ l below. subst (λ z. AreWidthForms (heights_at x.line (pos l)) x.n.c (width_at x.line (pos l)) m (point_of r.grid r.ray l) j k z) e
           record { u_is = (forms l).height; n_is = is.n_is; width_is = (forms l).width };
     }
-
--- each ray of a grid has a point
-some_points : (g : GridSize) (axis : ℕ) → IsGrid g → axis < 3 → 1 ≤ nodes_of g axis * per_node g
-some_points g axis is three =
-    let pitch = size_is g.pitch is.pitch_in.from_least in let step = size_is g.step is.step_in.from_least in
-    let above = is.step_in.from_least in let to = is.step_in.to_most in
-    let per = some_per_node (unsigned_abs g.pitch) (unsigned_abs g.step) (omega (arith, ints)) (omega (arith, ints)) is.divides in
-    mul-le-mul (axis_of g axis is three).some per.0
-
-pub has_first : (g : GridSize) (f : Family) → IsGrid g → 0 < points_of g f
-has_first g X is = some_points g 0 is (omega arith)
-has_first g Y is = some_points g 1 is (omega arith)
-has_first g Z is = some_points g 2 is (omega arith)

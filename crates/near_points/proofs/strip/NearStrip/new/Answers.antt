@@ -12,7 +12,8 @@ use Rattle.near_points.specs.declared.stance.Stance.{Stance}
 use Rattle.near_points.specs.Stances.{IsStance}
 use Rattle.near_points.specs.Turned.{turned, way_across, way_along}
 use Rattle.near_points.proofs.Bits.{small_passed}
-use Rattle.near_points.proofs.Turning.{has_first, step_by, turned_within}
+use Rattle.ray_grid.proofs.Sizes.{has_first}
+use Rattle.near_points.proofs.Turning.{step_by, turned_within}
 use Rattle.near_points.proofs.strip.NearStrip.new.Goals as goal
 
 stance_by : (s : Stance) {v w a b d e : List ℤ} → v ≡ w → a ≡ b → d ≡ e → IsStance s v a d → IsStance s w b e

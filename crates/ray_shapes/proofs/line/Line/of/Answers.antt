@@ -5,7 +5,8 @@ use Rattle.ray_grid.specs.Ranges.{IsGrid}
 use Rattle.ray_grid.specs.Lattice.{points_of, point_of}
 use Rattle.ray_shapes.specs.Lines.{position}
 use Rattle.ray_shapes.specs.Sizes.{IsLine}
-use Rattle.ray_shapes.proofs.OnLines.{has_first, is_line, position_is}
+use Rattle.ray_grid.proofs.Sizes.{has_first}
+use Rattle.ray_shapes.proofs.OnLines.{is_line, position_is}
 use Rattle.ray_shapes.proofs.line.Line.of.Goals as goal
 
 pub point-requires-clause-point : goal.point-requires-clause-point

@@ -3,10 +3,11 @@ use Rattle.space.specs.Ranges.{IsPoint}
 use Rattle.bern_form.specs.Sizes.{scale_limit}
 use Rattle.ray_grid.specs.Lattice.{point_at, point_of}
 use Rattle.ray_grid.specs.Ranges.{IsGrid}
+use Rattle.ray_grid.proofs.Sizes.{has_first}
 use Rattle.wanted_marks.specs.Rays.{RayOf}
 use Rattle.wanted_marks.specs.Ready.{IsReadyMove}
 use Rattle.wanted_marks.specs.Strips.{StripOf, way_to}
-use Rattle.wanted_marks.proofs.OnRays.{across_rays, has_first, line_of_ray, ray_fits}
+use Rattle.wanted_marks.proofs.OnRays.{across_rays, line_of_ray, ray_fits}
 use Rattle.wanted_marks.proofs.Stepping.{line_is, ray_is}
 use Rattle.wanted_marks.proofs.move_marker.MoveMarker.line_on.Goals as goal
 
