@@ -9,12 +9,12 @@ use vf_io::NoMemory;
 use vf_spans::Spans;
 
 /// Whether the index is among the bits, of which the lowest is index 0.
-fn is_marked(bits: u8, i: u32) -> bool {
+pub(crate) fn is_marked(bits: u8, i: u32) -> bool {
     i < 8 && (bits >> i) & 1 == 1
 }
 
 /// The set below 8 of these bits.
-fn set_of(alloc: Global, bits: u8) -> Result<Spans, NoMemory>
+pub(crate) fn set_of(alloc: Global, bits: u8) -> Result<Spans, NoMemory>
     ensures { IfOk result (λ s. length s ≡ 8) }
 {
     let mut set = Spans::new(alloc, 8);

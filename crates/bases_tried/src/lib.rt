@@ -1,4 +1,4 @@
-//! Tries of what all stands on: tangents, roots, the slabs of a cutter, counts, and the sets of one ray.
+//! Tries of what all stands on: sets by their ranges, tangents, roots, the slabs of a cutter, counts, and the sets of one ray.
 #![tactic(auto)]
 
 #[cfg(test)]
@@ -9,5 +9,7 @@ mod dexels;
 mod roots;
 #[cfg(test)]
 mod slabs;
+#[cfg(test)]
+mod spans;
 #[cfg(test)]
 mod tangents;

@@ -236,6 +236,3 @@ fn ends_at(edges: &[u32], index: u32) -> bool
 {
     !edges.is_empty() && edges[edges.len() - 1] == index
 }
-
-#[cfg(test)]
-mod tests;

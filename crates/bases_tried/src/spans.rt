@@ -1,25 +1,8 @@
-ghost use Rattle.std.specs.Prelude.{◌≡◌, IfOk, length};
-
-use super::*;
+use crate::dexels::{is_marked, set_of};
+use std::alloc::Global;
 use std::test::Fail;
-
-/// Whether the index is among the bits, of which the lowest is index 0.
-fn is_marked(bits: u8, i: u32) -> bool {
-    i < 8 && (bits >> i) & 1 == 1
-}
-
-/// The set below 8 of these bits.
-fn set_of(alloc: Global, bits: u8) -> Result<Spans, NoMemory>
-    ensures { IfOk result (λ s. length s ≡ 8) }
-{
-    let mut set = Spans::new(alloc, 8);
-    for i in 0..8 {
-        if is_marked(bits, i) {
-            set.push(i)?;
-        }
-    }
-    Ok(set)
-}
+use vf_io::NoMemory;
+use vf_spans::Spans;
 
 /// The bits of a set, and how many ranges it has.
 #[derive(Clone, Copy)]
