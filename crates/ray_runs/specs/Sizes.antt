@@ -7,6 +7,10 @@ use Rattle.bern_form.specs.Sizes.{axis_limit, offset_limit}
 abbrev pub moment_limit : ℕ
 moment_limit = 2 * ((2 * metre) * (2 * axis_unit))
 
+-- a scalar product of two cross products, without its last 32 bits
+abbrev pub short_limit : ℕ
+short_limit = 500000000000000
+
 -- a product of a component of a scaled offset and one of a scaled axis
 abbrev pub part_limit : ℕ
 part_limit = offset_limit * axis_limit
