@@ -10,7 +10,9 @@ pub mod Bending
 pub mod Dropping
 pub mod Widest
 pub mod OnRays
+pub mod Pitches
 pub mod OnStrips
+pub mod Steps
 pub mod Holding
 pub mod Amid
 pub mod Running

@@ -59,12 +59,6 @@ across_rays r X i j = record { x = stays (place_at r.grid 0 0) (place_at r.grid 
 across_rays r Y i j = record { x = stays (node_at r.grid 0 i) (node_at r.grid 0 i) (pos j); y = stays (place_at r.grid 1 0) (place_at r.grid 1 0) (pos j); z = moves (at r.grid.origin 2) r.grid.pitch j }
 across_rays r Z i j = record { x = stays (node_at r.grid 0 i) (node_at r.grid 0 i) (pos j); y = moves (at r.grid.origin 1) r.grid.pitch j; z = stays (place_at r.grid 2 0) (place_at r.grid 2 0) (pos j) }
 
--- the first points of the strips of a family
-pub across_strips : (grid : GridSize) (f : Family) (i : ℕ) → IsAlong (point_at grid f 0 0 0) (point_at grid f 0 0 0) (point_at grid f 1 0 0) (point_at grid f i 0 0) (pos i)
-across_strips grid X i = record { x = stays (place_at grid 0 0) (place_at grid 0 0) (pos i); y = moves (at grid.origin 1) grid.pitch i; z = stays (node_at grid 2 0) (node_at grid 2 0) (pos i) }
-across_strips grid Y i = record { x = moves (at grid.origin 0) grid.pitch i; y = stays (place_at grid 1 0) (place_at grid 1 0) (pos i); z = stays (node_at grid 2 0) (node_at grid 2 0) (pos i) }
-across_strips grid Z i = record { x = moves (at grid.origin 0) grid.pitch i; y = stays (node_at grid 1 0) (node_at grid 1 0) (pos i); z = stays (place_at grid 2 0) (place_at grid 2 0) (pos i) }
-
 no_way : (s z x : ℤ) → s *ℤ z -ℤ s *ℤ z ≡ s *ℤ x -ℤ s *ℤ x
 no_way s z x = let S = var 0 in let Z = var 1 in let X = var 2 in ring (s ∷ z ∷ x ∷ []) (sub (mul S Z) (mul S Z)) (sub (mul S X) (mul S X)) refl
 
@@ -111,17 +105,17 @@ forms_fit line l m p j k S forms sweep point first last few = record {
 }
 
 -- moments
-moment_small : (p a : List ℤ) → IsWithin offset_limit p → IsWithin axis_limit a → IsWithin (2 * part_limit) (moment p a)
+pub moment_small : (p a : List ℤ) → IsWithin offset_limit p → IsWithin axis_limit a → IsWithin (2 * part_limit) (moment p a)
 moment_small p a hp ha = (
   minor_small (at p 1) (at p 2) (at a 1) (at a 2) offset_limit axis_limit hp.1 hp.2 ha.1 ha.2,
   minor_small (at p 2) (at p 0) (at a 2) (at a 0) offset_limit axis_limit hp.2 hp.0 ha.2 ha.0,
   minor_small (at p 0) (at p 1) (at a 0) (at a 1) offset_limit axis_limit hp.0 hp.1 ha.0 ha.1,
 )
 
-outer_small : (x : List ℤ) → IsWithin (2 * part_limit) x → IsWithin turn_limit x
+pub outer_small : (x : List ℤ) → IsWithin (2 * part_limit) x → IsWithin turn_limit x
 outer_small x h = let h0 = h.0 in let h1 = h.1 in let h2 = h.2 in (omega (arith, h0), omega (arith, h1), omega (arith, h2))
 
-sum_small : (x y : List ℤ) → IsWithin (2 * part_limit) x → IsWithin (2 * part_limit) y → IsWithin turn_limit (vector_sum x y)
+pub sum_small : (x y : List ℤ) → IsWithin (2 * part_limit) x → IsWithin (2 * part_limit) y → IsWithin turn_limit (vector_sum x y)
 sum_small x y h k = (
   two_small (at x 0) (at y 0) (2 * part_limit) h.0 k.0,
   two_small (at x 1) (at y 1) (2 * part_limit) h.1 k.1,

@@ -81,3 +81,7 @@ quadratic_small a b c l f g h s = subst IsSmall (sym (quadratic_back a b c l f g
 pub quadratic_is : (r a b c l : ℤ) → FitsSigned w128 r → FitsSigned w128 a → FitsSigned w128 b → FitsSigned w128 c
     → r ≡ quadratic (to_z w128 (of_z w128 a)) (to_z w128 (of_z w128 b)) (to_z w128 (of_z w128 c)) l → to_z w128 (of_z w128 r) ≡ quadratic a b c l
 quadratic_is r a b c l e f g h s = to_z-of_z w128 r e ∙ s ∙ quadratic_back a b c l f g h
+
+-- a coefficient that is taken some times
+pub taken_small : (b k : ℤ) → FitsSigned w128 b → IsSmall (k *ℤ b) → IsSmall (k *ℤ to_z w128 (of_z w128 b))
+taken_small b k f h = subst (λ z. IsSmall (k *ℤ z)) (sym (to_z-of_z w128 b f)) h

@@ -10,12 +10,11 @@ use Rattle.bern_form.specs.Cells.{dot_on_cell}
 use Rattle.bern_form.specs.Forms.{scaled4}
 use Rattle.ray_runs.specs.Moments.{middle_moment, moment, moment_product, vector_product, vector_sum}
 use Rattle.ray_runs.proofs.Lagrange.{lagrange_at, less_squares}
-use Rattle.wanted_marks.specs.declared.family_sheet.FamilySheet.{FamilySheet}
 use Rattle.wanted_marks.specs.declared.line.Line.{Line}
 use Rattle.ray_runs.specs.declared.moments.Moments.{Moments}
 use Rattle.wanted_marks.specs.declared.sheet.Sheet.{Sheet}
 use Rattle.wanted_marks.specs.Lines.{HasForms, HasFormsBetween, IsLineFrom, IsThrough, IsThroughBetween, d_step, u_step}
-use Rattle.wanted_marks.specs.Sheets.{AreMoments, AreSheets, IsLineOn, IsSheet, IsSheetOn, end_at, first_at, middle_at, own_product, start_at}
+use Rattle.wanted_marks.specs.Sheets.{AreMoments, IsLineOn, IsSheet, end_at, first_at, middle_at, own_product, start_at}
 use Rattle.wanted_marks.specs.Ways.{IsAlong, scaled_vector, scaled_way}
 use Rattle.wanted_marks.specs.Widths.{IsTurn, moved3, moved5, quadratics, spread_form, whole_width}
 
@@ -251,13 +250,13 @@ pub record HasRay (sheet : Sheet) (m : Motion) (o v : List ℤ) (S : ℕ) (j : �
   pub first : first_at sheet j ≡ spread_form (pos 8) (d_step m o v S) (n_between m 0 S S) (u_between m o 0 S S) (u_step m v S)
   pub height : moved3 sheet.height sheet.height_side j ≡ u_between m o 0 S S
 
-pub ray_is : (sheet : Sheet) (m : Motion) (start beside v o : List ℤ) (S : ℕ) (j : ℤ) → IsSheet sheet m start v (scaled_way (pos S) start beside) S → IsAlong start start beside o j → HasRay sheet m o v S j
-ray_is sheet m start beside v o S j is on =
-    let s = pos S in let t = scaled_way s start beside in
+pub ray_by : (sheet : Sheet) (m : Motion) (start first next v o : List ℤ) (S : ℕ) (j : ℤ) → IsSheet sheet m start v (scaled_way (pos S) first next) S → IsAlong start first next o j → HasRay sheet m o v S j
+ray_by sheet m start first next v o S j is on =
+    let s = pos S in let t = scaled_way s first next in
     let P = offset_at m start (pos 0) s in let Q = offset_at m start s s in let A = axis_at m (pos 0) s in let C = axis_at m s s in
     let F = offset_at m o (pos 0) s in let T = offset_at m o s s in
-    let from = offset_moves m start start beside o (pos 0) s j on in
-    let to = offset_moves m start start beside o s s j on in
+    let from = offset_moves m start first next o (pos 0) s j on in
+    let to = offset_moves m start first next o s s j on in
     let e0 : start_at sheet j ≡ moment F A = ap₂ (λ x y. moved3 x y j) is.start.start_is is.side.start_is ∙ sym (moment_moves P A t j) ∙ ap (λ x. moment x A) (sym from) in
     let e1 : middle_at sheet j ≡ middle_moment F T A C = ap₂ (λ x y. moved3 x y j) is.start.middle_is is.side.middle_is ∙ sym (middle_moves P Q A C t j) ∙ ap₂ (λ x y. middle_moment x y A C) (sym from) (sym to) in
     let e2 : end_at sheet j ≡ moment T C = ap₂ (λ x y. moved3 x y j) is.start.end_is is.side.end_is ∙ sym (moment_moves Q C t j) ∙ ap (λ x. moment x C) (sym to) in
@@ -273,6 +272,9 @@ ray_is sheet m start beside v o S j is on =
       height = ap₂ (λ x y. moved3 x y j) is.height_is is.height_side_is ∙ sym U;
     }
 
+pub ray_is : (sheet : Sheet) (m : Motion) (start beside v o : List ℤ) (S : ℕ) (j : ℤ) → IsSheet sheet m start v (scaled_way (pos S) start beside) S → IsAlong start start beside o j → HasRay sheet m o v S j
+ray_is sheet m start beside v o S j is on = ray_by sheet m start start beside v o S j is on
+
 pub line_is : (line : Line) (sheet : Sheet) (m : Motion) (start v t o : List ℤ) (S : ℕ) (j : ℤ) → IsSheet sheet m start v t S → HasRay sheet m o v S j → IsLineOn line sheet j → IsThrough line m o v S
 line_is line sheet m start v t o S j is ray on = record {
   constant_is = on.constant_is ∙ ray.constant;
@@ -280,17 +282,4 @@ line_is line sheet m start v t o S j is ray on = record {
   second_is = on.second_is ∙ is.second_is;
   height_is = on.height_is ∙ ray.height;
   height_step_is = on.height_step_is ∙ is.height_step_is;
-}
-
--- sheet i of a family, which begins at the point o
-pub sheet_is : (sheet : Sheet) (sheets : FamilySheet) (m : Motion) (start v t e o : List ℤ) (S : ℕ) (i : ℤ) → AreSheets sheets m start v t e S → HasRay sheets.first_rays m o v S i → IsSheetOn sheet sheets i → IsSheet sheet m o v t S
-sheet_is sheet sheets m start v t e o S i are ray on = record {
-  start = record { start_is = on.start_is ∙ ray.start; middle_is = on.middle_is ∙ ray.middle; end_is = on.end_is ∙ ray.end };
-  side = record { start_is = on.side_start_is ∙ are.side.start_is; middle_is = on.side_middle_is ∙ are.side.middle_is; end_is = on.side_end_is ∙ are.side.end_is };
-  first_is = on.first_is ∙ ray.first;
-  first_side_is = on.first_side_is ∙ are.first_side_is;
-  second_is = on.second_is ∙ are.first_rays.second_is;
-  height_is = on.height_is ∙ ray.height;
-  height_step_is = on.height_step_is ∙ are.first_rays.height_step_is;
-  height_side_is = on.height_side_is ∙ are.height_side_is;
 }

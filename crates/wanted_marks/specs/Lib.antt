@@ -9,7 +9,7 @@ pub mod Runs
 pub mod Peaks
 pub mod Parts
 pub mod Sheets
-pub mod FamilySheets
+pub mod GridForms
 pub mod Limits
 pub mod Ready
 pub mod ReadyRay

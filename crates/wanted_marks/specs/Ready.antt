@@ -6,13 +6,13 @@ use Rattle.bern_form.specs.Sizes.{scale_limit}
 use Rattle.cutter_slabs.specs.Rising.{IsRising}
 use Rattle.cutter_slabs.specs.Stacks.{inner_stack, outer_stack}
 use Rattle.wanted_marks.specs.declared.ready_move.ReadyMove.{ReadyMove}
-use Rattle.wanted_marks.specs.FamilySheets.{AreFamilies}
+use Rattle.wanted_marks.specs.GridForms.{AreGridForms}
 use Rattle.wanted_marks.specs.Limits.{AreLimits}
 use Rattle.wanted_marks.specs.Rays.{MoveOf, is_possible_in, is_sure_in}
 use Rattle.wanted_marks.specs.Widths.{IsTurn}
 
 -- The depth is one that points are marked at, the motion is valid, a point that is sure is possible too, the slabs rise, and what is kept
--- of the move is right: the scale, the axis at both ends with n, the limits, and the sheets of the strips of a grid.
+-- of the move is right: the scale, the axis at both ends with n, the limits, and the forms of the points of a grid.
 pub record IsReadyMove (ready : ReadyMove) (v : MoveOf) : Type 0 where
   pub shallow : v.depth ≤ 10
   pub valid : IsSweep v.motion
@@ -24,4 +24,4 @@ pub record IsReadyMove (ready : ReadyMove) (v : MoveOf) : Type 0 where
   pub turn : IsTurn ready.turn.first ready.turn.last ready.turn.n.c v.motion ready.scale
   pub limits_are : AreLimits ready.limits v
   pub limits_small : All IsSmall ready.limits
-  pub families : AreFamilies ready.families v.motion ready.scale
+  pub forms : AreGridForms ready.forms v.motion ready.forms.grid ready.scale

@@ -8,7 +8,6 @@ use Rattle.bern_form.specs.Forms.{IsSmall, scaled4}
 use Rattle.bern_form.specs.Sizes.{IsBounded2, axis_limit, offset_limit}
 use Rattle.ray_runs.specs.Moments.{middle_moment, moment, vector_product}
 use Rattle.ray_runs.specs.Sizes.{turn_limit}
-use Rattle.wanted_marks.specs.declared.family_sheet.FamilySheet.{FamilySheet}
 use Rattle.wanted_marks.specs.declared.line.Line.{Line}
 use Rattle.ray_runs.specs.declared.moments.Moments.{Moments}
 use Rattle.wanted_marks.specs.declared.sheet.Sheet.{Sheet}
@@ -78,31 +77,3 @@ pub record IsLineOn (line : Line) (sheet : Sheet) (j : ℤ) : Type 0 where
   pub second_is : line.second.c ≡ sheet.second.c
   pub height_is : line.height ≡ moved3 sheet.height sheet.height_side j
   pub height_step_is : line.height_step ≡ sheet.height_step
-
--- The sheets of the strips of a family: the first one begins at the point s, along a line a sheet goes on by the step v, from a line to
--- the next by the step t, and the next sheet begins a step e further.
-pub record AreSheets (sheets : FamilySheet) (m : Motion) (s v t e : List ℤ) (S : ℕ) : Type 0 where
-  pub first_rays : IsSheet sheets.first_rays m s v e S
-  pub side : AreSteps sheets.side m t S
-  pub first_side_is : sheets.first_side.c ≡ spread_form (pos 8) (dot_on_cell t t v v) (n_between m 0 S S) (u_step m t S) (u_step m v S)
-  pub height_side_is : sheets.height_side ≡ u_step m t S
-
--- the first sheet begins at the point `start`; a line goes on to `next`, the next line begins at `beside`, and the next sheet at `across`
-abbrev pub AreSheetsThrough : FamilySheet → Motion → List ℤ → List ℤ → List ℤ → List ℤ → ℕ → Type 0
-AreSheetsThrough sheets m start next beside across S =
-    AreSheets sheets m start (scaled_way (pos S) start next) (scaled_way (pos S) start beside) (scaled_way (pos S) start across) S
-
--- sheet i of them
-pub record IsSheetOn (sheet : Sheet) (sheets : FamilySheet) (i : ℤ) : Type 0 where
-  pub start_is : sheet.start.start ≡ start_at sheets.first_rays i
-  pub middle_is : sheet.start.middle ≡ middle_at sheets.first_rays i
-  pub end_is : sheet.start.end ≡ end_at sheets.first_rays i
-  pub side_start_is : sheet.side.start ≡ sheets.side.start
-  pub side_middle_is : sheet.side.middle ≡ sheets.side.middle
-  pub side_end_is : sheet.side.end ≡ sheets.side.end
-  pub first_is : sheet.first.c ≡ first_at sheets.first_rays i
-  pub first_side_is : sheet.first_side.c ≡ sheets.first_side.c
-  pub second_is : sheet.second.c ≡ sheets.first_rays.second.c
-  pub height_is : sheet.height ≡ moved3 sheets.first_rays.height sheets.first_rays.height_side i
-  pub height_step_is : sheet.height_step ≡ sheets.first_rays.height_step
-  pub height_side_is : sheet.height_side ≡ sheets.height_side

@@ -1,8 +1,7 @@
 //! The marks of a ray's wanted points, a word of 64 at a time.
 #![tactic(auto)]
 
-mod families;
-mod family_sheet;
+mod grid_forms;
 mod held;
 mod hull;
 mod limits;
@@ -20,6 +19,7 @@ mod scaled;
 mod sets;
 mod sheet;
 mod sides;
+mod step_forms;
 mod strip_marker;
 mod turn;
 mod word;

@@ -4,6 +4,7 @@ ghost use Rattle.bern_form.specs.Forms.{scaled4};
 ghost use Rattle.bern_form.specs.Sizes.{IsBounded2, axis_limit, offset_limit};
 ghost use Rattle.ray_runs.specs.Moments.{vector_product};
 ghost use Rattle.ray_runs.specs.Sizes.{turn_limit};
+ghost use Rattle.wanted_marks.specs.Ways.{scaled_vector};
 ghost use Rattle.wanted_marks.specs.Widths.{moved3};
 
 use ray_runs::Moments;
@@ -61,17 +62,47 @@ pub fn moved(x: &Moments, side: &Moments, j: u32) -> Moments
     }
 }
 
-/// A moment once more.
+/// A component of a coefficient, or a coefficient of u, taken k times.
 #[inline]
-pub fn copied(x: &Moments) -> Moments
-    ensures start { result.start ≡ x.now.start }
-    ensures middle { result.middle ≡ x.now.middle }
-    ensures end { result.end ≡ x.now.end }
+fn taken(b: i64, k: u32) -> i64
+    requires { unsigned_abs (pos k *ℤ b) ≤ 2 * turn_limit }
+    ensures { result ≡ pos k *ℤ b }
+{
+    linear(0, b, k)
+}
+
+/// A coefficient taken k times.
+#[inline]
+fn vector_times(b: &[i64; 3], k: u32) -> [i64; 3]
+    requires { IsWithin turn_limit (scaled_vector (pos k) b.now) }
+    ensures value { result ≡ scaled_vector (pos k) b.now }
+    ensures small { IsWithin turn_limit result }
+{
+    [taken(b[0], k), taken(b[1], k), taken(b[2], k)]
+}
+
+/// What k steps add to u, where one adds a form.
+pub fn heights_times(b: &[i64; 3], k: u32) -> [i64; 3]
+    requires { IsBounded2 (3 * (offset_limit * axis_limit)) (scaled_vector (pos k) b.now) }
+    ensures { result ≡ scaled_vector (pos k) b.now }
+{
+    [taken(b[0], k), taken(b[1], k), taken(b[2], k)]
+}
+
+/// What k steps add to a moment, where one adds another one.
+#[inline]
+pub fn times(x: &Moments, k: u32) -> Moments
+    requires start { IsWithin turn_limit (scaled_vector (pos k) x.now.start) }
+    requires middle { IsWithin turn_limit (scaled_vector (pos k) x.now.middle) }
+    requires end { IsWithin turn_limit (scaled_vector (pos k) x.now.end) }
+    ensures start { result.start ≡ scaled_vector (pos k) x.now.start }
+    ensures middle { result.middle ≡ scaled_vector (pos k) x.now.middle }
+    ensures end { result.end ≡ scaled_vector (pos k) x.now.end }
 {
     Moments {
-        start: x.start,
-        middle: x.middle,
-        end: x.end,
+        start: vector_times(&x.start, k),
+        middle: vector_times(&x.middle, k),
+        end: vector_times(&x.end, k),
     }
 }
 

@@ -1,4 +1,4 @@
-use crate::family_sheet::FamilySheet;
+use crate::grid_forms::GridForms;
 use crate::held::Held;
 use crate::hull::{are_behind, are_beside};
 use crate::limits::diameter_of;
@@ -48,7 +48,7 @@ impl<'a> MoveMarker<'a> {
     ghost use Rattle.ray_grid.specs.Lattice.{IsRay, nodes_of, point_of, points_of};
     ghost use Rattle.bern_form.specs.Forms.{IsSmall};
     ghost use Rattle.space.specs.Vectors.{at};
-    ghost use Rattle.wanted_marks.specs.FamilySheets.{IsFamilySheet};
+    ghost use Rattle.wanted_marks.specs.GridForms.{AreGridForms};
     ghost use Rattle.wanted_marks.specs.Lines.{FitsAt, HasFormsIn, IsLineOf, bend_over, height_at, width_at};
     ghost use Rattle.wanted_marks.specs.Nears.{AreInnerBounds, IsNear};
     ghost use Rattle.wanted_marks.specs.Opens.{IsOpenAt};
@@ -305,27 +305,30 @@ impl<'a> MoveMarker<'a> {
         ))
     }
 
-    /// The sheet through the points of a strip, from those of the strips of its family.
-    fn sheet_on(&self, sheets: &FamilySheet, grid: &Grid, family: Family, i: u32) -> Sheet
+    /// The sheet through the points of a strip, from the forms of the grid's points.
+    fn sheet_on(&self, forms: &GridForms, grid: &Grid, family: Family, i: u32) -> Sheet
         requires strip { i < nodes_of grid.now (first_axis family) }
-        requires sheets { IsFamilySheet sheets.now self.now.motion grid.now family (2 ^ self.now.depth) }
+        requires forms { AreGridForms forms.now self.now.motion grid.now (2 ^ self.now.depth) }
         ensures { IsSheetOf result record { sweep = self.now; grid = grid.now; family = family; i = i } }
     {
-        // The first point of the strip lies within a metre; a move is valid by its type.
+        // The first point of the strip lies within a metre; a grid, which has a point on each ray, and a move are valid by their types.
+        let _sized = &grid.origin;
         let _first = grid.point(&Ray { family, i, j: 0 }, 0);
         let _valid = &self.depth;
-        sheets.strip(i)
+        forms.strip(family, i)
     }
 
-    /// The sheet through the points of a strip, where it has two rays of two points or more: from those of its family where they were
-    /// made, and else by its own points.
+    /// The sheet through the points of a strip: from the forms of the grid's points where they are those of this grid, and else, where
+    /// the strip has two rays of two points or more, by its own points.
     pub(crate) fn strip_sheet(&self, grid: &Grid, family: Family, i: u32) -> Option<Sheet>
         requires { i < nodes_of grid.now (first_axis family) }
         ensures { IfSome result (λ sheet. IsSheetOf sheet record { sweep = self.now; grid = grid.now; family = family; i = i }) }
     {
-        match self.ready.families.sheets(grid, family) {
-            Some(sheets) => Some(self.sheet_on(sheets, grid, family, i)),
-            None => self.sheet_of(grid, family, i),
+        let forms = &self.ready.forms;
+        if forms.is_of(grid) {
+            Some(self.sheet_on(forms, grid, family, i))
+        } else {
+            self.sheet_of(grid, family, i)
         }
     }
 

@@ -2,7 +2,7 @@ ghost use Rattle.std.specs.Prelude.{◌≤◌};
 ghost use Rattle.wanted_marks.specs.Rays.{move_of};
 ghost use Rattle.wanted_marks.specs.Ready.{IsReadyMove};
 
-use crate::families::Families;
+use crate::grid_forms::GridForms;
 use crate::limits::{greatest_diameter, limits_of};
 use crate::long::is_long;
 use crate::turn::Turn;
@@ -11,15 +11,15 @@ use cutter_slabs::Stacks;
 use ray_grid::Grid;
 
 /// What is reckoned of a move once, and is the same for all points that it marks: how the axis turns, the limits beyond which a point
-/// is beside every outer slab throughout the move, whether it is long, and the sheets of the strips of a grid. A move takes some 2,250
-/// bytes for it, of which the sheets of the three families are 2,000.
+/// is beside every outer slab throughout the move, whether it is long, and the forms of the points of a grid. A move takes some 1,400
+/// bytes for it, of which the forms are 1,150.
 #[derive(Drop)]
 pub struct ReadyMove {
     pub(crate) scale: u32,
     pub(crate) turn: Turn,
     pub(crate) limits: [i128; 5],
     pub(crate) is_long: bool,
-    pub(crate) families: Families,
+    pub(crate) forms: GridForms,
 }
 
 impl ReadyMove {
@@ -36,13 +36,13 @@ impl ReadyMove {
         let turn = Turn::of_sweep(sweep, scale);
         let diameter = greatest_diameter(stacks.outer());
         let limits = limits_of(&turn.n, scale, diameter);
-        let families = Families::of_grid(grid, sweep, &turn, scale);
+        let forms = GridForms::of_grid(grid, sweep, &turn, scale);
         ReadyMove {
             scale,
             turn,
             limits,
             is_long: is_long(sweep, diameter),
-            families,
+            forms,
         }
     }
 }

@@ -42,6 +42,16 @@ pub fn scaled_way(scale: u32, from: &[i32; 3], to: &[i32; 3]) -> [i64; 3]
     ]
 }
 
+/// A step of a grid, times the scale.
+pub fn scaled_step(scale: u32, step: i32) -> i64
+    requires scale { scale ≤ scale_limit }
+    requires step { unsigned_abs step ≤ 1000000 }
+    ensures value { result ≡ pos scale *ℤ step }
+    ensures small { unsigned_abs result ≤ offset_limit }
+{
+    weighted(scale, step)
+}
+
 /// A component of the axis, times the scale.
 #[inline]
 fn axis_along(scale: u32, axis: &[i32; 3], i: usize) -> i64

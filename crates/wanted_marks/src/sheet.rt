@@ -1,6 +1,6 @@
 ghost use Rattle.std.specs.Prelude.{◌≡◌, ◌≤◌, pos, ◌+ℤ◌, ◌*ℤ◌, All};
 ghost use Rattle.space.specs.Ranges.{IsPoint};
-ghost use Rattle.bern_form.specs.Forms.{IsSmall};
+ghost use Rattle.bern_form.specs.Forms.{IsSmall, scaled4};
 ghost use Rattle.bern_form.specs.Sizes.{scale_limit};
 ghost use Rattle.wanted_marks.specs.Lines.{FitsAt, heights_at, width_at};
 ghost use Rattle.wanted_marks.specs.Sheets.{FitsOn, IsLineOn, IsSheetThrough};
@@ -37,6 +37,32 @@ pub fn moved4(a: &Form4, b: &Form4, l: u32) -> Form4
             linear(a2, b2, l),
             linear(a3, b3, l),
             linear(a4, b4, l),
+        ],
+    }
+}
+
+/// A coefficient taken k times.
+#[inline]
+fn taken(b: i128, k: u32) -> i128
+    requires { IsSmall (pos k *ℤ b) }
+    ensures { result ≡ pos k *ℤ b }
+{
+    linear(0, b, k)
+}
+
+/// A form of degree 4 taken k times.
+pub fn times4(b: &Form4, k: u32) -> Form4
+    requires { All IsSmall (scaled4 (pos k) b.now.c) }
+    ensures { result.c ≡ scaled4 (pos k) b.now.c }
+{
+    let [b0, b1, b2, b3, b4] = b.c;
+    Form4 {
+        c: [
+            taken(b0, k),
+            taken(b1, k),
+            taken(b2, k),
+            taken(b3, k),
+            taken(b4, k),
         ],
     }
 }

@@ -1,10 +1,12 @@
-use Rattle.std.proofs.Common.{subst}
-use Rattle.wanted_marks.specs.FamilySheets.{IsFamilySheet}
+use Rattle.std.proofs.Common.{ℕ, subst}
+use Rattle.ray_grid.specs.Grids.{GridSize}
+use Rattle.wanted_marks.specs.GridForms.{AreGridForms}
 use Rattle.wanted_marks.specs.Ready.{IsReadyMove}
 use Rattle.wanted_marks.proofs.move_marker.MoveMarker.strip_sheet.Goals as goal
 
-pub sheet_on-requires-clause-sheets : goal.sheet_on-requires-clause-sheets
-sheet_on-requires-clause-sheets c =
-    let s = c.self.inside in let v = c.args.self.now in
+pub sheet_on-requires-clause-forms : goal.sheet_on-requires-clause-forms
+sheet_on-requires-clause-forms c =
+    let s = c.self.inside in let v = c.args.self.now in let forms = s.ready.now.forms in
     let ready = subst (IsReadyMove s.ready.now) c.self.view_is c.self.invariant in
-    subst (IsFamilySheet c.in-Some.sheets.now v.motion c.args.grid.now c.args.family) ready.scale_is (c.in-Some.ensures v.motion s.ready.now.scale ready.families)
+    let same = subst (λ (g : GridSize). AreGridForms forms v.motion g s.ready.now.scale) (c.is_of.ensures c.if-is_of.true) ready.forms in
+    subst (λ (k : ℕ). AreGridForms forms v.motion c.args.grid.now k) ready.scale_is same

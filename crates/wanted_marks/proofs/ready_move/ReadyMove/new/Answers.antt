@@ -10,6 +10,8 @@ use Rattle.bern_form.specs.Slab.{SlabSize}
 use Rattle.cutter_slabs.specs.Rising.{IsRising}
 use Rattle.cutter_marks.specs.MarkBy.{is_possible_by, is_sure_by}
 use Rattle.axis_cells.specs.Exclusion.{squared}
+use Rattle.ray_grid.specs.Grids.{GridSize}
+use Rattle.wanted_marks.specs.GridForms.{AreGridForms}
 use Rattle.wanted_marks.specs.Limits.{IsNoWider, all_not_below_zero}
 use Rattle.wanted_marks.proofs.Widest.{all_within}
 use Rattle.wanted_marks.proofs.ready_move.ReadyMove.new.Goals as goal
@@ -39,5 +41,5 @@ returns c =
       turn = turn.ensures;
       limits_are = all_within S widest (n_between m 0 S S) c.limits_of-limits.result _ limits (subst (λ (l : List SlabSize). All (IsNoWider widest) l) c.outer.ensures.stack c.greatest_diameter-diameter.ensures.greatest);
       limits_small = c.limits_of-limits.ensures.small;
-      families = c.of_grid-families.ensures;
+      forms = subst (λ (g : GridSize). AreGridForms c.of_grid-forms.result m g scale.result) (sym c.of_grid-forms.ensures.grid) c.of_grid-forms.ensures.forms;
     }
