@@ -75,4 +75,3 @@ pub first_ray : (g : GridSize) (f : Family) → IsGrid g → IsRay g (record { f
 first_ray g X is = record { first = some_nodes g 1 is (omega arith); second = some_nodes g 2 is (omega arith) }
 first_ray g Y is = record { first = some_nodes g 0 is (omega arith); second = some_nodes g 2 is (omega arith) }
 first_ray g Z is = record { first = some_nodes g 0 is (omega arith); second = some_nodes g 1 is (omega arith) }
-

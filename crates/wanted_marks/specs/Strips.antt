@@ -1,6 +1,5 @@
 -- The rays of one strip of a grid against one move of a cutter, ready for marks.
-use Rattle.std.specs.Prelude.{ℕ, ◌^◌, ◌<◌, Option, List, ℤ, pos}
-use Rattle.std.specs.Option.{IfSome}
+use Rattle.std.specs.Prelude.{ℕ, ◌^◌, ◌<◌, List, ℤ, pos}
 use Rattle.space.specs.Ranges.{IsWithin}
 use Rattle.bern_form.specs.Sizes.{offset_limit}
 use Rattle.ray_grid.specs.Grids.{GridSize}
@@ -36,7 +35,7 @@ pub record IsSheetOf (sheet : Sheet) (s : StripOf) : Type 0 where
   pub forms : IsSheetThrough sheet s.sweep.motion (strip_point s 0 0) (strip_point s 0 1) (strip_point s 1 0) (2 ^ s.sweep.depth)
   pub within : IsWithin offset_limit (way_to s 0 1 (2 ^ s.sweep.depth))
 
--- it is a strip of the grid, and the sheet that is kept, if any, runs through its points
-pub record IsReadyStrip (sheet : Option Sheet) (s : StripOf) : Type 0 where
+-- it is a strip of the grid, and the sheet runs through its points
+pub record IsReadyStrip (sheet : Sheet) (s : StripOf) : Type 0 where
   pub first : s.i < nodes_of s.grid (first_axis s.family)
-  pub sheet_of : IfSome sheet (λ x. IsSheetOf x s)
+  pub sheet_of : IsSheetOf sheet s

@@ -1,21 +1,17 @@
 ghost use Rattle.std.specs.Prelude.{◌≡◌, ◌*◌, ◌<◌, ◌≤◌, ℤ, pos, ◌+ℤ◌, ◌*ℤ◌, int_lt, unsigned_abs};
 ghost use Rattle.std.specs.Int.{int_wrap};
 ghost use mir.Syntax.{w128};
-ghost use Rattle.space.specs.Ranges.{IsPoint, IsWithin};
+ghost use Rattle.space.specs.Ranges.{IsWithin};
 ghost use Rattle.space.specs.Vectors.{at};
 ghost use Rattle.bern_form.specs.Forms.{IsSmall, all_negative, all_positive, difference4, scaled4};
-ghost use Rattle.bern_form.specs.Sizes.{axis_limit, offset_limit, scale_limit};
+ghost use Rattle.bern_form.specs.Sizes.{axis_limit, offset_limit};
 ghost use Rattle.ray_runs.specs.Sizes.{turn_limit};
-ghost use Rattle.wanted_marks.specs.Ways.{scaled_way};
-ghost use Rattle.wanted_marks.specs.Lines.{FitsAt, IsLineFrom, IsThrough, coefficient_at, height_at, heights_at, width_at};
+ghost use Rattle.wanted_marks.specs.Lines.{FitsAt, IsLineFrom, coefficient_at, height_at, heights_at, width_at};
 ghost use Rattle.wanted_marks.specs.Peaks.{IsPeak};
-ghost use Rattle.wanted_marks.specs.Widths.{IsTurn, quadratic};
+ghost use Rattle.wanted_marks.specs.Widths.{quadratic};
 
 use crate::moments::{eight_products, linear};
 use crate::peak::peak_of;
-use crate::scaled::scaled_way;
-use crate::turn::Turn;
-use axis_cells::Sweep;
 use bern_form::Form4;
 use ray_runs::{Moments, heights};
 use width_bisect::product;
@@ -82,26 +78,6 @@ impl Line {
             height: heights(from, to, a, c),
             height_step: heights(way, way, a, c),
         }
-    }
-
-    /// The line through two points, on the whole move.
-    pub fn through(
-        start: &[i32; 3],
-        next: &[i32; 3],
-        sweep: &Sweep,
-        turn: &Turn,
-        scale: u32,
-    ) -> Line
-        requires start { IsPoint start.now }
-        requires next { IsPoint next.now }
-        requires turn { IsTurn turn.now.first turn.now.last turn.now.n.c sweep.now scale }
-        requires scale { scale ≤ scale_limit }
-        ensures { IsThrough result sweep.now start.now (scaled_way (pos scale) start.now next.now) scale }
-    {
-        let from = scaled_way(scale, &sweep.from, start);
-        let to = scaled_way(scale, &sweep.to, start);
-        let way = scaled_way(scale, start, next);
-        Line::between(&from, &to, &way, &turn.first, &turn.last)
     }
 
     /// A coefficient of the width form, of the point l steps on.

@@ -11,7 +11,6 @@ use crate::ready_move::ReadyMove;
 use crate::sheet::{Sheet, heights_on, width_on};
 use crate::strip_marker::StripMarker;
 use axis_cells::{Mark, Sweep};
-use box_bisect::mark_point_uncounted;
 use cutter_slabs::Stacks;
 use ray_grid::{Family, Grid, Ray};
 use ray_runs::{OpenStretch, Run, open_stretch, sure_run};
@@ -204,15 +203,6 @@ impl<'a> MoveMarker<'a> {
         )
     }
 
-    /// The mark of one point.
-    pub(crate) fn mark_point(&self, point: [i32; 3]) -> Mark
-        requires { IsPoint point }
-        ensures sure { tells_sure result ≡ is_sure_in self.now point }
-        ensures possible { tells_possible result ≡ is_possible_in self.now point }
-    {
-        mark_point_uncounted(self.sweep, self.stacks, point, self.depth)
-    }
-
     /// What is asked of the point l steps on along a line, by the forms that the line has there. The point is below the outer slab with the
     /// number `high` throughout the move, where there is one. Where it is only asked whether the point is sure, that is all that the mark
     /// tells.
@@ -258,53 +248,6 @@ impl<'a> MoveMarker<'a> {
         )
     }
 
-    /// The line through the points of a ray, where it has two or more.
-    pub(crate) fn line_of(&self, grid: &Grid, ray: &Ray) -> Option<Line>
-        requires { IsRay grid.now ray.now }
-        ensures { IfSome result (λ line. IsLineOf line record { sweep = self.now; grid = grid.now; ray = ray.now }) }
-    {
-        let points = grid.points(ray.family);
-        if points < 2 {
-            return None;
-        }
-        let start = grid.point(ray, 0);
-        let next = grid.point(ray, 1);
-        // The points between the first and the last lie within a metre as these two do.
-        let _last = grid.point(ray, points - 1);
-        Some(Line::through(
-            &start,
-            &next,
-            self.sweep,
-            &self.ready.turn,
-            self.ready.scale,
-        ))
-    }
-
-    /// The sheet through the points of a strip, where it has two rays of two points or more.
-    fn sheet_of(&self, grid: &Grid, family: Family, i: u32) -> Option<Sheet>
-        ensures { IfSome result (λ sheet. IsSheetOf sheet record { sweep = self.now; grid = grid.now; family = family; i = i }) }
-    {
-        let first = Ray { family, i, j: 0 };
-        let second = Ray { family, i, j: 1 };
-        if !grid.has_point(&first, 1) {
-            return None;
-        }
-        if !grid.has_point(&second, 0) {
-            return None;
-        }
-        let start = grid.point(&first, 0);
-        let next = grid.point(&first, 1);
-        let beside = grid.point(&second, 0);
-        Some(Sheet::through(
-            &start,
-            &next,
-            &beside,
-            self.sweep,
-            &self.ready.turn,
-            self.ready.scale,
-        ))
-    }
-
     /// The sheet through the points of a strip, from the forms of the grid's points.
     fn sheet_on(&self, forms: &GridForms, grid: &Grid, family: Family, i: u32) -> Sheet
         requires strip { i < nodes_of grid.now (first_axis family) }
@@ -318,18 +261,18 @@ impl<'a> MoveMarker<'a> {
         forms.strip(family, i)
     }
 
-    /// The sheet through the points of a strip: from the forms of the grid's points where they are those of this grid, and else, where
-    /// the strip has two rays of two points or more, by its own points.
-    pub(crate) fn strip_sheet(&self, grid: &Grid, family: Family, i: u32) -> Option<Sheet>
+    /// The sheet through the points of a strip, from the forms of its grid's points. Where those that are ready are another grid's, they are
+    /// made.
+    pub(crate) fn strip_sheet(&self, grid: &Grid, family: Family, i: u32) -> Sheet
         requires { i < nodes_of grid.now (first_axis family) }
-        ensures { IfSome result (λ sheet. IsSheetOf sheet record { sweep = self.now; grid = grid.now; family = family; i = i }) }
+        ensures { IsSheetOf result record { sweep = self.now; grid = grid.now; family = family; i = i } }
     {
         let forms = &self.ready.forms;
         if forms.is_of(grid) {
-            Some(self.sheet_on(forms, grid, family, i))
-        } else {
-            self.sheet_of(grid, family, i)
+            return self.sheet_on(forms, grid, family, i);
         }
+        let made = GridForms::of_grid(grid, self.sweep, &self.ready.turn, self.ready.scale);
+        self.sheet_on(&made, grid, family, i)
     }
 
     /// The line through the points of a ray, from the sheet of its strip.
@@ -346,6 +289,15 @@ impl<'a> MoveMarker<'a> {
         let _last = grid.point(ray, points - 1);
         let _valid = &self.depth;
         sheet.line(ray.j)
+    }
+
+    /// The line through the points of a ray.
+    pub(crate) fn line_of(&self, grid: &Grid, ray: &Ray) -> Line
+        requires { IsRay grid.now ray.now }
+        ensures { IsLineOf result record { sweep = self.now; grid = grid.now; ray = ray.now } }
+    {
+        let sheet = self.strip_sheet(grid, ray.family, ray.i);
+        self.line_on(&sheet, grid, ray)
     }
 
     /// The last sample of the point l steps on.

@@ -19,7 +19,7 @@ pub struct RayMarker<'a> {
     mover: &'a MoveMarker<'a>,
     grid: &'a Grid,
     ray: Ray,
-    line: Option<Line>,
+    line: Line,
 }
 
 impl<'a> Model for RayMarker<'a> {
@@ -57,15 +57,15 @@ impl<'a> RayMarker<'a> {
         RayMarker::with_line(mover, grid, ray, line)
     }
 
-    /// With the line through its points, where that is known.
+    /// With the line through its points.
     pub(crate) fn with_line(
         mover: &'a MoveMarker<'a>,
         grid: &'a Grid,
         ray: Ray,
-        line: Option<Line>,
+        line: Line,
     ) -> RayMarker<'a>
         requires ray { IsRay grid.now ray }
-        requires line { IfSome line (λ x. IsLineOf x record { sweep = mover.now; grid = grid.now; ray = ray }) }
+        requires line { IsLineOf line record { sweep = mover.now; grid = grid.now; ray = ray } }
         ensures { result ≡ record { sweep = mover.now; grid = grid.now; ray = ray } }
     {
         let _few = grid.points(ray.family);
@@ -85,10 +85,7 @@ impl<'a> RayMarker<'a> {
         requires within { m < points_of self.now.grid self.now.ray.family }
         ensures { IsTrue result → (x : ℕ) → l ≤ x → x ≤ m → IsClearOf self.now.sweep (point_of self.now.grid self.now.ray x) }
     {
-        match &self.line {
-            None => false,
-            Some(line) => self.mover.are_apart(line, l, m),
-        }
+        self.mover.are_apart(&self.line, l, m)
     }
 
     /// Whether the points of these bits are apart, for which all points from the lowest of them to the highest have to be.
@@ -127,12 +124,11 @@ impl<'a> RayMarker<'a> {
         self.mover.mark_on(line, l, point, high, asked)
     }
 
-    /// What is asked of the point at an index, by the line through the points. `near` is the slab that was looked for last, in
+    /// What is asked of the point at an index. `near` is the slab that was looked for last, in
     /// whose place comes that at the point's height, where it is looked for.
     #[inline]
-    fn mark_along(&self, line: &Line, l: u32, near: &mut Near, asked: Asked) -> Told
+    fn mark_at(&self, l: u32, near: &mut Near, asked: Asked) -> Told
         requires within { l < points_of self.now.grid self.now.ray.family }
-        requires line { IsLineOf line.now self.now }
         requires near { IsNear near.old self.now.sweep }
         ensures near { IsNear near.new self.now.sweep }
         ensures sure { tells_sure result.mark ≡ is_sure_at self.now l }
@@ -140,6 +136,7 @@ impl<'a> RayMarker<'a> {
         ensures index { IfSome result.held (λ held. held.index ≡ l) }
         ensures held { IfSome result.held (λ held. IsHeldLast held self.now) }
     {
+        let line = &self.line;
         let last = self.mover.last_sample(line, l);
         if self.mover.is_apart(line, l, &last) {
             return Told {
@@ -163,26 +160,6 @@ impl<'a> RayMarker<'a> {
         }
     }
 
-    /// What is asked of the point at an index.
-    #[inline]
-    fn mark_at(&self, l: u32, near: &mut Near, asked: Asked) -> Told
-        requires within { l < points_of self.now.grid self.now.ray.family }
-        requires near { IsNear near.old self.now.sweep }
-        ensures near { IsNear near.new self.now.sweep }
-        ensures sure { tells_sure result.mark ≡ is_sure_at self.now l }
-        ensures possible { asked ≡ Asked.Whole → tells_possible result.mark ≡ is_possible_at self.now l }
-        ensures index { IfSome result.held (λ held. held.index ≡ l) }
-        ensures held { IfSome result.held (λ held. IsHeldLast held self.now) }
-    {
-        match &self.line {
-            None => Told {
-                mark: self.mover.mark_point(self.grid.point(&self.ray, l)),
-                held: None,
-            },
-            Some(line) => self.mark_along(line, l, near, asked),
-        }
-    }
-
     /// Whether the points from one that is held at its last sample to another are all sure.
     #[inline]
     fn is_run(&self, low: &Held, high: &Held) -> bool
@@ -190,10 +167,9 @@ impl<'a> RayMarker<'a> {
         requires high { IsHeldLast high.now self.now }
         ensures { IsTrue result → IsRun self.now low.now.index high.now.index }
     {
-        match &self.line {
-            None => false,
-            Some(_line) => self.mover.is_run(low, high),
-        }
+        // A line runs through the points by the type, which is known where a field is seen.
+        let _line = &self.line;
+        self.mover.is_run(low, high)
     }
 
     /// Marks one of the points that are left, and gives what is told of it.
@@ -286,9 +262,7 @@ impl<'a> RayMarker<'a> {
     {
         // The points are few by the type, which is known where a field is seen.
         let _few = &self.ray;
-        let Some(line) = &self.line else {
-            return 0;
-        };
+        let line = &self.line;
         let top = first + highest_bit(rest);
         let mut near = near;
         let Some(low) = self.mover.held_first(line, first + b, &mut near) else {

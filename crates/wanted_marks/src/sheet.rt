@@ -1,18 +1,13 @@
 ghost use Rattle.std.specs.Prelude.{◌≡◌, ◌≤◌, pos, ◌+ℤ◌, ◌*ℤ◌, All};
-ghost use Rattle.space.specs.Ranges.{IsPoint};
 ghost use Rattle.bern_form.specs.Forms.{IsSmall, scaled4};
-ghost use Rattle.bern_form.specs.Sizes.{scale_limit};
 ghost use Rattle.wanted_marks.specs.Lines.{FitsAt, heights_at, width_at};
-ghost use Rattle.wanted_marks.specs.Sheets.{FitsOn, IsLineOn, IsSheetThrough};
-ghost use Rattle.wanted_marks.specs.Widths.{IsTurn, moved5};
+ghost use Rattle.wanted_marks.specs.Sheets.{FitsOn, IsLineOn};
+ghost use Rattle.wanted_marks.specs.Widths.{moved5};
 
 use crate::line::{Line, quadratic, wrapped};
-use crate::moments::{eight_products, heights_moved, moved};
-use crate::scaled::scaled_way;
-use crate::turn::Turn;
-use axis_cells::Sweep;
+use crate::moments::{heights_moved, moved};
 use bern_form::{Form2, Form4};
-use ray_runs::{Moments, heights};
+use ray_runs::Moments;
 
 /// a + b l. The parts may be larger than what fits: where the whole fits, what wrapped comes back.
 #[inline]
@@ -113,47 +108,6 @@ pub struct Sheet {
 }
 
 impl Sheet {
-    /// The sheet through the first point of the first ray, the next point of that ray, and the first point of the next ray.
-    pub fn through(
-        start: &[i32; 3],
-        next: &[i32; 3],
-        beside: &[i32; 3],
-        sweep: &Sweep,
-        turn: &Turn,
-        scale: u32,
-    ) -> Sheet
-        requires start { IsPoint start.now }
-        requires next { IsPoint next.now }
-        requires beside { IsPoint beside.now }
-        requires turn { IsTurn turn.now.first turn.now.last turn.now.n.c sweep.now scale }
-        requires scale { scale ≤ scale_limit }
-        ensures { IsSheetThrough result sweep.now start.now next.now beside.now scale }
-    {
-        let from = scaled_way(scale, &sweep.from, start);
-        let to = scaled_way(scale, &sweep.to, start);
-        let way = scaled_way(scale, start, next);
-        let across = scaled_way(scale, start, beside);
-        let origin = Moments::between(&from, &to, &turn.first, &turn.last);
-        let step = Moments::between(&way, &way, &turn.first, &turn.last);
-        let side = Moments::between(&across, &across, &turn.first, &turn.last);
-        Sheet {
-            first: Form4 {
-                c: eight_products(&origin, &step),
-            },
-            first_side: Form4 {
-                c: eight_products(&side, &step),
-            },
-            second: Form4 {
-                c: step.four_squares(),
-            },
-            start: origin,
-            side,
-            height: heights(&from, &to, &turn.first, &turn.last),
-            height_step: heights(&way, &way, &turn.first, &turn.last),
-            height_side: heights(&across, &across, &turn.first, &turn.last),
-        }
-    }
-
     /// The line of ray j. Four times the squared length of a moment is the width form.
     pub fn line(&self, j: u32) -> Line
         requires { FitsOn self.now (pos j) }

@@ -11,7 +11,7 @@ pub struct StripMarker<'a> {
     grid: &'a Grid,
     family: Family,
     i: u32,
-    sheet: Option<Sheet>,
+    sheet: Sheet,
 }
 
 impl<'a> Model for StripMarker<'a> {
@@ -59,12 +59,7 @@ impl<'a> StripMarker<'a> {
             i: self.i,
             j,
         };
-        match &self.sheet {
-            None => RayMarker::new(self.mover, self.grid, ray),
-            Some(sheet) => {
-                let line = self.mover.line_on(sheet, self.grid, &ray);
-                RayMarker::with_line(self.mover, self.grid, ray, Some(line))
-            }
-        }
+        let line = self.mover.line_on(&self.sheet, self.grid, &ray);
+        RayMarker::with_line(self.mover, self.grid, ray, line)
     }
 }

@@ -1,7 +1,5 @@
-use Rattle.std.proofs.Common.{◌≡◌, Option, arith, ap, subst, sym, pos, ◌-◌, ◌^◌}
-use Rattle.std.specs.Option.{IfSome}
+use Rattle.std.proofs.Common.{◌≡◌, arith, ap, subst, sym, pos, ◌-◌, ◌^◌}
 use Rattle.ray_grid.specs.Lattice.{point_of}
-use Rattle.wanted_marks.specs.declared.line.Line.{Line}
 use Rattle.wanted_marks.specs.Lines.{HasForms, IsLineOf}
 use Rattle.wanted_marks.specs.Rays.{IsClearOf, MoveOf}
 use Rattle.wanted_marks.specs.ReadyRay.{IsReadyRay}
@@ -10,28 +8,28 @@ use Rattle.wanted_marks.proofs.ray_marker.RayMarker.are_apart.Goals as goal
 pub are_apart-requires-clause-first : goal.are_apart-requires-clause-first
 are_apart-requires-clause-first c =
     let ready = subst (IsReadyRay c.self.inside.line) c.self.view_is c.self.invariant in
-    let line = subst (λ (o : Option Line). IfSome o (λ x. IsLineOf x c.args.self.now)) c.in-Some.is ready.line_of in
+    let line = ready.line_of in
     line.fits c.args.l (omega (arith, c.requires.order, c.requires.within))
 
 pub are_apart-requires-clause-last : goal.are_apart-requires-clause-last
 are_apart-requires-clause-last c =
     let ready = subst (IsReadyRay c.self.inside.line) c.self.view_is c.self.invariant in
-    let line = subst (λ (o : Option Line). IfSome o (λ x. IsLineOf x c.args.self.now)) c.in-Some.is ready.line_of in
+    let line = ready.line_of in
     line.fits c.args.m c.requires.within
 
 pub are_apart-requires-clause-bend : goal.are_apart-requires-clause-bend
 are_apart-requires-clause-bend c =
     let ready = subst (IsReadyRay c.self.inside.line) c.self.view_is c.self.invariant in
-    let line = subst (λ (o : Option Line). IfSome o (λ x. IsLineOf x c.args.self.now)) c.in-Some.is ready.line_of in
+    let line = ready.line_of in
     line.bends (c.args.m - c.args.l) (omega (arith, c.requires.within))
 
-pub returns-in-Some : goal.returns-in-Some
-returns-in-Some c = λ yes x from to.
+pub returns : goal.returns
+returns c = λ yes x from to.
     let r = c.args.self.now in
     let ready = subst (IsReadyRay c.self.inside.line) c.self.view_is c.self.invariant in
-    let line = subst (λ (o : Option Line). IfSome o (λ x. IsLineOf x r)) c.in-Some.is ready.line_of in
+    let line = ready.line_of in
     let p = point_of r.grid r.ray x in
     let here : c.self.inside.mover.now ≡ r.sweep = ap (λ x. x.sweep) c.self.view_is in
     subst (λ (v : MoveOf). IsClearOf v p) here
     (c.are_apart.ensures yes x from to p
-    (subst (λ (v : MoveOf). HasForms c.in-Some.line (pos x) v.motion p (2 ^ v.depth)) (sym here) (line.forms x (omega (arith, to, c.requires.within)))))
+    (subst (λ (v : MoveOf). HasForms c.self.inside.line (pos x) v.motion p (2 ^ v.depth)) (sym here) (line.forms x (omega (arith, to, c.requires.within)))))
