@@ -1,6 +1,5 @@
 -- The sheets of the strips of a family, from the forms of a grid's points.
-use Rattle.std.proofs.Common.{◌≡◌, ℕ, ◌+◌, ◌*◌, ◌^◌, ◌≤◌, ◌<◌, [], ◌∷◌, List, ℤ, pos, ◌+ℤ◌, ◌*ℤ◌, ◌-ℤ◌, ◌≤ℤ◌, unsigned_abs, arith, refl, ap, ap₂, subst, sym, ◌∙◌}
-use Rattle.std.specs.List.{All}
+use Rattle.std.proofs.Common.{◌≡◌, ℕ, ◌*◌, ◌^◌, ◌≤◌, ◌<◌, [], ◌∷◌, List, ℤ, pos, ◌+ℤ◌, ◌*ℤ◌, ◌-ℤ◌, unsigned_abs, arith, refl, ap, ap₂, subst, sym, ◌∙◌}
 use Rattle.std.proofs.lemmas.Int.{ints}
 use Rattle.std.proofs.Math.IntN.{pos-*ℤ-pos}
 use Rattle.std.proofs.Math.Nat.{mul-le-mul}
@@ -12,12 +11,12 @@ use Rattle.space.proofs.Solver.{Term, var, num, add, mul, ring}
 use Rattle.space.proofs.Terms.{sub}
 use Rattle.bern_form.specs.Between.{n_between}
 use Rattle.bern_form.specs.Cells.{dot_on_cell}
-use Rattle.bern_form.specs.Forms.{IsSmall, scaled4}
+use Rattle.bern_form.specs.Forms.{scaled4}
 use Rattle.bern_form.specs.Sizes.{IsBounded2, axis_limit, offset_limit, scale_limit}
 use Rattle.bern_form.proofs.Sizes.{axis_within, small_as}
 use Rattle.bern_form.specs.declared.form.Form4.{Form4}
 use Rattle.axis_cells.proofs.Bounds.{cross_bounded}
-use Rattle.ray_runs.specs.Moments.{middle_moment, moment, vector_sum}
+use Rattle.ray_runs.specs.Moments.{middle_moment, moment}
 use Rattle.ray_runs.specs.Sizes.{turn_limit}
 use Rattle.ray_grid.specs.Grids.{GridSize}
 use Rattle.ray_grid.specs.declared.ray.Family.{Family}
@@ -32,7 +31,7 @@ use Rattle.wanted_marks.specs.declared.step_forms.StepForms.{StepForms}
 use Rattle.wanted_marks.specs.GridForms.{AreGridForms, FitsStrip, IsStep, IsStripSheet, beside_of, crossed_form, crossed_of, first_rays, step_way}
 use Rattle.wanted_marks.specs.Lines.{u_step}
 use Rattle.wanted_marks.specs.Rays.{MoveOf}
-use Rattle.wanted_marks.specs.Sheets.{AreSteps, IsSheet}
+use Rattle.wanted_marks.specs.Sheets.{IsSheet}
 use Rattle.wanted_marks.specs.Strips.{IsSheetOf}
 use Rattle.wanted_marks.specs.Ways.{IsAlong, scaled_vector, scaled_way}
 use Rattle.wanted_marks.specs.Widths.{spread_form}

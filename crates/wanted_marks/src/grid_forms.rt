@@ -1,5 +1,4 @@
-ghost use Rattle.std.specs.Prelude.{◌≡◌, ◌≤◌, ◌*ℤ◌, pos, IsTrue};
-ghost use Rattle.space.specs.Motion.{Motion};
+ghost use Rattle.std.specs.Prelude.{◌≡◌, ◌≤◌, IsTrue};
 ghost use Rattle.bern_form.specs.Sizes.{scale_limit};
 ghost use Rattle.ray_grid.specs.Lattice.{per_node};
 ghost use Rattle.wanted_marks.specs.GridForms.{AreGridForms, FitsStrip, IsStripSheet, beside_of, crossed_of, first_rays, rays_by};
