@@ -249,6 +249,7 @@ impl<'a> MoveMarker<'a> {
     }
 
     /// The sheet through the points of a strip, from the forms of the grid's points.
+    #[inline(always)]
     fn sheet_on(&self, forms: &GridForms, grid: &Grid, family: Family, i: u32) -> Sheet
         requires strip { i < nodes_of grid.now (first_axis family) }
         requires forms { AreGridForms forms.now self.now.motion grid.now (2 ^ self.now.depth) }
@@ -261,6 +262,17 @@ impl<'a> MoveMarker<'a> {
         forms.strip(family, i)
     }
 
+    /// The sheet through the points of a strip, from the forms of its grid's points, which are made. It stands apart from the strips of the
+    /// grid whose forms are ready.
+    #[inline(never)]
+    fn made_sheet(&self, grid: &Grid, family: Family, i: u32) -> Sheet
+        requires { i < nodes_of grid.now (first_axis family) }
+        ensures { IsSheetOf result record { sweep = self.now; grid = grid.now; family = family; i = i } }
+    {
+        let forms = GridForms::of_grid(grid, self.sweep, &self.ready.turn, self.ready.scale);
+        self.sheet_on(&forms, grid, family, i)
+    }
+
     /// The sheet through the points of a strip, from the forms of its grid's points. Where those that are ready are another grid's, they are
     /// made.
     pub(crate) fn strip_sheet(&self, grid: &Grid, family: Family, i: u32) -> Sheet
@@ -271,8 +283,7 @@ impl<'a> MoveMarker<'a> {
         if forms.is_of(grid) {
             return self.sheet_on(forms, grid, family, i);
         }
-        let made = GridForms::of_grid(grid, self.sweep, &self.ready.turn, self.ready.scale);
-        self.sheet_on(&made, grid, family, i)
+        self.made_sheet(grid, family, i)
     }
 
     /// The line through the points of a ray, from the sheet of its strip.
