@@ -33,7 +33,9 @@ pub fn all_above(form: &[i128; 5], limit: i64, raised: &[i64; 5]) -> bool
 }
 
 /// Whether each coefficient is below the limit times the other form's.
-#[inline]
+// Apart from the walk that asks it slab by slab: written into that loop all five products are made, and of numbers that were widened to
+// 128 bits ahead of it, which takes three multiplications each in place of one.
+#[inline(never)]
 pub fn all_below(form: &[i128; 5], limit: i64, raised: &[i64; 5]) -> bool
     ensures { result ≡ all_negative (difference4 form.now (scaled4 limit raised.now)) }
 {

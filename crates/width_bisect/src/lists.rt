@@ -75,7 +75,8 @@ impl Lists {
     }
 
     /// Whether the point is beside the slab throughout, or above it.
-    #[inline]
+    // Apart from its callers for the same reason as `all_below`.
+    #[inline(never)]
     fn is_past(&self, slab: &Slab, width: &[i128; 5]) -> bool
         ensures { let l = self.now in result ≡ is_past_by l.scale l.raised l.height width.now slab.now }
     {
