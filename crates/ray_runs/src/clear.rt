@@ -148,8 +148,8 @@ fn open_in(
     joined(early, late, whole)
 }
 
-/// Whether one cut of a move's time shows at once that all points from one index to another are clear: at the sample at which the middle one
-/// is likely to be nearest to the axis. Where that isn't shown nothing is said.
+/// Whether one cut of a move's time shows at once that all points from one index to another are clear: at the sample at which the
+/// middle one is likely to be nearest to the axis. Where that isn't shown nothing is said.
 fn are_clear_by_cut(
     sweep: &Sweep,
     grid: &Grid,

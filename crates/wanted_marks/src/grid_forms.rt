@@ -104,7 +104,8 @@ impl GridForms {
         i: u32,
     ) -> Sheet
         requires { FitsStrip (rays_by self.now along.now across.now along_across.now) beside.now along_beside.now self.now.per_node i }
-        ensures { IsStripSheet result (rays_by self.now along.now across.now along_across.now) beside.now along_beside.now self.now.per_node i }
+        ensures { let rays = rays_by self.now along.now across.now along_across.now in
+            IsStripSheet result rays beside.now along_beside.now self.now.per_node i }
     {
         let pitch = self.per_node;
         let steps = i * pitch;
@@ -156,7 +157,8 @@ impl GridForms {
     #[inline]
     pub fn strip(&self, family: Family, i: u32) -> Sheet
         requires { FitsStrip (first_rays self.now family) (beside_of self.now family) (crossed_of self.now family) self.now.per_node i }
-        ensures { IsStripSheet result (first_rays self.now family) (beside_of self.now family) (crossed_of self.now family) self.now.per_node i }
+        ensures { let rays = first_rays self.now family in
+            IsStripSheet result rays (beside_of self.now family) (crossed_of self.now family) self.now.per_node i }
     {
         let steps = self.steps(family);
         self.sheet(

@@ -262,8 +262,8 @@ impl<'a> MoveMarker<'a> {
         forms.strip(family, i)
     }
 
-    /// The sheet through the points of a strip, from the forms of its grid's points, which are made. It stands apart from the strips of the
-    /// grid whose forms are ready.
+    /// The sheet through the points of a strip of another grid than the one whose forms are ready: the forms of that grid's points are made
+    /// first. It stands apart, for `verify` has one grid.
     #[inline(never)]
     fn made_sheet(&self, grid: &Grid, family: Family, i: u32) -> Sheet
         requires { i < nodes_of grid.now (first_axis family) }
@@ -273,8 +273,8 @@ impl<'a> MoveMarker<'a> {
         self.sheet_on(&forms, grid, family, i)
     }
 
-    /// The sheet through the points of a strip, from the forms of its grid's points. Where those that are ready are another grid's, they are
-    /// made.
+    /// The sheet through the points of a strip, from the forms of its grid's points: from those that are ready, where they are that
+    /// grid's.
     pub(crate) fn strip_sheet(&self, grid: &Grid, family: Family, i: u32) -> Sheet
         requires { i < nodes_of grid.now (first_axis family) }
         ensures { IsSheetOf result record { sweep = self.now; grid = grid.now; family = family; i = i } }

@@ -272,8 +272,8 @@ impl<'a> RayMarker<'a> {
         bits_below(rest, last - first + 1)
     }
 
-    /// Marks the points that are left from the lowest upwards, as far as the first that is held at its last sample. Where one is sure without
-    /// that, those of a run from it on at their first samples are told at once.
+    /// Marks the points that are left from the lowest upwards, as far as the first that is held at its last sample. Where one is sure
+    /// without that, those of a run from it on at their first samples are told at once.
     fn mark_to_held(
         &self,
         first: u32,

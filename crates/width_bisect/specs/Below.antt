@@ -11,4 +11,5 @@ use Rattle.box_bisect.specs.SlabTests.{is_below_by, no_slab}
 pub record IsBelowFrom (slabs : List SlabSize) (m : Motion) (p : List ℤ) (S high : ℕ) : Type 0 where
   pub within : high ≤ length slabs
   pub below : high < length slabs
-      → is_below_by S (lifted (n_between m 0 S S)) (product22 (u_between m p 0 S S) (u_between m p 0 S S)) (get_or slabs high no_slab) ≡ true
+      → is_below_by S (lifted (n_between m 0 S S)) (product22 (u_between m p 0 S S) (u_between m p 0 S S))
+      (get_or slabs high no_slab) ≡ true

@@ -109,7 +109,7 @@ pub fn mark_by_forms(
 
 /// The same of a point that is known to be below the outer slab with the number `high` throughout, where there is one, on a move of two
 /// cells or more on which n raised to degree 4 is above 0 by its coefficients. The move is halved at once: whether all slabs are
-/// excluded on the whole of it isn't asked, as they hardly ever are where a caller has tried to exclude them by a test of its own. The inner
+/// excluded on the whole of it isn't asked, as they seldom are where a caller has tried to exclude them by a test of its own. The inner
 /// slabs begin where the outer ones do, so `high` serves for both.
 #[inline]
 pub fn mark_below(
