@@ -170,10 +170,10 @@ fn is_enough(root: u64, n: u64) -> bool
     root < 1 << 32 && n <= root * root
 }
 
-/// At least the square root of a number of 64 bits. The kit's root is found bit by bit, and three steps of Newton's rule from a good guess
-/// are much quicker. They end at the root rounded down, so that the answer is the root rounded up. But a bound need not be the least one:
-/// so that nothing is to be proved of the steps, the square is looked at. It is not enough at the very last numbers of 64 bits alone, and
-/// their root is found as exactly as ever.
+/// At least the square root of a number of 64 bits. The kit's root is found bit by bit, and two steps of Newton's rule from a good guess
+/// are much quicker. They end no lower than the root rounded down, and above it by less than a millionth of it. A bound need not be the
+/// least one, and so that nothing is to be proved of the steps, the square is looked at. It is not enough at the very last numbers of 64
+/// bits alone, and their root is found as exactly as ever.
 fn quick_root_up(n: u64) -> u64
     ensures value { n ≤ result * result }
     ensures small { result ≤ 2 ^ 32 }
@@ -181,7 +181,7 @@ fn quick_root_up(n: u64) -> u64
     if n < 16 {
         return tiny_root_up(n);
     }
-    let near = nearer(nearer(nearer(first_guess(n), n), n), n);
+    let near = nearer(nearer(first_guess(n), n), n);
     if is_enough(near, n) {
         near
     } else if is_enough(near + 1, n) {

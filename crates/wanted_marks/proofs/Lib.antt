@@ -16,6 +16,7 @@ pub mod Steps
 pub mod Holding
 pub mod Amid
 pub mod Running
+pub mod Sampling
 pub mod OnRuns
 pub mod Peaking
 pub mod Outside

@@ -28,7 +28,7 @@ use Rattle.ray_grid.proofs.Sizes.{abs_is, axis_of, some_per_node}
 use Rattle.wanted_marks.specs.declared.grid_forms.GridForms.{GridForms}
 use Rattle.wanted_marks.specs.declared.sheet.Sheet.{Sheet}
 use Rattle.wanted_marks.specs.declared.step_forms.StepForms.{StepForms}
-use Rattle.wanted_marks.specs.GridForms.{AreGridForms, FitsStrip, IsStep, IsStripSheet, beside_of, crossed_form, crossed_of, first_rays, step_way}
+use Rattle.wanted_marks.specs.GridForms.{AreGridForms, FitsStrip, IsStep, IsStripSheet, beside_of, crossed_form, crossed_of, first_rays, rays_by, step_way}
 use Rattle.wanted_marks.specs.Lines.{u_step}
 use Rattle.wanted_marks.specs.Rays.{MoveOf}
 use Rattle.wanted_marks.specs.Sheets.{IsSheet}
@@ -168,46 +168,32 @@ record HasFamily (forms : GridForms) (m : Motion) (grid : GridSize) (f : Family)
 turned : (m : Motion) (t v : List ℤ) (S : ℕ) → crossed_form m t v S ≡ crossed_form m v t S
 turned m t v S = crossed_turned t v (n_between m 0 S S) (u_step m t S) (u_step m v S)
 
+rays_are : (forms : GridForms) (along across : StepForms) (crossed : Form4) (m : Motion) (grid : GridSize) (v t : List ℤ) (S : ℕ) → AreGridForms forms m grid S
+    → IsStep along m grid.origin v S → IsStep across m grid.origin t S → crossed.c ≡ crossed_form m t v S → IsSheet (rays_by forms along across crossed) m grid.origin v t S
+rays_are forms along across crossed m grid v t S are on beside e = record {
+  start = are.start;
+  side = beside.moments;
+  first_is = on.first_is;
+  first_side_is = e;
+  second_is = on.second_is;
+  height_is = are.height_is;
+  height_step_is = on.height_is;
+  height_side_is = beside.height_is;
+}
+
 has_family : (forms : GridForms) (m : Motion) (grid : GridSize) (f : Family) (S : ℕ) → AreGridForms forms m grid S → HasFamily forms m grid f S
-has_family forms m grid X S are = record {
-  rays = record {
-    start = are.start;
-    side = are.y.moments;
-    first_is = are.x.first_is;
-    first_side_is = are.xy_is ∙ turned m (step_way grid X S) (step_way grid Y S) S;
-    second_is = are.x.second_is;
-    height_is = are.height_is;
-    height_step_is = are.x.height_is;
-    height_side_is = are.y.height_is;
-  };
+has_family forms m grid X S are = let x = step_way grid X S in let y = step_way grid Y S in record {
+  rays = rays_are forms forms.x forms.y forms.xy m grid x y S are are.x are.y (are.xy_is ∙ turned m x y S);
   side = are.z;
   crossed = are.zx_is;
 }
-has_family forms m grid Y S are = record {
-  rays = record {
-    start = are.start;
-    side = are.x.moments;
-    first_is = are.y.first_is;
-    first_side_is = are.xy_is;
-    second_is = are.y.second_is;
-    height_is = are.height_is;
-    height_step_is = are.y.height_is;
-    height_side_is = are.x.height_is;
-  };
+has_family forms m grid Y S are = let x = step_way grid X S in let y = step_way grid Y S in record {
+  rays = rays_are forms forms.y forms.x forms.xy m grid y x S are are.y are.x are.xy_is;
   side = are.z;
-  crossed = are.yz_is ∙ turned m (step_way grid Y S) (step_way grid Z S) S;
+  crossed = are.yz_is ∙ turned m y (step_way grid Z S) S;
 }
-has_family forms m grid Z S are = record {
-  rays = record {
-    start = are.start;
-    side = are.x.moments;
-    first_is = are.z.first_is;
-    first_side_is = are.zx_is ∙ turned m (step_way grid Z S) (step_way grid X S) S;
-    second_is = are.z.second_is;
-    height_is = are.height_is;
-    height_step_is = are.z.height_is;
-    height_side_is = are.x.height_is;
-  };
+has_family forms m grid Z S are = let x = step_way grid X S in let z = step_way grid Z S in record {
+  rays = rays_are forms forms.z forms.x forms.zx m grid z x S are are.z are.x (are.zx_is ∙ turned m z x S);
   side = are.y;
   crossed = are.yz_is;
 }

@@ -92,32 +92,25 @@ impl GridForms {
         self.grid == *grid
     }
 
-    /// The sheet of strip i of the rays along an axis, where the strips stand side by side across and the rays of one beside each other.
+    /// The sheet of strip i of the rays whose strips are laid out by these steps.
     #[inline]
-    fn sheet(
-        &self,
-        along: &StepForms,
-        across: &StepForms,
-        beside: &StepForms,
-        along_across: &Form4,
-        along_beside: &Form4,
-        i: u32,
-    ) -> Sheet
-        requires { FitsStrip (rays_by self.now along.now across.now along_across.now) beside.now along_beside.now self.now.per_node i }
-        ensures { let rays = rays_by self.now along.now across.now along_across.now in
-            IsStripSheet result rays beside.now along_beside.now self.now.per_node i }
+    fn sheet(&self, steps: &StripSteps<'_>, i: u32) -> Sheet
+        requires { let rays = rays_by self.now steps.now.along.now steps.now.across.now steps.now.along_across.now in
+            FitsStrip rays steps.now.beside.now steps.now.along_beside.now self.now.per_node i }
+        ensures { let rays = rays_by self.now steps.now.along.now steps.now.across.now steps.now.along_across.now in
+            IsStripSheet result rays steps.now.beside.now steps.now.along_beside.now self.now.per_node i }
     {
         let pitch = self.per_node;
-        let steps = i * pitch;
+        let across = i * pitch;
         Sheet {
-            start: moved(&self.start, &across.moments, steps),
-            side: times(&beside.moments, pitch),
-            first: moved4(&along.first, along_across, steps),
-            first_side: times4(along_beside, pitch),
-            second: along.second,
-            height: heights_moved(&self.height, &across.height, steps),
-            height_step: along.height,
-            height_side: heights_times(&beside.height, pitch),
+            start: moved(&self.start, &steps.across.moments, across),
+            side: times(&steps.beside.moments, pitch),
+            first: moved4(&steps.along.first, steps.along_across, across),
+            first_side: times4(steps.along_beside, pitch),
+            second: steps.along.second,
+            height: heights_moved(&self.height, &steps.across.height, across),
+            height_step: steps.along.height,
+            height_side: heights_times(&steps.beside.height, pitch),
         }
     }
 
@@ -160,14 +153,6 @@ impl GridForms {
         ensures { let rays = first_rays self.now family in
             IsStripSheet result rays (beside_of self.now family) (crossed_of self.now family) self.now.per_node i }
     {
-        let steps = self.steps(family);
-        self.sheet(
-            steps.along,
-            steps.across,
-            steps.beside,
-            steps.along_across,
-            steps.along_beside,
-            i,
-        )
+        self.sheet(&self.steps(family), i)
     }
 }

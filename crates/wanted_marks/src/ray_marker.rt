@@ -206,32 +206,8 @@ impl<'a> RayMarker<'a> {
         }
     }
 
-    /// The index of a point up to which all are sure, from one on that is held at its first sample, below another at which no such run is
-    /// known to end. It is looked for by halves, down to two points, which are told as fast by themselves.
-    fn last_by_halves(&self, line: &Line, low: &Held, top: u32, near: &mut usize) -> u32
-        requires order { low.now.index ≤ top }
-        requires within { top < points_of self.now.grid self.now.ray.family }
-        requires line { IsLineOf line.now self.now }
-        requires low { IsHeldFirst low.now self.now }
-        requires sure { IsRemovedBy self.now.sweep (point_of self.now.grid self.now.ray low.now.index) }
-        ensures from { low.now.index ≤ result }
-        ensures to { result ≤ top }
-        ensures run { IsRun self.now low.now.index result }
-    {
-        let mut to = low.index;
-        let mut end = top;
-        while 2 < end - to {
-            let at = to + (end - to) / 2;
-            if self.is_first_run(line, low, at, near) {
-                to = at;
-            } else {
-                end = at;
-            }
-        }
-        to
-    }
-
-    /// The same up to the other, which is tried first: mostly the run goes as far.
+    /// The index of a point up to which all are sure, from one on that is held at its first sample, as far as another, which is tried
+    /// first: mostly the run goes as far. Else its end is looked for by halves, down to two points, which are told as fast by themselves.
     fn last_of_run(&self, line: &Line, low: &Held, top: u32, near: &mut usize) -> u32
         requires order { low.now.index ≤ top }
         requires within { top < points_of self.now.grid self.now.ray.family }
@@ -242,10 +218,20 @@ impl<'a> RayMarker<'a> {
         ensures to { result ≤ top }
         ensures run { IsRun self.now low.now.index result }
     {
-        if 1 < top - low.index && self.is_first_run(line, low, top, near) {
-            return top;
+        // The points are few by the type, which is known where a field is seen.
+        let _few = &self.ray;
+        let mut last = low.index;
+        let mut end = top + 1;
+        let mut at = top;
+        while 2 < end - last {
+            if self.is_first_run(line, low, at, near) {
+                last = at;
+            } else {
+                end = at;
+            }
+            at = last + (end - last) / 2;
         }
-        self.last_by_halves(line, low, top, near)
+        last
     }
 
     /// Some of the points that are left, which are above the one of bit b: those of a run from that one on, where it is held at its first

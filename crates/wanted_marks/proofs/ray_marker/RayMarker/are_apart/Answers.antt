@@ -1,6 +1,6 @@
 use Rattle.std.proofs.Common.{◌≡◌, arith, ap, subst, sym, pos, ◌-◌, ◌^◌}
 use Rattle.ray_grid.specs.Lattice.{point_of}
-use Rattle.wanted_marks.specs.Lines.{HasForms, IsLineOf}
+use Rattle.wanted_marks.specs.Lines.{HasForms}
 use Rattle.wanted_marks.specs.Rays.{IsClearOf, MoveOf}
 use Rattle.wanted_marks.specs.ReadyRay.{IsReadyRay}
 use Rattle.wanted_marks.proofs.ray_marker.RayMarker.are_apart.Goals as goal

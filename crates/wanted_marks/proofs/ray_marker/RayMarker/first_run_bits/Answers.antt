@@ -1,6 +1,5 @@
 use Rattle.std.proofs.Common.{◌+◌, arith, ap, subst}
 use Rattle.vf_spans.proofs.WordBits.{has_bit-zero}
-use Rattle.wanted_marks.specs.Lines.{IsLineOf}
 use Rattle.wanted_marks.specs.ReadyRay.{IsReadyRay}
 use Rattle.wanted_marks.proofs.OnRuns.{held_first_on}
 use Rattle.wanted_marks.proofs.ray_marker.RayMarker.first_run_bits.Goals as goal

@@ -1,5 +1,4 @@
 use Rattle.std.proofs.Common.{◌≡◌, ap, subst, sym}
-use Rattle.wanted_marks.specs.Lines.{IsLineOf}
 use Rattle.wanted_marks.specs.ReadyRay.{IsReadyRay}
 use Rattle.wanted_marks.proofs.ray_marker.RayMarker.is_run.Goals as goal
 

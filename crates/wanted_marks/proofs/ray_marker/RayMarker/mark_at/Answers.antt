@@ -2,7 +2,7 @@ use Rattle.std.proofs.Common.{ap, pos, ◌^◌, subst, sym}
 use Rattle.ray_grid.specs.Lattice.{point_of}
 use Rattle.wanted_marks.specs.Samples.{IsLastOf}
 use Rattle.wanted_marks.specs.Lines.{HasForms}
-use Rattle.wanted_marks.specs.Rays.{MoveOf, RayOf}
+use Rattle.wanted_marks.specs.Rays.{MoveOf}
 use Rattle.wanted_marks.specs.ReadyRay.{IsReadyRay}
 use Rattle.wanted_marks.proofs.OnRuns.{same_near}
 use Rattle.wanted_marks.proofs.ray_marker.RayMarker.mark_at.Goals as goal
