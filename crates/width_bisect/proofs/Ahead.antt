@@ -12,7 +12,6 @@ use Rattle.cutter_slabs.specs.Stacks.{inner_stack, outer_stack, reach_of}
 use Rattle.cutter_marks.specs.MarkBy.{mark_by}
 use Rattle.box_bisect.specs.Between.{IsMarkBetween}
 use Rattle.width_bisect.specs.declared.asked.Asked.{Asked}
-use Rattle.width_bisect.specs.declared.stretch.Stretch.{Stretch}
 use Rattle.width_bisect.specs.Asked.{IsAnswer, slabs_for}
 use Rattle.width_bisect.specs.Forms.{AreWidthForms}
 use Rattle.width_bisect.specs.Parts.{IsOpenPart}
@@ -31,24 +30,19 @@ part_small slabs u n width m p S T levels sweep point cells few kept =
     let small = forms_small u n width m p part.first (part.first + 2 ^ levels) S sweep point (omega arith) part.within few part.forms in
     record { u = small.u_small; n = small.n_small; width = small.width_small }
 
--- what the code has of the forms
-abbrev IsWholeOf : Stretch → List ℤ → List ℤ → List ℤ → Type 0
-IsWholeOf w u n width = record { u : w.u ≡ u; n : w.n ≡ n; width : w.width ≡ width }
-
 -- a mark that is right on the part answers
-pub answered_ahead : (asked : Asked) (given : Mark) (c : CutterSize) (b : ℕ) (inner slabs : List SlabSize) (w : Stretch) (u n width : List ℤ) (m : Motion) (p : List ℤ) (S T levels : ℕ)
-    → 0 < S → S ≡ T → inner ≡ inner_stack c b → slabs ≡ slabs_for asked (inner_stack c b) (outer_stack c b)
+pub answered_ahead : (asked : Asked) (given : Mark) (c : CutterSize) (b : ℕ) (inner slabs : List SlabSize) (u n width : List ℤ) (m : Motion) (p : List ℤ) (S levels : ℕ)
+    → 0 < S → inner ≡ inner_stack c b → slabs ≡ slabs_for asked (inner_stack c b) (outer_stack c b)
     → ((q : Motion) (r : List ℤ) (i s : ℕ) → some_holds inner q r i s ≡ true → some_holds (outer_stack c b) q r i s ≡ true)
-    → IsWholeOf w u n width → IsOpenPart (outer_stack c b) u n width m p T levels
-    → ((j : ℕ) → AreWidthForms w.u w.n w.width m p j (j + 2 ^ levels) S → ((i : ℕ) → some_holds inner m p i S ≡ true → some_holds slabs m p i S ≡ true)
+    → IsOpenPart (outer_stack c b) u n width m p S levels
+    → ((j : ℕ) → AreWidthForms u n width m p j (j + 2 ^ levels) S → ((i : ℕ) → some_holds inner m p i S ≡ true → some_holds slabs m p i S ≡ true)
     → IsMarkBetween given inner slabs m p j (j + 2 ^ levels) S)
     → (IsMarkBetween given inner (outer_stack c b) m p 0 S S → given ≡ mark_from inner (outer_stack c b) (pos (reach_of c)) m p S)
-    → IsAnswer asked given (mark_by c b m p T)
-answered_ahead asked given c b inner slabs w u n width m p S T levels some cells stack asks encloses_all whole kept found is =
+    → IsAnswer asked given (mark_by c b m p S)
+answered_ahead asked given c b inner slabs u n width m p S levels some stack asks encloses_all part found is =
     let outer = outer_stack c b in
-    let part = part_kept outer w.u w.n w.width u n width m p S T levels whole.u whole.n whole.width cells kept in
     let from_stack = ap (λ l. slabs_for asked l outer) (sym stack) in
     let enclosed = λ (i : ℕ) (h : some_holds inner m p i S ≡ true). encloses_all m p i S h in
     let held = λ (i : ℕ) (h : some_holds inner m p i S ≡ true). encloses asked inner outer slabs m p i S (asks ∙ from_stack) (enclosed i) h in
-    answered_on_part asked given c b inner slabs m p part.first (part.first + 2 ^ levels) S T some part.within stack asks cells enclosed part.early part.late
+    answered_on_part asked given c b inner slabs m p part.first (part.first + 2 ^ levels) S some part.within stack asks enclosed part.early part.late
     (found part.first part.forms held) is

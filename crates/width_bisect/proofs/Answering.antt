@@ -1,5 +1,5 @@
 -- The slabs that are excluded for what is asked.
-use Rattle.std.proofs.Common.{◌≡◌, Bool, true, false, ℕ, List, ℤ, if◌then◌else◌, refl, subst, sym, ap}
+use Rattle.std.proofs.Common.{◌≡◌, Bool, true, false, ℕ, List, ℤ, if◌then◌else◌, refl, subst, sym, ap, ◌∙◌}
 use Rattle.space.specs.Motion.{Motion}
 use Rattle.bern_form.specs.Marks.{some_holds}
 use Rattle.bern_form.specs.Slab.{SlabSize}
@@ -31,6 +31,7 @@ pub encloses : (asked : Asked) (inner outer slabs : List SlabSize) (m : Motion) 
 encloses Whole inner outer slabs m p i S e h held = subst (λ l. some_holds l m p i S ≡ true) (sym e) (h held)
 encloses Sure inner outer slabs m p i S e h held = subst (λ l. some_holds l m p i S ≡ true) (sym e) held
 
-pub begin_alike : (asked : Asked) (c : CutterSize) (n : ℕ) → lows_of (inner_stack c n) ≡ lows_of (slabs_for asked (inner_stack c n) (outer_stack c n))
-begin_alike Whole c n = stacks_begin_alike c n
-begin_alike Sure c n = refl
+pub begin_alike : (asked : Asked) (c : CutterSize) (n : ℕ) (slabs : List SlabSize) → slabs ≡ slabs_for asked (inner_stack c n) (outer_stack c n)
+    → lows_of (inner_stack c n) ≡ lows_of slabs
+begin_alike Whole c n slabs e = stacks_begin_alike c n ∙ ap lows_of (sym e)
+begin_alike Sure c n slabs e = ap lows_of (sym e)

@@ -37,6 +37,6 @@ pub asked_turns : (asked : Asked) (c : CutterSize) (b : ℕ) (slabs : List SlabS
     → IsBelowFrom (outer_stack c b) m p T high → TurnsBetween (is_not_below S u n) slabs 0 high
 asked_turns asked c b slabs u n u' n' m p S T high es eu en du dn eS from =
     let outer = outer_stack c b in
-    let alike : lows_of slabs ≡ lows_of outer = ap lows_of es ∙ sym (begin_alike asked c b) ∙ stacks_begin_alike c b in
+    let alike : lows_of slabs ≡ lows_of outer = sym (begin_alike asked c b slabs es) ∙ stacks_begin_alike c b in
     turns_alike slabs outer S high u n alike
     (subst (λ k. TurnsBetween (is_not_below k u n) outer 0 high) (sym eS) (below_turns outer u n m p T high (eu ∙ du) (en ∙ dn) from))

@@ -96,12 +96,10 @@ clear_is inner outer reach m p S found =
     (λ far. far_mark inner outer reach m p S far (λ held. absurd (no_both (held_at_sample inner m p S) held none))) (cases_Bool (is_in_reach reach m.from m.to p))
 
 -- the mark by the stacks of a cutter
-pub marked_by : (mark : Mark) (c : CutterSize) (slabs : ℕ) (inner outer : List SlabSize) (m : Motion) (p : List ℤ) (S T : ℕ) → inner ≡ inner_stack c slabs → outer ≡ outer_stack c slabs → S ≡ T
-    → mark ≡ mark_from inner outer (pos (reach_of c)) m p S → mark ≡ mark_by c slabs m p T
+pub marked_by : (mark : Mark) (c : CutterSize) (slabs : ℕ) (inner : List SlabSize) (m : Motion) (p : List ℤ) (S : ℕ) → inner ≡ inner_stack c slabs
+    → mark ≡ mark_from inner (outer_stack c slabs) (pos (reach_of c)) m p S → mark ≡ mark_by c slabs m p S
 unfolding mark_by
-marked_by mark c slabs inner outer m p S T ei eo e is =
-    let R = pos (reach_of c) in
-    is ∙ ap (λ l. mark_from l outer R m p S) ei ∙ ap (λ l. mark_from (inner_stack c slabs) l R m p S) eo ∙ ap (mark_from (inner_stack c slabs) (outer_stack c slabs) R m p) e
+marked_by mark c slabs inner m p S stack is = is ∙ ap (λ l. mark_from l (outer_stack c slabs) (pos (reach_of c)) m p S) stack
 
 -- where the point is behind the tip throughout a stretch no slab of either list holds it or is left there
 pub behind_dropped : (inner outer : List SlabSize) (u n width : List ℤ) (m : Motion) (p : List ℤ) (S levels j : ℕ) → 0 < S → AreWidthForms u n width m p j (j + 2 ^ levels) S → all_negative u ≡ true

@@ -70,20 +70,20 @@ sure_is Clear inner outer slabs m p j k S some within enclosed early late found 
     sym (none_below (λ i. some_holds inner m p i S) (S + 1) (λ i l. free.none i (omega arith) (omega (arith, l))))
 
 -- so it answers what is asked
-pub answered_on_part : (asked : Asked) (given : Mark) (c : CutterSize) (n : ℕ) (inner slabs : List SlabSize) (m : Motion) (p : List ℤ) (j k S T : ℕ) → 0 < S → k ≤ S
-    → inner ≡ inner_stack c n → slabs ≡ slabs_for asked (inner_stack c n) (outer_stack c n) → S ≡ T
+pub answered_on_part : (asked : Asked) (given : Mark) (c : CutterSize) (n : ℕ) (inner slabs : List SlabSize) (m : Motion) (p : List ℤ) (j k S : ℕ) → 0 < S → k ≤ S
+    → inner ≡ inner_stack c n → slabs ≡ slabs_for asked (inner_stack c n) (outer_stack c n)
     → ((i : ℕ) → some_holds inner m p i S ≡ true → some_holds (outer_stack c n) m p i S ≡ true)
     → IsOutWithin (outer_stack c n) m p 0 j S → IsOutWithin (outer_stack c n) m p k S S → IsMarkBetween given inner slabs m p j k S
-    → (IsMarkBetween given inner (outer_stack c n) m p 0 S S → given ≡ mark_from inner (outer_stack c n) (pos (reach_of c)) m p S) → IsAnswer asked given (mark_by c n m p T)
-answered_on_part Whole given c n inner slabs m p j k S T some within ei es e enclosed early late found is =
+    → (IsMarkBetween given inner (outer_stack c n) m p 0 S S → given ≡ mark_from inner (outer_stack c n) (pos (reach_of c)) m p S) → IsAnswer asked given (mark_by c n m p S)
+answered_on_part Whole given c n inner slabs m p j k S some within ei es enclosed early late found is =
     let outer = outer_stack c n in
-    marked_by given c n inner outer m p S T ei refl e
+    marked_by given c n inner m p S ei
     (is (widened given inner outer m p j k S some within enclosed early late (subst (λ l. IsMarkBetween given inner l m p j k S) es found)))
-answered_on_part Sure given c n inner slabs m p j k S T some within ei es e enclosed early late found is =
+answered_on_part Sure given c n inner slabs m p j k S some within ei es enclosed early late found is =
     let outer = outer_stack c n in let R = pos (reach_of c) in
     sure_is given inner outer slabs m p j k S some within enclosed early late found
     ∙ sym (removed_is_held (held_at_sample inner m p S) (is_possible outer R m p S))
-    ∙ ap is_removed_mark (marked_by (mark_from inner outer R m p S) c n inner outer m p S T ei refl e refl)
+    ∙ ap is_removed_mark (marked_by (mark_from inner outer R m p S) c n inner m p S ei refl)
 
 -- a part by forms that are equal, and the whole move as one
 pub part_kept : (slabs : List SlabSize) (u n width u' n' width' : List ℤ) (m : Motion) (p : List ℤ) (S T levels : ℕ) → u ≡ u' → n ≡ n' → width ≡ width' → S ≡ T

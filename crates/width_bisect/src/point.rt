@@ -1,12 +1,18 @@
-ghost use Rattle.std.specs.Prelude.{◌≡◌, ◌^◌, ◌<◌, ◌≤◌, false, true};
+ghost use Rattle.std.specs.Prelude.{◌≡◌, ℕ, ◌+◌, ◌^◌, ◌<◌, ◌≤◌, false, true};
 ghost use Rattle.space.specs.Ranges.{IsPoint};
+ghost use Rattle.bern_form.specs.Between.{d_between};
 ghost use Rattle.bern_form.specs.Forms.{all_negative, all_positive, lifted};
-ghost use Rattle.cutter_slabs.specs.Stacks.{outer_stack};
+ghost use Rattle.bern_form.specs.Sizes.{scale_limit};
+ghost use Rattle.cutter_slabs.specs.Rising.{IsRising};
+ghost use Rattle.cutter_slabs.specs.Stacks.{inner_stack, outer_stack};
 ghost use Rattle.cutter_marks.specs.MarkBy.{mark_by};
-ghost use Rattle.width_bisect.specs.Asked.{IsAnswer};
+ghost use Rattle.box_bisect.specs.SlabTests.{TurnsBetween, is_left_with};
+ghost use Rattle.width_bisect.specs.Asked.{IsAnswer, slabs_for};
 ghost use Rattle.width_bisect.specs.Below.{IsBelowFrom};
+ghost use Rattle.width_bisect.specs.Early.{lows_of};
 ghost use Rattle.width_bisect.specs.Forms.{AreWidthForms};
 ghost use Rattle.width_bisect.specs.Parts.{IsOpenPart};
+ghost use Rattle.width_bisect.specs.Searches.{is_not_below};
 
 use crate::asked::{Asked, slabs_for};
 use crate::forms::WholeForms;
@@ -14,8 +20,48 @@ use crate::lists::Lists;
 use crate::stretch::Stretch;
 use crate::whole::{mark_of_whole, reached_on_whole};
 use axis_cells::{Mark, Sweep, cells_of, in_reach};
+use bern_form::Slab;
 use box_bisect::mark_point_uncounted;
 use cutter_slabs::Stacks;
+
+/// What is asked of a point that isn't found to be clear by its forms alone: it is clear where it is out of reach, and else the part,
+/// of which these are the forms, is halved. The slabs are those that are excluded for what is asked, and the point is below the one with
+/// the number `high` throughout, where there is one. Where the part is one cell, some slab isn't excluded on it.
+// Written into both its callers: a call here costs more than it saves.
+#[inline(always)]
+fn mark_in_reach(
+    sweep: &Sweep,
+    stacks: &Stacks,
+    point: [i32; 3],
+    part: &Stretch,
+    slabs: &[Slab],
+    scale: u32,
+    high: usize,
+    levels: u32,
+) -> Mark
+    requires some { 0 < scale }
+    requires scale { scale ≤ scale_limit }
+    requires rising { IsRising slabs.now }
+    requires lows { lows_of (inner_stack stacks.now.cutter stacks.now.slabs) ≡ lows_of slabs.now }
+    requires part { let w = part.now in IsOpenPart (outer_stack stacks.now.cutter stacks.now.slabs) w.u w.n w.width sweep.now point
+        scale levels }
+    requires left { let w = part.now in (j : ℕ) → AreWidthForms w.u w.n w.width sweep.now point j (j + 2 ^ levels) scale → levels ≡ 0
+        → is_left_with slabs.now scale w.u w.n (d_between sweep.now point j (j + 2 ^ levels) scale) ≡ true }
+    requires positive { all_positive (lifted part.now.n) ≡ true }
+    requires high { TurnsBetween (is_not_below scale part.now.u part.now.n) slabs.now 0 high }
+    ensures { let s = stacks.now in (asked : Asked)
+        → slabs.now ≡ slabs_for asked (inner_stack s.cutter s.slabs) (outer_stack s.cutter s.slabs)
+        → IsAnswer asked result (mark_by s.cutter s.slabs sweep.now point scale) }
+{
+    // A sweep is valid by its type, which is known where a field of it is seen.
+    let _valid = &sweep.from;
+    let inner = stacks.inner();
+    let reach = stacks.reach();
+    if !in_reach(sweep, reach, point) {
+        return Mark::Clear;
+    }
+    mark_of_whole(part, inner, slabs, scale, high, levels)
+}
 
 /// What is asked of a point that is not behind the tip throughout the part.
 #[inline]
@@ -44,18 +90,15 @@ fn mark_ahead(
     if !lists.is_open() {
         return mark_point_uncounted(sweep, stacks, point, depth);
     }
-    let inner = stacks.inner();
+    // What an inner slab holds an outer one does, by the stack.
+    let _inner = stacks.inner();
     let slabs = slabs_for(stacks, asked);
     let reached = reached_on_whole(&whole, &lists, slabs, *near);
     *near = reached;
     if !lists.leaves_some(slabs, reached, &whole.width) {
         return Mark::Clear;
     }
-    let reach = stacks.reach();
-    if !in_reach(sweep, reach, point) {
-        return Mark::Clear;
-    }
-    mark_of_whole(&whole, inner, slabs, scale, reached, levels)
+    mark_in_reach(sweep, stacks, point, &whole, slabs, scale, reached, levels)
 }
 
 /// The mark of a point by the stacks and the reach of a cutter, at the samples and on the cells of a depth, from its forms on a part of
@@ -133,11 +176,6 @@ pub fn mark_below(
     let _valid = &sweep.from;
     let scale = cells_of(depth);
     let whole = Stretch::whole(forms);
-    let inner = stacks.inner();
     let slabs = slabs_for(stacks, asked);
-    let reach = stacks.reach();
-    if !in_reach(sweep, reach, point) {
-        return Mark::Clear;
-    }
-    mark_of_whole(&whole, inner, slabs, scale, high, depth)
+    mark_in_reach(sweep, stacks, point, &whole, slabs, scale, high, depth)
 }
