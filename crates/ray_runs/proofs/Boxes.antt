@@ -24,6 +24,7 @@ use Rattle.box_bisect.proofs.Searching.{dropped}
 use Rattle.ray_runs.specs.Apart.{AreAbove, AreApart, AreBeside, AreOutBeside, IsBehind, IsNoWider}
 use Rattle.ray_runs.specs.Moments.{moment_product}
 use Rattle.ray_runs.proofs.Convex.{product_natural, squares_rise}
+use Rattle.ray_runs.proofs.Fives.{each_of_five}
 use Rattle.ray_runs.proofs.Lagrange.{lagrange_at, less_squares}
 
 -- rows
@@ -39,12 +40,7 @@ rows_of_three P a b c h0 h1 h2 (suc (suc zero)) d l = h2
 rows_of_three P a b c h0 h1 h2 (suc (suc (suc k))) d l = absurd (omega arith)
 
 rows_of_five : (P : List ℤ → Type 0) (a b c e f : List ℤ) → P a → P b → P c → P e → P f → All P (a ∷ b ∷ c ∷ e ∷ f ∷ [])
-rows_of_five P a b c e f h0 h1 h2 h3 h4 zero d l = h0
-rows_of_five P a b c e f h0 h1 h2 h3 h4 (suc zero) d l = h1
-rows_of_five P a b c e f h0 h1 h2 h3 h4 (suc (suc zero)) d l = h2
-rows_of_five P a b c e f h0 h1 h2 h3 h4 (suc (suc (suc zero))) d l = h3
-rows_of_five P a b c e f h0 h1 h2 h3 h4 (suc (suc (suc (suc zero)))) d l = h4
-rows_of_five P a b c e f h0 h1 h2 h3 h4 (suc (suc (suc (suc (suc k))))) d l = absurd (omega arith)
+rows_of_five P a b c e f h0 h1 h2 h3 h4 k d l = each_of_five (λ i. P (get_or (a ∷ b ∷ c ∷ e ∷ f ∷ []) i d)) h0 h1 h2 h3 h4 k l
 
 -- a lesser length has a lesser limit
 times_rise : (f x y : ℤ) → pos 0 ≤ℤ f → x ≤ℤ y → (f *ℤ x) ≤ℤ (f *ℤ y)

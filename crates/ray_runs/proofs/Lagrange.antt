@@ -1,12 +1,13 @@
 -- Lagrange's identity for offsets and axes that are linear in time, coefficient by coefficient: the scalar product of two moments is
 -- e n - u v.
-use Rattle.std.proofs.Common.{◌≡◌, ℕ, zero, suc, ◌<◌, [], ◌∷◌, List, ℤ, arith, refl}
+use Rattle.std.proofs.Common.{◌≡◌, ℕ, zero, suc, ◌<◌, [], ◌∷◌, List, ℤ, refl}
 use Rattle.space.specs.Vectors.{at}
 use Rattle.space.proofs.Solver.{Term, add, mul, ring}
 use Rattle.space.proofs.Terms.{sub, dots, from}
 use Rattle.bern_form.specs.Cells.{dot_on_cell}
 use Rattle.bern_form.specs.Forms.{difference4, product22}
 use Rattle.ray_runs.specs.Moments.{moment_product}
+use Rattle.ray_runs.proofs.Fives.{each_of_five}
 
 abbrev across : (ℕ → Term) → (ℕ → Term) → (ℕ → Term) → (ℕ → Term) → ℕ → Term
 across p p' q q' k = add (mul (p k) (q' k)) (mul (p' k) (q k))
@@ -61,9 +62,7 @@ abbrev pub less_squares : List ℤ → List ℤ → List ℤ → List ℤ → Li
 less_squares p p' q q' a c = difference4 (product22 (dot_on_cell p p' q q') (dot_on_cell a c a c)) (product22 (dot_on_cell p p' a c) (dot_on_cell q q' a c))
 
 pub lagrange_at : (p p' q q' a c : List ℤ) (k : ℕ) → k < 5 → at (less_squares p p' q q' a c) k ≡ at (moment_product p p' q q' a c) k
-lagrange_at p p' q q' a c zero l = ring (numbers p p' q q' a c) (left 0) (right 0) refl
-lagrange_at p p' q q' a c (suc zero) l = ring (numbers p p' q q' a c) (left 1) (right 1) refl
-lagrange_at p p' q q' a c (suc (suc zero)) l = ring (numbers p p' q q' a c) (left 2) (right 2) refl
-lagrange_at p p' q q' a c (suc (suc (suc zero))) l = ring (numbers p p' q q' a c) (left 3) (right 3) refl
-lagrange_at p p' q q' a c (suc (suc (suc (suc zero)))) l = ring (numbers p p' q q' a c) (left 4) (right 4) refl
-lagrange_at p p' q q' a c (suc (suc (suc (suc (suc k))))) l = absurd (omega arith)
+lagrange_at p p' q q' a c =
+    let e = numbers p p' q q' a c in
+    each_of_five (λ k. at (less_squares p p' q q' a c) k ≡ at (moment_product p p' q q' a c) k)
+    (ring e (left 0) (right 0) refl) (ring e (left 1) (right 1) refl) (ring e (left 2) (right 2) refl) (ring e (left 3) (right 3) refl) (ring e (left 4) (right 4) refl)

@@ -1,6 +1,7 @@
 pub mod Convex
 pub mod Runs
 pub mod Fits
+pub mod Fives
 pub mod Lagrange
 pub mod Boxes
 pub mod ClearPoints
@@ -9,3 +10,4 @@ pub mod Open
 pub mod Parts
 pub mod Weights
 pub mod Within
+pub mod Searching

@@ -60,9 +60,6 @@ halves_open early late found whole f m point S from to j levels n i el ei few ej
     (join_open early late whole f m point S from to j i (j + 2 ^ levels) (omega (arith, few, ew)) ej (ap (λ x. whole.first + 2 ^ x) ew ∙ ap (λ x. x + 2 ^ levels) ej)
     (omega (arith, ei)) (omega (arith, end)) (subst (λ x. AreOutBut early f m point S from to j x) (sym ei) a) (subst (λ x. AreOutBut late f m point S from to i x) end b))
 
-pub but_as : (found : Option OpenStretch) (f g : ℤ) (m : Motion) (point : ℕ → List ℤ) (S from to j k : ℕ) → f ≡ g → AreOutBut found f m point S from to j k → AreOutBut found g m point S from to j k
-but_as found f g m point S from to j k e h = subst (λ z. AreOutBut found z m point S from to j k) e h
-
 -- of the whole move
 open_of_cells : (found : Option OpenStretch) (stacks : StacksOf) (f most : ℤ) (outer : List SlabSize) (m : Motion) (point : ℕ → List ℤ) (S from to : ℕ) → f ≡ scaled_square S most
     → All (IsNoWider most) outer → outer ≡ outer_stack stacks.cutter stacks.slabs

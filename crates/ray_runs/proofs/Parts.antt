@@ -7,6 +7,7 @@ use Rattle.space.proofs.Terms.{dots, from, sub}
 use Rattle.bern_form.specs.Cells.{dot_on_cell}
 use Rattle.bern_form.specs.Forms.{lifted, product22, scaled2}
 use Rattle.ray_runs.specs.Moments.{middle_moment, moment, moment_product, vector_product}
+use Rattle.ray_runs.proofs.Fives.{each_of_five}
 use Rattle.ray_runs.proofs.Lagrange.{cell, conv}
 
 same3 : (a b c d e f : ℤ) → a ≡ d → b ≡ e → c ≡ f → a ∷ b ∷ c ∷ [] ≡ d ∷ e ∷ f ∷ []
@@ -71,12 +72,11 @@ abbrev right_part : ℕ → Term
 right_part k = weighed (var 6) (var 7) (var 8) (var 9) (conv (from 0) (from 3)) k
 
 product_part : (a b : List ℤ) (w v x y : ℤ) (k : ℕ) → k < 5 → at (product22 (part2 w v x y a) (part2 w v x y b)) k ≡ summed (weight w v x y k) (at (product22 a b))
-product_part a b w v x y zero l = ring (ten a b w v x y) (left_part 0) (right_part 0) refl
-product_part a b w v x y (suc zero) l = ring (ten a b w v x y) (left_part 1) (right_part 1) refl
-product_part a b w v x y (suc (suc zero)) l = ring (ten a b w v x y) (left_part 2) (right_part 2) refl
-product_part a b w v x y (suc (suc (suc zero))) l = ring (ten a b w v x y) (left_part 3) (right_part 3) refl
-product_part a b w v x y (suc (suc (suc (suc zero)))) l = ring (ten a b w v x y) (left_part 4) (right_part 4) refl
-product_part a b w v x y (suc (suc (suc (suc (suc k))))) l = absurd (omega arith)
+product_part a b w v x y =
+    let e = ten a b w v x y in
+    each_of_five (λ k. at (product22 (part2 w v x y a) (part2 w v x y b)) k ≡ summed (weight w v x y k) (at (product22 a b)))
+    (ring e (left_part 0) (right_part 0) refl) (ring e (left_part 1) (right_part 1) refl) (ring e (left_part 2) (right_part 2) refl)
+    (ring e (left_part 3) (right_part 3) refl) (ring e (left_part 4) (right_part 4) refl)
 
 abbrev seven : List ℤ → List ℤ → ℤ → List ℤ
 seven a b s = at a 0 ∷ at a 1 ∷ at a 2 ∷ at b 0 ∷ at b 1 ∷ at b 2 ∷ s ∷ []
@@ -88,12 +88,11 @@ abbrev right_scaled : ℕ → Term
 right_scaled k = conv (scaled (var 6) (from 0)) (scaled (var 6) (from 3)) k
 
 product_scaled : (s : ℤ) (a b : List ℤ) (k : ℕ) → k < 5 → (s *ℤ s) *ℤ at (product22 a b) k ≡ at (product22 (scaled2 s a) (scaled2 s b)) k
-product_scaled s a b zero l = ring (seven a b s) (left_scaled 0) (right_scaled 0) refl
-product_scaled s a b (suc zero) l = ring (seven a b s) (left_scaled 1) (right_scaled 1) refl
-product_scaled s a b (suc (suc zero)) l = ring (seven a b s) (left_scaled 2) (right_scaled 2) refl
-product_scaled s a b (suc (suc (suc zero))) l = ring (seven a b s) (left_scaled 3) (right_scaled 3) refl
-product_scaled s a b (suc (suc (suc (suc zero)))) l = ring (seven a b s) (left_scaled 4) (right_scaled 4) refl
-product_scaled s a b (suc (suc (suc (suc (suc k))))) l = absurd (omega arith)
+product_scaled s a b =
+    let e = seven a b s in
+    each_of_five (λ k. (s *ℤ s) *ℤ at (product22 a b) k ≡ at (product22 (scaled2 s a) (scaled2 s b)) k)
+    (ring e (left_scaled 0) (right_scaled 0) refl) (ring e (left_scaled 1) (right_scaled 1) refl) (ring e (left_scaled 2) (right_scaled 2) refl)
+    (ring e (left_scaled 3) (right_scaled 3) refl) (ring e (left_scaled 4) (right_scaled 4) refl)
 
 -- s times the form A of a cell is the part of the stretch's form a
 abbrev pub IsPart : ℤ → ℤ → ℤ → ℤ → ℤ → List ℤ → List ℤ → Type 0
@@ -235,12 +234,12 @@ three_products a b c d e f k = (at (product22 a b) k +ℤ at (product22 c d) k) 
 
 vector_is : (x0 x1 x2 y0 y1 y2 : List ℤ) (k : ℕ) → k < 5 → at (vector_product x0 x1 x2 y0 y1 y2) k
     ≡ three_products (component_of x0 x1 x2 0) (component_of y0 y1 y2 0) (component_of x0 x1 x2 1) (component_of y0 y1 y2 1) (component_of x0 x1 x2 2) (component_of y0 y1 y2 2) k
-vector_is x0 x1 x2 y0 y1 y2 zero l = ring (eighteen x0 x1 x2 y0 y1 y2) (whole 0) (by_components 0) refl
-vector_is x0 x1 x2 y0 y1 y2 (suc zero) l = ring (eighteen x0 x1 x2 y0 y1 y2) (whole 1) (by_components 1) refl
-vector_is x0 x1 x2 y0 y1 y2 (suc (suc zero)) l = ring (eighteen x0 x1 x2 y0 y1 y2) (whole 2) (by_components 2) refl
-vector_is x0 x1 x2 y0 y1 y2 (suc (suc (suc zero))) l = ring (eighteen x0 x1 x2 y0 y1 y2) (whole 3) (by_components 3) refl
-vector_is x0 x1 x2 y0 y1 y2 (suc (suc (suc (suc zero)))) l = ring (eighteen x0 x1 x2 y0 y1 y2) (whole 4) (by_components 4) refl
-vector_is x0 x1 x2 y0 y1 y2 (suc (suc (suc (suc (suc k))))) l = absurd (omega arith)
+vector_is x0 x1 x2 y0 y1 y2 =
+    let e = eighteen x0 x1 x2 y0 y1 y2 in
+    each_of_five (λ k. at (vector_product x0 x1 x2 y0 y1 y2) k
+    ≡ three_products (component_of x0 x1 x2 0) (component_of y0 y1 y2 0) (component_of x0 x1 x2 1) (component_of y0 y1 y2 1) (component_of x0 x1 x2 2) (component_of y0 y1 y2 2) k)
+    (ring e (whole 0) (by_components 0) refl) (ring e (whole 1) (by_components 1) refl) (ring e (whole 2) (by_components 2) refl)
+    (ring e (whole 3) (by_components 3) refl) (ring e (whole 4) (by_components 4) refl)
 
 moment_is : (p p' q q' a c : List ℤ) (k : ℕ) → k < 5 → at (moment_product p p' q q' a c) k
     ≡ three_products (turn_x p p' a c) (turn_x q q' a c) (turn_y p p' a c) (turn_y q q' a c) (turn_z p p' a c) (turn_z q q' a c) k

@@ -9,14 +9,7 @@ use Rattle.bern_form.specs.Cells.{dot_on_cell}
 use Rattle.bern_form.specs.Forms.{lifted}
 use Rattle.ray_runs.specs.Apart.{AreAbove, AreBeside, AreBesideAt}
 use Rattle.ray_runs.specs.Moments.{middle_moment, moment, moment_product, vector_product}
-
-pub five_cases : (P : ℕ → Type 0) → P 0 → P 1 → P 2 → P 3 → P 4 → (i : ℕ) → i < 5 → P i
-five_cases P a b c d e zero l = a
-five_cases P a b c d e (suc zero) l = b
-five_cases P a b c d e (suc (suc zero)) l = c
-five_cases P a b c d e (suc (suc (suc zero))) l = d
-five_cases P a b c d e (suc (suc (suc (suc zero)))) l = e
-five_cases P a b c d e (suc (suc (suc (suc (suc k))))) l = absurd (omega arith)
+use Rattle.ray_runs.proofs.Fives.{each_of_five}
 
 above_same : (f r r' x x' y y' z z' : ℤ) → r ≡ r' → x ≡ x' → y ≡ y' → z ≡ z' → AreAbove f r x y z → AreAbove f r' x' y' z'
 above_same f r r' x x' y y' z z' er ex ey ez h =
@@ -61,7 +54,7 @@ pub beside_of : (f : ℤ) (p p' q q' a c x0 x1 x2 y0 y1 y2 r : List ℤ) → r �
     → AreBeside f p p' q q' a c
 beside_of f p p' q q' a c x0 x1 x2 y0 y1 y2 r er e0 e1 e2 f0 f1 f2 start end h =
     let amid = λ (i : ℕ) (some : 0 < i) (few : i < 4). amid_of f p p' q q' a c x0 x1 x2 y0 y1 y2 r er e0 e1 e2 f0 f1 f2 i (h i some few) in
-    five_cases (IsAboveIn f p p' q q' a c) (at_end f p q a x0 y0 e0 f0 start) (amid 1 (omega arith) (omega arith)) (amid 2 (omega arith) (omega arith)) (amid 3 (omega arith) (omega arith))
+    each_of_five (IsAboveIn f p p' q q' a c) (at_end f p q a x0 y0 e0 f0 start) (amid 1 (omega arith) (omega arith)) (amid 2 (omega arith) (omega arith)) (amid 3 (omega arith) (omega arith))
     (at_end f p' q' c x2 y2 e2 f2 end)
 
 -- the squared length of the axis, raised

@@ -6,6 +6,7 @@ use Rattle.space.proofs.Solver.{Term, var, num, add, mul, ring}
 use Rattle.space.proofs.Terms.{from, sub}
 use Rattle.bern_form.specs.Forms.{product22}
 use Rattle.ray_runs.proofs.Convex.{product_natural}
+use Rattle.ray_runs.proofs.Fives.{each_of_five}
 use Rattle.ray_runs.proofs.Parts.{crossed, squared, summed, weight}
 
 -- a cell of a stretch of s cells, with v cells before it and x after it, by its weights at both ends
@@ -125,13 +126,13 @@ pub sum_natural : (a b : ℤ) → pos 0 ≤ℤ a → pos 0 ≤ℤ b → pos 0 �
 sum_natural a b h k = omega (arith, ints, h, k)
 
 product22_natural : (a b : List ℤ) (k : ℕ) → k < 5 → IsNatural a → IsNatural b → pos 0 ≤ℤ at (product22 a b) k
-product22_natural a b zero l h j = product_natural _ _ h.first j.first
-product22_natural a b (suc zero) l h j = sum_natural _ _ (product_natural _ _ h.first j.middle) (product_natural _ _ h.middle j.first)
-product22_natural a b (suc (suc zero)) l h j =
-    sum_natural _ _ (sum_natural _ _ (product_natural _ _ h.first j.last) (product_natural _ _ h.middle j.middle)) (product_natural _ _ h.last j.first)
-product22_natural a b (suc (suc (suc zero))) l h j = sum_natural _ _ (product_natural _ _ h.middle j.last) (product_natural _ _ h.last j.middle)
-product22_natural a b (suc (suc (suc (suc zero)))) l h j = product_natural _ _ h.last j.last
-product22_natural a b (suc (suc (suc (suc (suc k))))) l h j = absurd (omega arith)
+product22_natural a b k l h j =
+    each_of_five (λ i. pos 0 ≤ℤ at (product22 a b) i)
+    (product_natural _ _ h.first j.first)
+    (sum_natural _ _ (product_natural _ _ h.first j.middle) (product_natural _ _ h.middle j.first))
+    (sum_natural _ _ (sum_natural _ _ (product_natural _ _ h.first j.last) (product_natural _ _ h.middle j.middle)) (product_natural _ _ h.last j.first))
+    (sum_natural _ _ (product_natural _ _ h.middle j.last) (product_natural _ _ h.last j.middle))
+    (product_natural _ _ h.last j.last) k l
 
 pub squared_natural : (w x : ℤ) → pos 0 ≤ℤ w → pos 0 ≤ℤ x → IsNatural (squared w x)
 squared_natural w x h k = record {
@@ -171,26 +172,24 @@ crossed_positive s w v x y c = positive_more (w *ℤ y) (v *ℤ x) (product_posi
 
 -- each row has a weight that is above 0, in its own place
 own_positive : (s w v x y : ℤ) (k : ℕ) → k < 5 → IsCut s w v x y → pos 0 <ℤ weight w v x y k k
-own_positive s w v x y zero l c = let a = product_positive w w c.first c.first in product_positive _ _ a a
-own_positive s w v x y (suc zero) l c =
-    positive_more _ _ (product_positive _ _ (product_positive w w c.first c.first) (crossed_positive s w v x y c))
-    (product_natural _ _ (product_natural (pos 2) (w *ℤ x) (omega (arith, ints)) (product_natural w x (natural_of w c.first) c.after)) (product_natural w v (natural_of w c.first) c.before))
-own_positive s w v x y (suc (suc zero)) l c =
-    let a = crossed_positive s w v x y c in let b = product_natural w v (natural_of w c.first) c.before in let d = product_natural x y c.after (natural_of y c.last) in
-    positive_more _ _ (more_positive _ _ (product_natural _ _ b d) (product_positive _ _ a a)) (product_natural _ _ d b)
-own_positive s w v x y (suc (suc (suc zero))) l c =
-    positive_more _ _ (product_positive _ _ (crossed_positive s w v x y c) (product_positive y y c.last c.last))
-    (product_natural _ _ (product_natural x y c.after (natural_of y c.last)) (product_natural (pos 2) (v *ℤ y) (omega (arith, ints)) (product_natural v y c.before (natural_of y c.last))))
-own_positive s w v x y (suc (suc (suc (suc zero)))) l c = let a = product_positive y y c.last c.last in product_positive _ _ a a
-own_positive s w v x y (suc (suc (suc (suc (suc k))))) l c = absurd (omega arith)
+own_positive s w v x y k l c =
+    let W = natural_of w c.first in let Y = natural_of y c.last in
+    let ww = product_positive w w c.first c.first in let yy = product_positive y y c.last c.last in let cross = crossed_positive s w v x y c in
+    let wv = product_natural w v W c.before in let xy = product_natural x y c.after Y in
+    each_of_five (λ i. pos 0 <ℤ weight w v x y i i)
+    (product_positive _ _ ww ww)
+    (positive_more _ _ (product_positive _ _ ww cross) (product_natural _ _ (product_natural (pos 2) (w *ℤ x) (omega (arith, ints)) (product_natural w x W c.after)) wv))
+    (positive_more _ _ (more_positive _ _ (product_natural _ _ wv xy) (product_positive _ _ cross cross)) (product_natural _ _ xy wv))
+    (positive_more _ _ (product_positive _ _ cross yy) (product_natural _ _ xy (product_natural (pos 2) (v *ℤ y) (omega (arith, ints)) (product_natural v y c.before Y))))
+    (product_positive _ _ yy yy) k l
 
 some_in_total : (m : ℕ → ℤ) (k : ℕ) → k < 5 → AreNatural m → pos 0 <ℤ m k → pos 0 <ℤ total m
-some_in_total m zero l n some = let n1 = n 1 (omega arith) in let n2 = n 2 (omega arith) in let n3 = n 3 (omega arith) in let n4 = n 4 (omega arith) in omega (arith, ints, some, n1, n2, n3, n4)
-some_in_total m (suc zero) l n some = let n0 = n 0 (omega arith) in let n2 = n 2 (omega arith) in let n3 = n 3 (omega arith) in let n4 = n 4 (omega arith) in omega (arith, ints, some, n0, n2, n3, n4)
-some_in_total m (suc (suc zero)) l n some = let n0 = n 0 (omega arith) in let n1 = n 1 (omega arith) in let n3 = n 3 (omega arith) in let n4 = n 4 (omega arith) in omega (arith, ints, some, n0, n1, n3, n4)
-some_in_total m (suc (suc (suc zero))) l n some = let n0 = n 0 (omega arith) in let n1 = n 1 (omega arith) in let n2 = n 2 (omega arith) in let n4 = n 4 (omega arith) in omega (arith, ints, some, n0, n1, n2, n4)
-some_in_total m (suc (suc (suc (suc zero)))) l n some = let n0 = n 0 (omega arith) in let n1 = n 1 (omega arith) in let n2 = n 2 (omega arith) in let n3 = n 3 (omega arith) in omega (arith, ints, some, n0, n1, n2, n3)
-some_in_total m (suc (suc (suc (suc (suc k))))) l n some = absurd (omega arith)
+some_in_total m k l n =
+    let n0 = n 0 (omega arith) in let n1 = n 1 (omega arith) in let n2 = n 2 (omega arith) in let n3 = n 3 (omega arith) in let n4 = n 4 (omega arith) in
+    each_of_five (λ i. pos 0 <ℤ m i → pos 0 <ℤ total m)
+    (λ some. omega (arith, ints, some, n0, n1, n2, n3, n4)) (λ some. omega (arith, ints, some, n0, n1, n2, n3, n4))
+    (λ some. omega (arith, ints, some, n0, n1, n2, n3, n4)) (λ some. omega (arith, ints, some, n0, n1, n2, n3, n4))
+    (λ some. omega (arith, ints, some, n0, n1, n2, n3, n4)) k l
 
 pub weight_some : (s w v x y : ℤ) (k : ℕ) → k < 5 → IsCut s w v x y → pos 0 <ℤ total (weight w v x y k)
 weight_some s w v x y k l c = some_in_total (weight w v x y k) k l (weight_natural s w v x y k l c) (own_positive s w v x y k l c)

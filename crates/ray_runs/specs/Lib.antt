@@ -3,3 +3,4 @@ pub mod Between
 pub mod Moments
 pub mod Apart
 pub mod Open
+pub mod Searched

@@ -9,6 +9,7 @@ mod likely;
 mod moments;
 mod pair;
 mod run;
+mod searched;
 mod slab_at;
 
 pub use clear::{OpenStretch, open_stretch};
