@@ -11,16 +11,12 @@ pub fn ones(word: u64) -> u64
     u64::from(word.count_ones())
 }
 
-/// How many bits both words have. Of a body and a move's marks that is mostly none, which is seen without a count.
+/// How many bits both words have.
 #[inline]
 pub fn ones_meet(a: u64, b: u64) -> u64
     ensures { result ≡ count_below 64 (λ k. has_bit a k && has_bit b k) }
 {
-    let both = a & b;
-    if both == 0 {
-        return 0;
-    }
-    ones(both)
+    ones(a & b)
 }
 
 /// How many bits the first two words have and the third has not.
