@@ -182,3 +182,10 @@ pub mod ledger {
         pub fn add(&mut self, _: &mut Share<L>, _: u32) {}
     }
 }
+pub mod thread {
+    /// The copy runs in one thread: what the program joins is done there one after the other.
+    pub trait Threads {}
+    pub fn join<R: Threads, A, B>(_: &R, a: impl FnOnce() -> A, b: impl FnOnce() -> B) -> (A, B) {
+        (a(), b())
+    }
+}

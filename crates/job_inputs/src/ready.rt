@@ -16,6 +16,7 @@ use point_marks::{Usual, size, sweep_of};
 use ray_shapes::Bodies;
 use setup_file::{Setup, shifted};
 use std::alloc::Global;
+use std::thread::Threads;
 use strip_plan::{Plan, PlanMove};
 use vf_io::NoMemory;
 
@@ -98,8 +99,13 @@ fn raised_fixture(alloc: Global, setup: &Setup) -> Result<Bodies, NoMemory>
     shifted(alloc, setup.fixture.as_slice(), setup.clearance)
 }
 
-/// Makes a task ready to be done. Fails only for want of memory.
-pub fn make_ready(alloc: Global, inputs: TaskInputs) -> Result<ReadyTask, NoMemory>
+/// Makes a task ready to be done, by so many workers. Fails only for want of memory.
+pub fn make_ready<R: Threads + Sync>(
+    rt: &R,
+    alloc: Global,
+    inputs: TaskInputs,
+    workers: u32,
+) -> Result<ReadyTask, NoMemory>
     ensures task { IfOk result (λ ready. task_ready ready ≡ inputs) }
     ensures asked { IfOk result (λ ready. All (IsQuery ready.plan.grid (length ready.plan.edits)) ready.queries) }
     ensures valid { IfOk result (λ ready. IsPlan ready.plan) }
@@ -111,7 +117,16 @@ pub fn make_ready(alloc: Global, inputs: TaskInputs) -> Result<ReadyTask, NoMemo
     } = inputs;
     let moves = plan_moves(alloc, &setup.tool, program.moves.as_slice())?;
     let Script { edits, queries } = script;
-    let plan = Plan::new(alloc, setup.grid, setup.slabs, setup.depth, moves, edits)?;
+    let plan = Plan::by_workers(
+        rt,
+        alloc,
+        setup.grid,
+        setup.slabs,
+        setup.depth,
+        moves,
+        edits,
+        workers,
+    )?;
     let stock = setup.stock.copy()?;
     let part = lowered_part(alloc, &setup)?;
     let fixture = raised_fixture(alloc, &setup)?;

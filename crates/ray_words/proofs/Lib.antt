@@ -5,3 +5,4 @@ pub mod Keeping
 pub mod Ranges
 pub mod Runs
 pub mod Settling
+pub mod SettledRays

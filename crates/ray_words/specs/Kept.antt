@@ -5,7 +5,7 @@ use Rattle.vf_spans.specs.Members.{has}
 use Rattle.vf_spans.specs.Words.{has_bit, words_below}
 use Rattle.dexel_rays.specs.declared.word_sets.WordSets.{WordSets}
 use Rattle.dexel_rays.specs.Sets.{Sets}
-use Rattle.ray_words.specs.Rays.{HasNoneWanted, IsWordAt, KeptSets}
+use Rattle.ray_words.specs.Rays.{IsWordAt, KeptSets}
 
 -- five words in which no bit is set
 abbrev pub no_bits : WordSets
@@ -48,11 +48,6 @@ pub record IsWordRay (stock part fixture : List Bool) (first : ℕ) (words : Lis
   pub fixture_bound : length fixture ≡ length stock
   pub within : first + length words ≤ words_below (length stock)
   pub bits : (n : ℕ) → first ≤ n → n < first + length words → IsWordAt (sets_of stock part fixture first words) n (word_at first words n)
-
--- and at no index of the range that is settled has a move to be asked
-pub record IsSettledRay (stock part fixture : List Bool) (first : ℕ) (words : List WordSets) (settled : ℕ × ℕ) : Type 0 where
-  pub ray : IsWordRay stock part fixture first words
-  pub none : HasNoneWanted (sets_of stock part fixture first words) settled
 
 -- a word at which no move was sure and none possible
 pub record IsUnmarked (d : Sets) (n : ℕ) : Type 0 where

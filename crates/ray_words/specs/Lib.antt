@@ -1,2 +1,3 @@
 pub mod Rays
 pub mod Kept
+pub mod Rows

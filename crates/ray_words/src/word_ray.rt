@@ -3,10 +3,9 @@ ghost use Rattle.vf_spans.specs.Members.{count_of, has};
 ghost use Rattle.vf_spans.specs.Words.{has_bit, words_below};
 ghost use Rattle.dexel_rays.specs.Sets.{HaveBound};
 ghost use Rattle.ray_words.specs.Kept.{AreWordsFrom, IsStretch, IsUnmarked};
-ghost use Rattle.ray_words.specs.Rays.{HasAllWanted, IsBelow, IsGiven, IsKept, IsTaken, IsWordAt, is_wanted_at};
+ghost use Rattle.ray_words.specs.Rays.{IsBelow, IsGiven, IsKept, IsTaken, IsWordAt, is_wanted_at};
 
 use crate::range_word::word_of;
-use crate::settled::Settled;
 use dexel_rays::{WordDelta, WordSets};
 use std::alloc::Global;
 use std::marker::Model;
@@ -15,8 +14,7 @@ use vf_spans::Spans;
 use vf_spans::bits::has_bit;
 
 /// The sets of one ray: the indices that are stock, part and fixture, as ranges, and those of which some move was sure and at
-/// which some move was possible. A stretch of the ray is kept as words of 64 points; beyond it no move was sure or possible. Of a range
-/// of indices it is known that no move has to be asked there, so that the words need not be looked at for it.
+/// which some move was possible. A stretch of the ray is kept as words of 64 points; beyond it no move was sure or possible.
 #[derive(Drop)]
 pub struct WordRay {
     stock: Spans,
@@ -24,18 +22,17 @@ pub struct WordRay {
     fixture: Spans,
     first: u32,
     words: Vec<WordSets>,
-    settled: Settled,
 }
 
 impl Model for WordRay {
     ghost use Rattle.ray_words.specs.Rays.{KeptSets};
-    ghost use Rattle.ray_words.specs.Kept.{IsSettledRay, kept_of};
+    ghost use Rattle.ray_words.specs.Kept.{IsWordRay, kept_of};
 
     ghost Value = { KeptSets };
 
     ghost view = { λ r. kept_of r.stock r.part r.fixture r.first r.words.items };
 
-    ghost invariant = { λ r. IsSettledRay r.stock r.part r.fixture r.first r.words.items r.settled };
+    ghost invariant = { λ r. IsWordRay r.stock r.part r.fixture r.first r.words.items };
 }
 
 impl WordRay {
@@ -57,7 +54,6 @@ impl WordRay {
             fixture,
             first: 0,
             words: Vec::new(alloc),
-            settled: Settled::none(),
         }
     }
 
@@ -124,15 +120,6 @@ impl WordRay {
         }
     }
 
-    /// What is left of a window where points about which no move has to be asked are taken off at either end.
-    #[inline]
-    pub fn unsettled(&self, window: (u32, u32)) -> (u32, u32)
-        requires { window.0 ≤ window.1 }
-        ensures { HasAllWanted self.now.sets window result }
-    {
-        self.settled.cut(window)
-    }
-
     /// Keeps the words from `lo` on and below `hi`, and what is between them and those that are kept already. The sets stay.
     pub fn keep(&mut self, lo: u32, hi: u32) -> Result<(), NoMemory>
         requires some { lo < hi }
@@ -162,11 +149,7 @@ impl WordRay {
         ensures count { self.new.count ≡ self.old.count }
     {
         let at = (n - self.first) as usize;
-        let word = self.words[at].with(delta);
-        // The bound fits.
-        let _bound = self.stock.bound();
-        self.words[at] = word;
-        self.settled = self.settled.grown(n, delta.sure, !word.wanted());
+        self.words[at] = self.words[at].with(delta);
     }
 
     /// Takes the points of a delta in word n away. It takes no memory.
@@ -178,7 +161,6 @@ impl WordRay {
     {
         let at = (n - self.first) as usize;
         self.words[at] = self.words[at].without(delta);
-        self.settled = Settled::none();
     }
 
     /// Word n, if it is kept; else no move was sure or possible there.

@@ -18,30 +18,30 @@ use Rattle.strip_journal.proofs.StripSums.{strip_found_is}
 
 -- what a journal holds, with rays of the same sets
 abbrev with_rays : Journal → Journal → Parts
-with_rays j m = record (parts_of j) { rays = m.rays.items }
+with_rays j m = record (parts_of j) { rays = m.rays }
 
 -- what the move marks on the strip, by its own sets, is what it marks by the moves that are left
 marked_is : (job : Job) (j m : Journal) (move : JobMove) (changes : List WordChange) (counts : Counts) → IsJournal job j
-    → HaveSameSets j.rays.items m.rays.items → IsMarkedStrip job.plan move j.number j.rays.items m.rays.items changes counts
-    → AreMarked job j.number j.done (length m.rays.items) move changes
+    → HaveSameSets j.rays m.rays → IsMarkedStrip job.plan move j.number j.rays m.rays changes counts
+    → AreMarked job j.number j.done (length m.rays) move changes
 marked_is job j m move changes counts h same marked = record {
   sure = λ n l ray point.
-      let old : n < length j.rays.items = let many = same.many in omega (arith, ray, many) in
+      let old : n < length j.rays = let many = same.many in omega (arith, ray, many) in
       marked.sure n l old point ∙ ap (λ b. sure_there job.plan move j.number n l && not b) (h.newest.sure n l old point);
   possible = λ n l ray point.
-      let old : n < length j.rays.items = let many = same.many in omega (arith, ray, many) in
+      let old : n < length j.rays = let many = same.many in omega (arith, ray, many) in
       marked.possible n l old point ∙ ap (λ b. possible_there job.plan move j.number n l && not b) (h.newest.possible n l old point);
 }
 
 -- what is found on the strip by its own sets is what the move finds by the moves that are left
 pub counts_are : (job : Job) (j m : Journal) (move : JobMove) (changes : List WordChange) (counts : Counts) → IsJournal job j
-    → IsMarkedStrip job.plan move j.number j.rays.items m.rays.items changes counts → counts ≡ found_at job j.number j.done move
+    → IsMarkedStrip job.plan move j.number j.rays m.rays changes counts → counts ≡ found_at job j.number j.done move
 counts_are job j m move changes counts h marked = marked.found ∙ strip_found_is job j.number j.done j move h.newest h.strip
 
 -- the next move, with what it changes and finds
 next_is : (job : Job) (j m : Journal) (number : ℕ) (move : JobMove) (changes : List WordChange) (counts : Counts) → IsJournal job j
     → slice_get job.plan.edits j.done ≡ Some (Apply number) → HasNumber job.plan number move
-    → HaveSameSets j.rays.items m.rays.items → IsMarkedStrip job.plan move j.number j.rays.items m.rays.items changes counts
+    → HaveSameSets j.rays m.rays → IsMarkedStrip job.plan move j.number j.rays m.rays changes counts
     → length j.changes.items + length changes < 2 ^ 32
     → IsNextMove job (with_rays j m) number move changes counts
 next_is job j m number move changes counts h applies named same marked few = record {
@@ -69,7 +69,7 @@ same_entry j m changes counts edits = λ i. record {
 
 -- what is held after the move was applied
 applied_is : (j m l : Journal) (changes : List WordChange) (counts : Counts) → HasSameEdits j m → IsApplied m l changes counts
-    → parts_of l ≡ entered_parts (with_rays j m) l.rays.items changes counts
+    → parts_of l ≡ entered_parts (with_rays j m) l.rays changes counts
 applied_is j m l changes counts edits applied =
     let number = applied.strip.number ∙ edits.strip.number in
     let of = applied.strip.of ∙ edits.strip.of in
@@ -82,7 +82,7 @@ applied_is j m l changes counts edits applied =
     λ i. record {
       number = number i;
       of = of i;
-      rays = l.rays.items;
+      rays = l.rays;
       changes = all i;
       entries = entries i;
       line = stands i;
@@ -99,22 +99,22 @@ named_move (move ∷ moves) (suc number) low = named_move moves number (omega (a
 -- by the move itself
 applied_by : (job : Job) (j m l : Journal) (number : ℕ) (move : JobMove) (changes : List WordChange) (counts : Counts)
     → job_of j ≡ job → IsJournal job j → slice_get job.plan.edits j.done ≡ Some (Apply number) → HasNumber job.plan number move
-    → HaveSameSets j.rays.items m.rays.items → HasSameEdits j m
-    → IsMarkedStrip job.plan move j.number j.rays.items m.rays.items changes counts
+    → HaveSameSets j.rays m.rays → HasSameEdits j m
+    → IsMarkedStrip job.plan move j.number j.rays m.rays changes counts
     → length j.changes.items + length changes < 2 ^ 32 → IsApplied m l changes counts → IsJournal (job_of l) l
 applied_by job j m l number move changes counts of h applies named same edits marked few applied =
-    journal_by job l (entered_parts (with_rays j m) l.rays.items changes counts)
+    journal_by job l (entered_parts (with_rays j m) l.rays changes counts)
     (applied.strip.job ∙ edits.strip.job ∙ of) (applied_is j m l changes counts edits applied)
-    (entered_held job (with_rays j m) l.rays.items number move changes counts
-    (same_held job (parts_of j) m.rays.items same (held_of job j h))
+    (entered_held job (with_rays j m) l.rays number move changes counts
+    (same_held job (parts_of j) m.rays same (held_of job j h))
     (next_is job j m number move changes counts h applies named same marked few) applied.rays)
 
 -- A journal whose next edit applies a move, after the move was marked and applied, is that of its strip.
 pub applied_journal : (j m l : Journal) (number : ℕ) (changes : List WordChange) (counts : Counts) → IsJournal (job_of j) j
     → slice_get (job_of j).plan.edits j.done ≡ Some (Apply number) → number < length (job_of j).plan.moves
-    → HaveSameSets j.rays.items m.rays.items → HasSameEdits j m
+    → HaveSameSets j.rays m.rays → HasSameEdits j m
     → ((move : JobMove) → HasNumber (job_of j).plan number move
-    → IsMarkedStrip (job_of j).plan move j.number j.rays.items m.rays.items changes counts)
+    → IsMarkedStrip (job_of j).plan move j.number j.rays m.rays changes counts)
     → length j.changes.items + length changes < 2 ^ 32 → IsApplied m l changes counts → IsJournal (job_of l) l
 applied_journal j m l number changes counts h applies low same edits marked few applied =
     let found = named_move (job_of j).plan.moves number low in

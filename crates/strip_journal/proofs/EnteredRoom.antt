@@ -70,7 +70,7 @@ fits_same j m counts edits fits = record {
 pub marked_fits : (j m : Journal) (number : ℕ) (changes : List WordChange) (counts : Counts) → IsJournal (job_of j) j
     → slice_get (job_of j).plan.edits j.done ≡ Some (Apply number) → number < length (job_of j).plan.moves → HasSameEdits j m
     → ((move : JobMove) → HasNumber (job_of j).plan number move
-    → IsMarkedStrip (job_of j).plan move j.number j.rays.items m.rays.items changes counts)
+    → IsMarkedStrip (job_of j).plan move j.number j.rays m.rays changes counts)
     → FitsEntry m counts
 marked_fits j m number changes counts h applies low edits marked =
     let found = named_move (job_of j).plan.moves number low in
@@ -102,9 +102,9 @@ stands_same j m edits old =
 -- the journal as it is after the edit, and, with the same sets and the same edits, as it was before
 pub applied_at : (j m l : Journal) (number : ℕ) (changes : List WordChange) (counts : Counts) → IsJournal (job_of j) j
     → slice_get (job_of j).plan.edits j.done ≡ Some (Apply number) → number < length (job_of j).plan.moves
-    → HaveSameSets j.rays.items m.rays.items → HasSameEdits j m
+    → HaveSameSets j.rays m.rays → HasSameEdits j m
     → ((move : JobMove) → HasNumber (job_of j).plan number move
-    → IsMarkedStrip (job_of j).plan move j.number j.rays.items m.rays.items changes counts)
+    → IsMarkedStrip (job_of j).plan move j.number j.rays m.rays changes counts)
     → length j.changes.items + length changes < 2 ^ 32 → IsApplied m l changes counts → IsAt j l (j.done + 1)
 applied_at j m l number changes counts h applies low same edits marked few applied = record {
   journal = applied_journal j m l number changes counts h applies low same edits marked few applied;
@@ -113,7 +113,7 @@ applied_at j m l number changes counts h applies low same edits marked few appli
   done_is = applied.done ∙ ap (λ n. n + 1) edits.done;
 }
 
-pub same_at : (j k : Journal) → IsJournal (job_of j) j → HaveSameSets j.rays.items k.rays.items → HasSameEdits j k → IsAt j k j.done
+pub same_at : (j k : Journal) → IsJournal (job_of j) j → HaveSameSets j.rays k.rays → HasSameEdits j k → IsAt j k j.done
 same_at j k h same edits = record {
   journal = same_journal j k h same edits;
   job = edits.strip.job;

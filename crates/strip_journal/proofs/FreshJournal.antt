@@ -19,7 +19,8 @@ use Rattle.job_model.specs.Points.{is_stock, left_moves, point_in, strip_points,
 use Rattle.job_model.specs.Tasks.{IsPlan, Job, PlanOf}
 use Rattle.job_model.proofs.Sums.{count_append, count_map}
 use Rattle.ray_words.specs.Rays.{KeptSets}
-use Rattle.strip_marks.specs.Marks.{kept_of, ray_of}
+use Rattle.ray_words.specs.Rows.{kept_at}
+use Rattle.strip_marks.specs.Marks.{ray_of}
 use Rattle.strip_marks.proofs.MoreRays.{no_sets}
 use Rattle.strip_journal.specs.declared.journal.Journal.{Journal}
 use Rattle.strip_journal.specs.Fresh.{AreFreshRays, IsFreshRay, stock_points}
@@ -63,7 +64,7 @@ first_stock : (job : Job) (strip : ℕ) (kept : List KeptSets) → AreFirstRays 
     → stock_points kept ≡ (totals_over job (strip_points job.plan.grid strip) (left_moves job.plan 0)).of
 first_stock job strip kept fresh =
     stock_sum job.plan.grid (is_stock job) (strip_at job.plan.grid strip) kept fresh.many
-    (λ n low. ray_stock job (ray_of job.plan.grid strip n) (kept_of kept n) (fresh.each n low))
+    (λ n low. ray_stock job (ray_of job.plan.grid strip n) (kept_at kept n) (fresh.each n low))
 
 -- no index of it is sure, and none possible
 never : (b : Bool) → b ≡ false → b ≡ true → ⊥
@@ -72,7 +73,7 @@ never b off on = cc
 first_sets : (job : Job) (strip : ℕ) (kept : List KeptSets) → AreFirstRays job strip kept → AreSetsAt job strip 0 kept
 first_sets job strip kept fresh =
     let one : (n : ℕ) → n < length kept
-    → IsFreshRay job.plan.grid (ray_of job.plan.grid strip n) job.stock job.part job.fixture (kept_of kept n) =
+    → IsFreshRay job.plan.grid (ray_of job.plan.grid strip n) job.stock job.part job.fixture (kept_at kept n) =
     λ n low. fresh.each n (omega (arith, low, fresh.many)) in
     record {
       rays = record {
@@ -147,18 +148,18 @@ job_made j plan stock part fixture p s q f = λ i. record { plan = p i; stock = 
 
 -- a journal that keeps nothing of edits
 pub record IsUnedited (j : Journal) : Type 0 where
-  pub of : j.of ≡ stock_points j.rays.items
+  pub of : j.of ≡ stock_points j.rays
   pub changes : j.changes.items ≡ []
   pub entries : j.entries.items ≡ []
   pub line : j.line ≡ []
   pub at : j.at ≡ 0
   pub done : j.done ≡ 0
 
-parts_made : (j : Journal) → IsUnedited j → parts_of j ≡ first_parts j.number (stock_points j.rays.items) j.rays.items
+parts_made : (j : Journal) → IsUnedited j → parts_of j ≡ first_parts j.number (stock_points j.rays) j.rays
 parts_made j is = λ i. record {
   number = j.number;
   of = is.of i;
-  rays = j.rays.items;
+  rays = j.rays;
   changes = is.changes i;
   entries = is.entries i;
   line = is.line i;
@@ -178,9 +179,9 @@ pub first_journal : (j : Journal) (plan : PlanOf) (stock part fixture : Solid) �
     → j.part.value ≡ part → j.fixture.value ≡ fixture → IsPlan plan → IsGrid plan.grid → j.number < length (strips_of plan.grid)
     → length plan.edits ≤ most_edits
     → All (AppliesBelow (length plan.moves)) plan.edits
-    → AreFreshRays plan.grid j.number (length (strip_at plan.grid j.number)) stock part fixture j.rays.items
+    → AreFreshRays plan.grid j.number (length (strip_at plan.grid j.number)) stock part fixture j.rays
     → IsUnedited j → IsJournal (job_of j) j
 first_journal j plan stock part fixture p s q f valid grid strip few named fresh unedited =
     let job : Job = record { plan = plan; stock = stock; part = part; fixture = fixture } in
-    journal_by job j (first_parts j.number (stock_points j.rays.items) j.rays.items) (job_made j plan stock part fixture p s q f)
-    (parts_made j unedited) (first_held job j.number j.rays.items valid grid strip few named fresh)
+    journal_by job j (first_parts j.number (stock_points j.rays) j.rays) (job_made j plan stock part fixture p s q f)
+    (parts_made j unedited) (first_held job j.number j.rays valid grid strip few named fresh)

@@ -11,7 +11,8 @@ use Rattle.ray_grid.specs.Ranges.{IsGrid}
 use Rattle.ray_grid.specs.Strips.{strip_at, strips_of}
 use Rattle.ray_shapes.specs.declared.solid.Solid.{Solid}
 use Rattle.ray_words.specs.Rays.{KeptSets}
-use Rattle.strip_marks.specs.Marks.{kept_of, ray_of}
+use Rattle.ray_words.specs.Rows.{kept_at}
+use Rattle.strip_marks.specs.Marks.{ray_of}
 use Rattle.strip_marks.proofs.MoreRays.{no_sets}
 use Rattle.strip_marks.proofs.OnStrips.{ray_there}
 use Rattle.strip_journal.specs.Fresh.{AreFreshRays, IsFreshRay, stock_points}
@@ -75,7 +76,7 @@ all_few grid strip n stock part fixture rays is fresh =
     let all =
     sum_by-le stock_of 400000 rays
     (λ k d low.
-    let few = one_few grid strip k stock part fixture (kept_of rays k) is (fresh.each k (omega (arith, low, fresh.many))) in
+    let few = one_few grid strip k stock part fixture (kept_at rays k) is (fresh.each k (omega (arith, low, fresh.many))) in
     omega (arith, few, ap stock_of (get_or_default rays k d no_sets low))) in
     omega (arith, all, ap (λ k. k * 400000) fresh.many)
 

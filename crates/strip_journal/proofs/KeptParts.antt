@@ -32,7 +32,7 @@ abbrev pub parts_of : Journal → Parts
 parts_of j = record {
   number = j.number;
   of = j.of;
-  rays = j.rays.items;
+  rays = j.rays;
   changes = j.changes.items;
   entries = j.entries.items;
   line = j.line;

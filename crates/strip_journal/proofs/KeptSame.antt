@@ -81,21 +81,21 @@ same_held job p after same h = record {
 }
 
 -- a journal with the same sets and the same edits
-pub same_journal : (j k : Journal) → IsJournal (job_of j) j → HaveSameSets j.rays.items k.rays.items → HasSameEdits j k
+pub same_journal : (j k : Journal) → IsJournal (job_of j) j → HaveSameSets j.rays k.rays → HasSameEdits j k
     → IsJournal (job_of k) k
 same_journal j k h same edits =
-    let p : Parts = record (parts_of j) { rays = k.rays.items } in
+    let p : Parts = record (parts_of j) { rays = k.rays } in
     let holds : parts_of k ≡ p = λ i. record {
       number = edits.strip.number i;
       of = edits.strip.of i;
-      rays = k.rays.items;
+      rays = k.rays;
       changes = edits.changes i;
       entries = edits.entries i;
       line = edits.line i;
       at = edits.at i;
       done = edits.done i;
     } in
-    journal_by (job_of j) k p edits.strip.job holds (same_held (job_of j) (parts_of j) k.rays.items same (held_of (job_of j) j h))
+    journal_by (job_of j) k p edits.strip.job holds (same_held (job_of j) (parts_of j) k.rays same (held_of (job_of j) j h))
 
 -- what two steps one after the other keep of the edits, both keep
 pub same_edits_through : (j m k : Journal) → HasSameEdits j m → HasSameEdits m k → HasSameEdits j k

@@ -115,9 +115,9 @@ look_step of pick rays points changes entries many done place n l tracked h low 
     (omega (arith, here, next)) ray point)
 
 -- the walk begins past the last entry, with the newest sets
-pub looking_start : (j : Journal) (version n l : ℕ) → IsJournal (job_of j) j → version ≤ j.done → n < length j.rays.items
+pub looking_start : (j : Journal) (version n l : ℕ) → IsJournal (job_of j) j → version ≤ j.done → n < length j.rays
     → l < points_at (job_of j).plan.grid j.number n
-    → IsLookingBack j version n l (length j.entries.items) (has (sets_of j.rays.items n).sure l, has (sets_of j.rays.items n).possible l)
+    → IsLookingBack j version n l (length j.entries.items) (has (sets_of j.rays n).sure l, has (sets_of j.rays n).possible l)
 looking_start j version n l h within ray point = record {
   within = omega arith;
   above = let last = version_last j.entries.items j.done (length j.entries.items) (omega arith) in omega (arith, last, within);
@@ -126,7 +126,7 @@ looking_start j version n l h within ray point = record {
 }
 
 -- it goes one entry back
-pub looking_step : (j : Journal) (version n l place : ℕ) (marks : Bool × Bool) → IsJournal (job_of j) j → n < length j.rays.items
+pub looking_step : (j : Journal) (version n l place : ℕ) (marks : Bool × Bool) → IsJournal (job_of j) j → n < length j.rays
     → l < points_at (job_of j).plan.grid j.number n → place < length j.entries.items → version ≤ edit_at j.entries.items place
     → IsLookingBack j version n l (place + 1) marks
     → IsLookingBack j version n l place (
@@ -168,7 +168,7 @@ pub record IsLookedBack (j : Journal) (version n l : ℕ) (marks : Bool × Bool)
   pub possible : marks.1 ≡ possible_at (job_of j) j.number version n l
 
 -- it ends where no entry ahead is of the version or behind it
-pub looked_back : (j : Journal) (version n l place : ℕ) (marks : Bool × Bool) → IsJournal (job_of j) j → n < length j.rays.items
+pub looked_back : (j : Journal) (version n l place : ℕ) (marks : Bool × Bool) → IsJournal (job_of j) j → n < length j.rays
     → l < points_at (job_of j).plan.grid j.number n → (0 < place → edit_at j.entries.items (place - 1) < version)
     → IsLookingBack j version n l place marks → IsLookedBack j version n l marks
 looked_back j version n l place marks h ray point last looking =
@@ -185,9 +185,9 @@ looked_back j version n l place marks h ray point last looking =
     }
 
 -- the state of the point at the version
-pub looked_state : (j : Journal) (version n l : ℕ) (marks : Bool × Bool) → IsJournal (job_of j) j → n < length j.rays.items
+pub looked_state : (j : Journal) (version n l : ℕ) (marks : Bool × Bool) → IsJournal (job_of j) j → n < length j.rays
     → l < points_at (job_of j).plan.grid j.number n → IsLookedBack j version n l marks
-    → (if not (has (sets_of j.rays.items n).stock l) then Absent
+    → (if not (has (sets_of j.rays n).stock l) then Absent
     else (if marks.0 then Removed else (if marks.1 then Possible else Kept)))
     ≡ state_after (job_of j) (left_moves (job_of j).plan version) (point_at (job_of j).plan.grid j.number n l)
 looked_state j version n l marks h ray point looked = rw ((h.newest.bodies n ray).stock l point, looked.sure, looked.possible) refl

@@ -6,7 +6,8 @@ use Rattle.job_facts.specs.declared.totals.PointState.{PointState}
 use Rattle.job_facts.specs.declared.totals.PointState.TheVariants.{Absent, Kept, Possible, Removed}
 use Rattle.job_model.specs.Points.{left_moves, state_after}
 use Rattle.ray_words.specs.Rays.{KeptSets}
-use Rattle.strip_marks.specs.Marks.{AreInOrder, among, kept_of, point_at, points_at, possible_of, sure_of}
+use Rattle.ray_words.specs.Rows.{kept_at}
+use Rattle.strip_marks.specs.Marks.{AreInOrder, among, point_at, points_at, possible_of, sure_of}
 use Rattle.strip_journal.specs.declared.entry.Entry.{Entry}
 use Rattle.strip_journal.specs.declared.journal.Journal.{Journal}
 use Rattle.strip_journal.specs.Entries.{changes_of, edit_at, entry_at, no_entry, was}
@@ -14,28 +15,24 @@ use Rattle.strip_journal.specs.Journals.{IsJournal, job_of}
 use Rattle.strip_journal.specs.Looking.{IsLookingBack}
 use Rattle.strip_journal.proofs.LookBack.{looked_back, looked_cost, looked_state, looking_start, looking_step}
 
--- the ray and the entry that are read
-ray_read : (rays : List KeptSets) (n : ℕ) (ray : KeptSets) → n < length rays → ray ≡ slice_index_or rays n ray → ray ≡ kept_of rays n
-ray_read rays n ray low is = is ∙ get_or_default rays n ray _ low
-
+-- the entry that is read
 pub entry_read : (entries : List Entry) (place : ℕ) (entry : Entry) → place < length entries → entry ≡ slice_index_or entries place entry
     → entry ≡ entry_at entries place
 entry_read entries place entry low is = is ∙ get_or_default entries place entry no_entry low
 
 -- the walk begins past the last entry
 pub look_begins : (j : Journal) (version n l place : ℕ) (ray : KeptSets) (sure possible : Bool) → IsJournal (job_of j) j → version ≤ j.done
-    → n < length j.rays.items → l < points_at j.plan.value.grid j.number n → ray ≡ slice_index_or j.rays.items n ray
+    → n < length j.rays → l < points_at j.plan.value.grid j.number n → ray ≡ kept_at j.rays n
     → place ≡ length j.entries.items → sure ≡ has ray.sets.sure l → possible ≡ has ray.sets.possible l
     → IsLookingBack j version n l place (sure, possible)
 look_begins j version n l place ray sure possible h within low point read past first second =
-    let is = ray_read j.rays.items n ray low read in
     let start = looking_start j version n l h within low point in
     subst (λ (p : ℕ). IsLookingBack j version n l p (sure, possible)) (sym past)
     record {
       within = start.within;
       above = start.above;
-      sure = first ∙ ap (λ (r : KeptSets). has r.sets.sure l) is ∙ start.sure;
-      possible = second ∙ ap (λ (r : KeptSets). has r.sets.possible l) is ∙ start.possible;
+      sure = first ∙ ap (λ (r : KeptSets). has r.sets.sure l) read ∙ start.sure;
+      possible = second ∙ ap (λ (r : KeptSets). has r.sets.possible l) read ∙ start.possible;
     }
 
 -- what is needed to look back from an entry
@@ -52,7 +49,7 @@ entry_of_journal j place entry h low read =
 
 -- it goes one entry back
 pub look_goes_on : (j : Journal) (version n l place : ℕ) (entry tested : Entry) (marks next : Bool × Bool) → IsJournal (job_of j) j
-    → n < length j.rays.items → l < points_at j.plan.value.grid j.number n → 0 < place
+    → n < length j.rays → l < points_at j.plan.value.grid j.number n → 0 < place
     → entry ≡ slice_index_or j.entries.items (place - 1) entry → tested ≡ slice_index_or j.entries.items (place - 1) tested
     → version ≤ tested.edit
     → next.0 ≡ was entry.is_undo (among sure_of (changes_of j.changes.items entry) n l) marks.0
@@ -90,8 +87,8 @@ ahead_read entries version place tested some within read below =
 
 -- it ends with the state at the version
 pub look_ends : (j : Journal) (version n l place : ℕ) (ray : KeptSets) (stock : Bool) (marks : Bool × Bool) (told : PointState)
-    → IsJournal (job_of j) j → n < length j.rays.items → l < points_at j.plan.value.grid j.number n
-    → ray ≡ slice_index_or j.rays.items n ray
+    → IsJournal (job_of j) j → n < length j.rays → l < points_at j.plan.value.grid j.number n
+    → ray ≡ kept_at j.rays n
     → stock ≡ has ray.sets.stock l
     → told ≡ (if not stock then Absent else (if marks.0 then Removed else (if marks.1 then Possible else Kept)))
     → (0 < place → edit_at j.entries.items (place - 1) < version)
@@ -100,7 +97,7 @@ pub look_ends : (j : Journal) (version n l place : ℕ) (ray : KeptSets) (stock 
 look_ends j version n l place ray stock marks told h low point read is tells last looking =
     tells
     ∙ ap (λ (b : Bool). if not b then Absent else (if marks.0 then Removed else (if marks.1 then Possible else Kept)))
-    (is ∙ ap (λ (r : KeptSets). has r.sets.stock l) (ray_read j.rays.items n ray low read))
+    (is ∙ ap (λ (r : KeptSets). has r.sets.stock l) read)
     ∙ looked_state j version n l marks h low point (looked_back j version n l place marks h low point last looking)
 
 -- so it took no more steps than edits were done since the version

@@ -20,26 +20,26 @@ pub record IsMarking (plan : PlanOf) (j m : Journal) (number : ℕ) (changes : L
   pub plan_is : j.plan.value ≡ plan
   pub applies : slice_get plan.edits j.done ≡ Some (Apply number)
   pub low : number < length plan.moves
-  pub same : HaveSameSets j.rays.items m.rays.items
+  pub same : HaveSameSets j.rays m.rays
   pub edits : HasSameEdits j m
-  pub marked : (move : JobMove) → HasNumber plan number move → IsMarkedStrip plan move j.number j.rays.items m.rays.items changes counts
+  pub marked : (move : JobMove) → HasNumber plan number move → IsMarkedStrip plan move j.number j.rays m.rays changes counts
 
 -- the same of the journal's own plan
 pub record IsOwnMarking (j m : Journal) (number : ℕ) (changes : List WordChange) (counts : Counts) : Type 0 where
   pub applies : slice_get (job_of j).plan.edits j.done ≡ Some (Apply number)
   pub low : number < length (job_of j).plan.moves
   pub marked : (move : JobMove) → HasNumber (job_of j).plan number move
-      → IsMarkedStrip (job_of j).plan move j.number j.rays.items m.rays.items changes counts
+      → IsMarkedStrip (job_of j).plan move j.number j.rays m.rays changes counts
 
 own_by : (p q : PlanOf) (j m : Journal) (number : ℕ) (changes : List WordChange) (counts : Counts) → q ≡ p
     → slice_get q.edits j.done ≡ Some (Apply number) → number < length q.moves
-    → ((move : JobMove) → HasNumber q number move → IsMarkedStrip q move j.number j.rays.items m.rays.items changes counts)
+    → ((move : JobMove) → HasNumber q number move → IsMarkedStrip q move j.number j.rays m.rays changes counts)
     → (slice_get p.edits j.done ≡ Some (Apply number)) × (number < length p.moves)
-    × ((move : JobMove) → HasNumber p number move → IsMarkedStrip p move j.number j.rays.items m.rays.items changes counts)
+    × ((move : JobMove) → HasNumber p number move → IsMarkedStrip p move j.number j.rays m.rays changes counts)
 own_by p q j m number changes counts is applies low marked =
     subst
     (λ (z : PlanOf). (slice_get z.edits j.done ≡ Some (Apply number)) × (number < length z.moves)
-    × ((move : JobMove) → HasNumber z number move → IsMarkedStrip z move j.number j.rays.items m.rays.items changes counts))
+    × ((move : JobMove) → HasNumber z number move → IsMarkedStrip z move j.number j.rays m.rays changes counts))
     is (applies, low, marked)
 
 pub own_marking : (plan : PlanOf) (j m : Journal) (number : ℕ) (changes : List WordChange) (counts : Counts)
@@ -56,7 +56,7 @@ marking_fits plan j m number changes counts is =
     marked_fits j m number changes counts is.journal own.applies own.low is.edits own.marked
 
 pub marking_on : (plan : PlanOf) (j m : Journal) (number : ℕ) (changes : List WordChange) (counts : Counts)
-    → IsMarking plan j m number changes counts → All (IsChangeOn m.rays.items) changes
+    → IsMarking plan j m number changes counts → All (IsChangeOn m.rays) changes
 marking_on plan j m number changes counts is =
     let named = named_move plan.moves number is.low in (is.marked named.0 named.1).on
 

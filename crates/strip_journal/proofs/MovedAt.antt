@@ -34,9 +34,9 @@ same_sets_of : (rays : List KeptSets) → HaveSameSets rays rays
 same_sets_of rays = record { many = refl; sets = λ n low. refl; kept = λ n k low kept. kept }
 
 -- nothing of the journal changed
-pub unmoved_at : (j k : Journal) → IsJournal (job_of j) j → HasSameEdits j k → k.rays.items ≡ j.rays.items → IsAt j k j.done
+pub unmoved_at : (j k : Journal) → IsJournal (job_of j) j → HasSameEdits j k → k.rays ≡ j.rays → IsAt j k j.done
 unmoved_at j k h edits rays =
-    same_at j k h (subst (λ (z : List KeptSets). HaveSameSets j.rays.items z) (sym rays) (same_sets_of j.rays.items)) edits
+    same_at j k h (subst (λ (z : List KeptSets). HaveSameSets j.rays z) (sym rays) (same_sets_of j.rays)) edits
 
 -- where an edit comes next there is a place for it
 pub stands_next : (j : Journal) (edit : Edit) → IsJournal (job_of j) j → slice_get (job_of j).plan.edits j.done ≡ Some edit → CanStand j

@@ -7,9 +7,10 @@ use mathlib.Core.Logic.{dite}
 use Rattle.vf_spans.specs.Members.{has}
 use Rattle.dexel_rays.specs.Sets.{HaveBound}
 use Rattle.ray_words.specs.Rays.{IsBelow, IsKept, KeptSets}
+use Rattle.ray_words.specs.Rows.{kept_at}
 use Rattle.job_model.specs.Tasks.{Job}
 use Rattle.strip_marks.specs.declared.change.WordChange.{WordChange}
-use Rattle.strip_marks.specs.Marks.{IsChangeOn, among, kept_of, points_at, possible_of, sets_of, sure_of}
+use Rattle.strip_marks.specs.Marks.{IsChangeOn, among, points_at, possible_of, sets_of, sure_of}
 use Rattle.strip_journal.specs.Entries.{IsTurned, was}
 use Rattle.strip_journal.specs.Journals.{HasBodies, possible_at, sure_at}
 use Rattle.strip_journal.specs.Steps.{AreRaysTurned, IsRayTurned}
@@ -76,7 +77,7 @@ pub marked_turned : (job : Job) (strip done next : ℕ) (before after : List Kep
     → AreSetsAt job strip next after
 marked_turned job strip done next before after changes is_undo h t more turn_sure turn_possible =
     let bounds : (n : ℕ) → n < length before → HaveBound (points_at job.plan.grid strip n) (sets_of after n) =
-    λ n low. bound_turned _ (kept_of before n) (kept_of after n) changes n is_undo (h.rays.bounds n low) (t.each n low) in
+    λ n low. bound_turned _ (kept_at before n) (kept_at after n) changes n is_undo (h.rays.bounds n low) (t.each n low) in
     let sure : (n l : ℕ) → n < length before → l < points_at job.plan.grid strip n
     → has (sets_of after n).sure l ≡ sure_at job strip next n l =
     λ n l ray point.
@@ -106,7 +107,7 @@ marked_turned job strip done next before after changes is_undo h t more turn_sur
       };
       bodies = λ n low.
           let ray : n < length before = omega (arith, t.many, low) in
-          bodies_turned job strip (kept_of before n) (kept_of after n) changes n is_undo (h.bodies n ray) (t.each n ray);
+          bodies_turned job strip (kept_at before n) (kept_at after n) changes n is_undo (h.bodies n ray) (t.each n ray);
       sure = λ n l low point. sure n l (omega (arith, t.many, low)) point;
       possible = λ n l low point. possible n l (omega (arith, t.many, low)) point;
     }

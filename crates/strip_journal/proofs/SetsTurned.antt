@@ -7,8 +7,9 @@ use Rattle.vf_spans.specs.Members.{has}
 use Rattle.dexel_rays.specs.Sets.{HaveBound}
 use Rattle.job_model.specs.Tasks.{IsPlan, Job}
 use Rattle.ray_words.specs.Rays.{IsBelow, KeptSets}
+use Rattle.ray_words.specs.Rows.{kept_at}
 use Rattle.strip_marks.specs.declared.change.WordChange.{WordChange}
-use Rattle.strip_marks.specs.Marks.{IsChangeOn, among, kept_of, points_at, possible_of, sets_of, sure_of}
+use Rattle.strip_marks.specs.Marks.{IsChangeOn, among, points_at, possible_of, sets_of, sure_of}
 use Rattle.strip_journal.specs.Entries.{was}
 use Rattle.strip_journal.specs.Journals.{HasBodies, possible_at, sure_at}
 use Rattle.strip_journal.specs.Steps.{AreRaysTurned, IsRayTurned}
@@ -70,7 +71,7 @@ turned_sets job strip from to before after changes is_undo valid turned old to_s
     ∙ ap (λ b. was (not is_undo) (among possible_of changes n l) b) (old.possible n l (there n low) at)
     ∙ to_possible.each n l (there n low) at in
     let bounds : (n : ℕ) → n < length after → HaveBound (points_at grid strip n) (sets_of after n) = λ n low.
-    turned_bound (points_at grid strip n) n (kept_of before n) (kept_of after n) changes is_undo (turned.each n (there n low))
+    turned_bound (points_at grid strip n) n (kept_at before n) (kept_at after n) changes is_undo (turned.each n (there n low))
     (old.rays.bounds n (there n low)) in
     record {
       rays = record {
@@ -81,7 +82,7 @@ turned_sets job strip from to before after changes is_undo valid turned old to_s
             possible n l low at ∙ sure_is_possible job strip to n l valid (sym (sure n l low at) ∙ is);
       };
       bodies = λ n low.
-          turned_bodies job strip n (kept_of before n) (kept_of after n) changes is_undo (turned.each n (there n low))
+          turned_bodies job strip n (kept_at before n) (kept_at after n) changes is_undo (turned.each n (there n low))
           (old.bodies n (there n low));
       sure = sure;
       possible = possible;

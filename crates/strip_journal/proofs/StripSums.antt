@@ -21,8 +21,8 @@ use Rattle.strip_journal.specs.Journals.{AreRaysAt, found_at}
 
 -- what the sets of a ray tell of a point is what is so there by the moves that are left
 pub seen_same : (job : Job) (strip done : ℕ) (j : Journal) (move : JobMove) (n l : ℕ) → AreRaysAt job strip done j
-    → n < length j.rays.items → l < points_at job.plan.grid strip n
-    → seen_on (sets_of j.rays.items n) (sure_there job.plan move strip n) (possible_there job.plan move strip n) move.rapid l
+    → n < length j.rays → l < points_at job.plan.grid strip n
+    → seen_on (sets_of j.rays n) (sure_there job.plan move strip n) (possible_there job.plan move strip n) move.rapid l
     ≡ seen job (left_moves job.plan done) move (point_at job.plan.grid strip n l)
 seen_same job strip done j move n l rays lt at =
     let body = rays.bodies n lt in
@@ -44,31 +44,31 @@ seen_same job strip done j move n l rays lt at =
 
 -- so it finds the same on each ray
 pub ray_found_is : (job : Job) (strip done : ℕ) (j : Journal) (move : JobMove) (n : ℕ) → AreRaysAt job strip done j
-    → n < length j.rays.items
+    → n < length j.rays
     → ray_findings job.plan.grid (seen job (left_moves job.plan done) move) (ray_of job.plan.grid strip n)
-    ≡ ray_found job.plan move strip j.rays.items n
+    ≡ ray_found job.plan move strip j.rays n
 ray_found_is job strip done j move n rays lt =
     same_findings (points_at job.plan.grid strip n)
     (λ l. seen job (left_moves job.plan done) move (point_at job.plan.grid strip n l))
-    (seen_on (sets_of j.rays.items n) (sure_there job.plan move strip n) (possible_there job.plan move strip n) move.rapid)
+    (seen_on (sets_of j.rays n) (sure_there job.plan move strip n) (possible_there job.plan move strip n) move.rapid)
     (λ l at. ap met (sym (seen_same job strip done j move n l rays lt at)))
 
 -- the findings of the rays of a strip are those by their sets, in order
 rays_found_are : (job : Job) (strip done : ℕ) (j : Journal) (move : JobMove) → AreRaysAt job strip done j
     → map (ray_findings job.plan.grid (seen job (left_moves job.plan done) move)) (strip_at job.plan.grid strip)
-    ≡ map (ray_found job.plan move strip j.rays.items) (range_with_len 0 (length j.rays.items))
+    ≡ map (ray_found job.plan move strip j.rays) (range_with_len 0 (length j.rays))
 rays_found_are job strip done j move rays =
     let find : Ray → Counts = ray_findings job.plan.grid (seen job (left_moves job.plan done) move) in
     let strip_rays : List Ray = strip_at job.plan.grid strip in
     let many = rays.rays.many in
-    fill_by_all (ray_found job.plan move strip j.rays.items) (map find strip_rays) (length j.rays.items) no_counts
+    fill_by_all (ray_found job.plan move strip j.rays) (map find strip_rays) (length j.rays) no_counts
     (length-map strip_rays find ∙ sym many)
     (λ n lt. get_or-map find strip_rays n record { family = X; i = 0; j = 0 } no_counts (omega (arith, lt, many))
     ∙ ray_found_is job strip done j move n rays lt)
 
 -- and on the strip
 pub strip_found_is : (job : Job) (strip done : ℕ) (j : Journal) (move : JobMove) → AreRaysAt job strip done j
-    → strip < length (strips_of job.plan.grid) → strip_found job.plan move strip j.rays.items ≡ found_at job strip done move
+    → strip < length (strips_of job.plan.grid) → strip_found job.plan move strip j.rays ≡ found_at job strip done move
 strip_found_is job strip done j move rays _ =
     ap sum_counts (sym (rays_found_are job strip done j move rays))
     ∙ sym (of_strip job.plan.grid (seen job (left_moves job.plan done) move) (strip_at job.plan.grid strip))

@@ -22,7 +22,7 @@ totals_told j s version totals is told =
 
 -- a ray of the strip is one of those that are kept
 pub ray_told : (j : Journal) (s : StripOf) (n : ℕ) → IsJournal (job_of j) j → strip_of j ≡ s
-    → n < length (strip_at s.job.plan.grid s.number) → n < length j.rays.items
+    → n < length (strip_at s.job.plan.grid s.number) → n < length j.rays
 ray_told j s n h is low =
     subst (λ (k : ℕ). n < k) (sym h.newest.rays.many) (subst (λ (t : StripOf). n < length (strip_at t.job.plan.grid t.number)) (sym is) low)
 

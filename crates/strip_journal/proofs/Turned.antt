@@ -248,7 +248,7 @@ turned_by j k l is_undo u at place h turning low is turned moved =
     let p = parts_of j in
     let held = held_of job j h in
     let q : Parts =
-    record p { rays = k.rays.items; entries = p.entries ++ turned_of p place is_undo ∷ []; at = at; done = p.done + 1 } in
+    record p { rays = k.rays; entries = p.entries ++ turned_of p place is_undo ∷ []; at = at; done = p.done + 1 } in
     let holds : parts_of l ≡ q = λ i. record {
       number = (moved.strip.number ∙ turned.strip.number) i;
       of = (moved.strip.of ∙ turned.strip.of) i;
@@ -260,13 +260,13 @@ turned_by j k l is_undo u at place h turning low is turned moved =
       done = moved.done_is i;
     } in
     journal_by job l q (moved.strip.job ∙ turned.strip.job) holds
-    (turned_held job p at k.rays.items (turned_of p place is_undo) held turning.next turned.rays
+    (turned_held job p at k.rays (turned_of p place is_undo) held turning.next turned.rays
     (λ n l sure. sure_is_possible job p.number (p.done + 1) n l held.valid sure)
     (turn_of job p is_undo u at place held turning low is))
 
 -- and after one without an entry
 unturned_by : (j k l : Journal) (is_undo : Bool) (u at : ℕ) → IsJournal (job_of j) j → IsTurning (job_of j) (parts_of j) is_undo u at
-    → HasNo j.entries.items u → HasSameEdits j k → k.rays.items ≡ j.rays.items → IsMovedTo k l at (j.done + 1) → IsJournal (job_of l) l
+    → HasNo j.entries.items u → HasSameEdits j k → k.rays ≡ j.rays → IsMovedTo k l at (j.done + 1) → IsJournal (job_of l) l
 unturned_by j k l is_undo u at h turning none same rays moved =
     let job = job_of j in
     let p = parts_of j in

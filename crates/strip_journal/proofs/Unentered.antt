@@ -44,7 +44,7 @@ none_turned before after same =
 stood_applied : (j l : Journal) → IsStood j l → IsApplied j l [] no_counts
 stood_applied j l stood = record {
   strip = stood.strip;
-  rays = none_turned j.rays.items l.rays.items stood.rays;
+  rays = none_turned j.rays l.rays stood.rays;
   changes_are = stood.changes ∙ sym (append-nil j.changes.items);
   entries = stood.entries;
   line = stood.line;
@@ -61,7 +61,7 @@ unentered_marking : (plan : PlanOf) (j : Journal) (number lo hi : ℕ) → IsJou
 unentered_marking plan j number lo hi h plan_is applies low empty within window =
     let valid = subst (λ (p : PlanOf). IsPlan p) plan_is h.valid in
     let there = subst (λ (p : PlanOf). j.number < length (strips_of p.grid)) plan_is h.strip in
-    let own = subst (λ (p : PlanOf). AreRays p.grid j.number j.rays.items) plan_is h.newest.rays in
+    let own = subst (λ (p : PlanOf). AreRays p.grid j.number j.rays) plan_is h.newest.rays in
     record {
       journal = h;
       plan_is = plan_is;
@@ -77,7 +77,7 @@ unentered_marking plan j number lo hi h plan_is applies low empty within window 
         done = refl;
       };
       marked = λ move named.
-          unentered_strip plan number move j.number lo hi j.rays.items [] no_counts valid named there own empty
+          unentered_strip plan number move j.number lo hi j.rays [] no_counts valid named there own empty
           (let many = own.many in omega (arith, within, many)) (window move named) refl refl;
     }
 

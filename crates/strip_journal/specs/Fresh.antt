@@ -9,7 +9,8 @@ use Rattle.ray_shapes.specs.declared.solid.Solid.{Solid}
 use Rattle.ray_shapes.specs.Sets.{in_solid}
 use Rattle.dexel_rays.specs.Sets.{HaveBound}
 use Rattle.ray_words.specs.Rays.{KeptSets}
-use Rattle.strip_marks.specs.Marks.{kept_of, ray_of}
+use Rattle.ray_words.specs.Rows.{kept_at}
+use Rattle.strip_marks.specs.Marks.{ray_of}
 
 -- a ray with the points of three solids, none of which is sure or possible
 pub record IsFreshRay (grid : GridSize) (ray : Ray) (stock part fixture : Solid) (r : KeptSets) : Type 0 where
@@ -23,7 +24,7 @@ pub record IsFreshRay (grid : GridSize) (ray : Ray) (stock part fixture : Solid)
 -- the first so many rays of a strip
 pub record AreFreshRays (grid : GridSize) (strip count : ℕ) (stock part fixture : Solid) (rays : List KeptSets) : Type 0 where
   pub many : length rays ≡ count
-  pub each : (n : ℕ) → n < count → IsFreshRay grid (ray_of grid strip n) stock part fixture (kept_of rays n)
+  pub each : (n : ℕ) → n < count → IsFreshRay grid (ray_of grid strip n) stock part fixture (kept_at rays n)
 
 -- how many stock points the rays have together
 abbrev pub stock_points : List KeptSets → ℕ

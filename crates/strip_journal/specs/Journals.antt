@@ -66,12 +66,12 @@ pub record HaveTotals (job : Job) (strip : ℕ) (entries : List Entry) : Type 0 
 
 -- the rays have the points of the bodies, and in the newest sets those that are sure, and possible, at a version
 pub record AreRaysAt (job : Job) (strip done : ℕ) (j : Journal) : Type 0 where
-  pub rays : AreRays job.plan.grid strip j.rays.items
-  pub bodies : (n : ℕ) → n < length j.rays.items → HasBodies job strip n (sets_of j.rays.items n)
-  pub sure : (n l : ℕ) → n < length j.rays.items → l < points_at job.plan.grid strip n
-      → has (sets_of j.rays.items n).sure l ≡ sure_at job strip done n l
-  pub possible : (n l : ℕ) → n < length j.rays.items → l < points_at job.plan.grid strip n
-      → has (sets_of j.rays.items n).possible l ≡ possible_at job strip done n l
+  pub rays : AreRays job.plan.grid strip j.rays
+  pub bodies : (n : ℕ) → n < length j.rays → HasBodies job strip n (sets_of j.rays n)
+  pub sure : (n l : ℕ) → n < length j.rays → l < points_at job.plan.grid strip n
+      → has (sets_of j.rays n).sure l ≡ sure_at job strip done n l
+  pub possible : (n l : ℕ) → n < length j.rays → l < points_at job.plan.grid strip n
+      → has (sets_of j.rays n).possible l ≡ possible_at job strip done n l
 
 -- the job that a journal is of
 abbrev pub job_of : Journal → Job
@@ -94,11 +94,11 @@ pub record IsJournal (job : Job) (j : Journal) : Type 0 where
   pub of : j.of ≡ (totals_over job (strip_points job.plan.grid j.number) (left_moves job.plan 0)).of
   pub kept : AreEntries j.entries.items (length j.changes.items) j.done
   pub sorted : (i : ℕ) → i < length j.entries.items → AreInOrder (changes_of j.changes.items (entry_at j.entries.items i))
-  pub on : All (IsChangeOn j.rays.items) j.changes.items
+  pub on : All (IsChangeOn j.rays) j.changes.items
   pub few_changes : length j.changes.items < 2 ^ 32
-  pub tracked_sure : IsTracked (sure_at job j.number) sure_of (length j.rays.items) (points_at job.plan.grid j.number) j.changes.items
+  pub tracked_sure : IsTracked (sure_at job j.number) sure_of (length j.rays) (points_at job.plan.grid j.number) j.changes.items
       j.entries.items j.done
-  pub tracked_possible : IsTracked (possible_at job j.number) possible_of (length j.rays.items) (points_at job.plan.grid j.number)
+  pub tracked_possible : IsTracked (possible_at job j.number) possible_of (length j.rays) (points_at job.plan.grid j.number)
       j.changes.items j.entries.items j.done
   pub totals : HaveTotals job j.number j.entries.items
   pub found : AreFound job j.number j.line j.entries.items

@@ -6,8 +6,9 @@ use Rattle.edit_plan.specs.Limits.{most_edits}
 use Rattle.job_facts.specs.declared.counts.Counts.{Counts}
 use Rattle.job_facts.specs.Counts.{AreWithin}
 use Rattle.ray_words.specs.Rays.{KeptSets}
+use Rattle.ray_words.specs.Rows.{kept_at}
 use Rattle.strip_marks.specs.declared.change.WordChange.{WordChange}
-use Rattle.strip_marks.specs.Marks.{among, kept_of, possible_of, sure_of}
+use Rattle.strip_marks.specs.Marks.{among, possible_of, sure_of}
 use Rattle.strip_journal.specs.declared.entry.Entry.{Entry}
 use Rattle.strip_journal.specs.declared.journal.Journal.{Journal}
 use Rattle.strip_journal.specs.Journals.{job_of}
@@ -29,7 +30,7 @@ pub record IsRayTurned (before after : KeptSets) (changes : List WordChange) (n 
 -- each ray so
 pub record AreRaysTurned (before after : List KeptSets) (changes : List WordChange) (is_undo : Bool) : Type 0 where
   pub many : length after ≡ length before
-  pub each : (n : ℕ) → n < length before → IsRayTurned (kept_of before n) (kept_of after n) changes n is_undo
+  pub each : (n : ℕ) → n < length before → IsRayTurned (kept_at before n) (kept_at after n) changes n is_undo
 
 -- a move with these changes and counts changes nothing and finds nothing
 abbrev pub does_nothing : List WordChange → Counts → Bool
@@ -93,7 +94,7 @@ pub record CanStand (j : Journal) : Type 0 where
 -- a journal after this edit was added to those that are left
 pub record IsStood (j k : Journal) : Type 0 where
   pub strip : IsSameStrip j k
-  pub rays : k.rays.items ≡ j.rays.items
+  pub rays : k.rays ≡ j.rays
   pub changes : k.changes.items ≡ j.changes.items
   pub entries : k.entries.items ≡ j.entries.items
   pub line : k.line ≡ take j.at j.line ++ j.done ∷ []
@@ -103,7 +104,7 @@ pub record IsStood (j k : Journal) : Type 0 where
 -- a journal after so many edits from this one on were added to those that are left
 pub record IsStoodBy (j k : Journal) (count : ℕ) : Type 0 where
   pub strip : IsSameStrip j k
-  pub rays : k.rays.items ≡ j.rays.items
+  pub rays : k.rays ≡ j.rays
   pub changes : k.changes.items ≡ j.changes.items
   pub entries : k.entries.items ≡ j.entries.items
   pub line : k.line ≡ take j.at j.line ++ range_with_len j.done count
@@ -113,7 +114,7 @@ pub record IsStoodBy (j k : Journal) (count : ℕ) : Type 0 where
 -- a journal after the changes and counts of an edit's move were entered
 pub record IsEntered (j k : Journal) (edit : ℕ) (changes : List WordChange) (counts : Counts) : Type 0 where
   pub strip : IsSameStrip j k
-  pub rays : AreRaysTurned j.rays.items k.rays.items changes false
+  pub rays : AreRaysTurned j.rays k.rays changes false
   pub changes_are : k.changes.items ≡ j.changes.items ++ changes
   pub entries : k.entries.items ≡ j.entries.items ++ applied_entry edit j changes counts ∷ []
   pub line : HasSameLine j k
@@ -121,7 +122,7 @@ pub record IsEntered (j k : Journal) (edit : ℕ) (changes : List WordChange) (c
 -- a journal after this edit applied a move with these changes and counts
 pub record IsApplied (j k : Journal) (changes : List WordChange) (counts : Counts) : Type 0 where
   pub strip : IsSameStrip j k
-  pub rays : AreRaysTurned j.rays.items k.rays.items changes false
+  pub rays : AreRaysTurned j.rays k.rays changes false
   pub changes_are : k.changes.items ≡ j.changes.items ++ changes
   pub entries : k.entries.items ≡ noted (does_nothing changes counts) j.entries.items (applied_entry j.done j changes counts)
   pub line : k.line ≡ take j.at j.line ++ j.done ∷ []
@@ -143,7 +144,7 @@ turned_entry j place is_undo = record {
 -- a journal after the changes of the entry at a place were taken back, or given again, but for the line and the number of edits done
 pub record IsTurnedBy (j k : Journal) (place : ℕ) (is_undo : Bool) : Type 0 where
   pub strip : IsSameStrip j k
-  pub rays : AreRaysTurned j.rays.items k.rays.items (changes_of j.changes.items (entry_at j.entries.items place)) is_undo
+  pub rays : AreRaysTurned j.rays k.rays (changes_of j.changes.items (entry_at j.entries.items place)) is_undo
   pub changes : k.changes.items ≡ j.changes.items
   pub entries : k.entries.items ≡ j.entries.items ++ turned_entry j place is_undo ∷ []
   pub line : HasSameLine j k
@@ -152,12 +153,12 @@ pub record IsTurnedBy (j k : Journal) (place : ℕ) (is_undo : Bool) : Type 0 wh
 -- and nothing is kept of it.
 pub record IsTurnedFrom (j k : Journal) (source : ℕ) (is_undo : Bool) : Type 0 where
   pub by : (place : ℕ) → place < length j.entries.items → edit_at j.entries.items place ≡ source → IsTurnedBy j k place is_undo
-  pub none : HasNo j.entries.items source → HasSameEdits j k × (k.rays.items ≡ j.rays.items)
+  pub none : HasNo j.entries.items source → HasSameEdits j k × (k.rays ≡ j.rays)
 
 -- a journal that stands at another place of its line, after so many edits
 pub record IsMovedTo (j k : Journal) (at done : ℕ) : Type 0 where
   pub strip : IsSameStrip j k
-  pub rays : k.rays.items ≡ j.rays.items
+  pub rays : k.rays ≡ j.rays
   pub changes : k.changes.items ≡ j.changes.items
   pub entries : k.entries.items ≡ j.entries.items
   pub line : k.line ≡ j.line

@@ -31,7 +31,7 @@ impl Journal {
     /// Room for so many changes and for an entry.
     fn make_room(&mut self, changes: usize) -> Result<(), NoMemory>
         ensures edits { HasSameEdits self.old self.new }
-        ensures rays { self.new.rays.items ≡ self.old.rays.items }
+        ensures rays { self.new.rays ≡ self.old.rays }
         ensures room { OnOk result (HasRoom self.new changes) }
     {
         // A place in the list of changes is a number of 32 bits: more would take a hundred gigabytes.
@@ -49,7 +49,7 @@ impl Journal {
         ensures ok { OnOk result (IsStood self.old self.new) }
         ensures room { (changes : ℕ) → HasRoom self.old changes → HasRoom self.new changes }
         ensures edits { OnErr result (HasSameEdits self.old self.new) }
-        ensures rays { OnErr result (self.new.rays.items ≡ self.old.rays.items) }
+        ensures rays { OnErr result (self.new.rays ≡ self.old.rays) }
     {
         self.line.put(self.at, self.done)?;
         self.at += 1;
@@ -60,7 +60,7 @@ impl Journal {
     /// Takes over what a move changes or finds, with the entry of its edit. It takes no memory.
     fn enter(&mut self, edit: u32, marked: Marked)
         requires room { HasRoom self.old (length marked.changes.items) }
-        requires on { All (IsChangeOn self.old.rays.items) marked.changes.items }
+        requires on { All (IsChangeOn self.old.rays) marked.changes.items }
         requires fits { FitsEntry self.old marked.counts }
         requires some { does_nothing marked.changes.items marked.counts ≡ false }
         ensures { IsEntered self.old self.new edit marked.changes.items marked.counts }
@@ -71,7 +71,7 @@ impl Journal {
         } = marked;
         let (removed, possible) = self.totals_ahead(self.entries.len());
         let from = self.changes.len() as u32;
-        turn_all(self.rays.as_mut_slice(), changes.as_slice(), false);
+        turn_all(&mut self.rays, changes.as_slice(), false);
         let _moved = self.changes.append(&mut changes);
         let entry = Entry {
             edit,
@@ -89,13 +89,13 @@ impl Journal {
     /// Takes over what a move changes or finds, if it does, and adds its edit to those that are left. What may fail comes first.
     fn take_over(&mut self, marked: Marked) -> Result<(), NoMemory>
         requires few { length self.old.changes.items < 2 ^ 32 }
-        requires on { All (IsChangeOn self.old.rays.items) marked.changes.items }
+        requires on { All (IsChangeOn self.old.rays) marked.changes.items }
         requires fits { FitsEntry self.old marked.counts }
         requires stands { CanStand self.old }
         ensures applied { OnOk result (IsApplied self.old self.new marked.changes.items marked.counts) }
         ensures few { OnOk result (length self.old.changes.items + length marked.changes.items < 2 ^ 32) }
         ensures edits { OnErr result (HasSameEdits self.old self.new) }
-        ensures rays { OnErr result (self.new.rays.items ≡ self.old.rays.items) }
+        ensures rays { OnErr result (self.new.rays ≡ self.old.rays) }
     {
         if does_nothing(&marked) {
             self.room = marked.changes;
@@ -114,12 +114,12 @@ impl Journal {
         requires plan { self.old.plan.value ≡ plan.now }
         requires number { number < length plan.now.moves }
         ensures edits { HasSameEdits self.old self.new }
-        ensures same { HaveSameSets self.old.rays.items self.new.rays.items }
+        ensures same { HaveSameSets self.old.rays self.new.rays }
         ensures marked { IfOk result (λ m. (move : JobMove) → HasNumber plan.now number move
-            → IsMarkedStrip plan.now move self.old.number self.old.rays.items self.new.rays.items m.changes.items m.counts) }
+            → IsMarkedStrip plan.now move self.old.number self.old.rays self.new.rays m.changes.items m.counts) }
     {
         let room = mem::replace(&mut self.room, Vec::new(self.alloc));
-        mark_strip(room, self.rays.as_mut_slice(), plan, number, self.number)
+        mark_strip(room, &mut self.rays, plan, number, self.number)
     }
 
     /// Applies a move of the plan.

@@ -196,13 +196,13 @@ impl Journal {
     ) -> PointState
         requires journal { IsJournal (job_of self.now) self.now }
         requires version { version ≤ self.now.done }
-        requires ray { n < length self.now.rays.items }
+        requires ray { n < length self.now.rays }
         requires point { l < points_at self.now.plan.value.grid self.now.number n }
         ensures state { result ≡ state_after (job_of self.now) (left_moves self.now.plan.value version)
             (point_at self.now.plan.value.grid self.now.number n l) }
         ensures cost { steps.new ≤ steps.old + (self.now.done - version) }
     {
-        let ray = &self.rays[n as usize];
+        let ray = self.rays.ray(n);
         let mut marks = (ray.has_sure(l), ray.has_possible(l));
         let mut place = self.entries.len();
         while place > 0 && self.entries[place - 1].edit >= version {

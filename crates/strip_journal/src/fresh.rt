@@ -8,7 +8,7 @@ ghost use Rattle.strip_journal.specs.Fresh.{AreFreshRays, IsFreshRay, stock_poin
 
 use ray_grid::{Grid, Ray};
 use ray_shapes::RayShape;
-use ray_words::WordRay;
+use ray_words::{RayRow, WordRay};
 use std::alloc::Global;
 use vf_io::NoMemory;
 use vf_spans::Spans;
@@ -61,7 +61,7 @@ pub fn fresh_rays<
     stock: &RayShape<A>,
     part: &RayShape<B>,
     fixture: &RayShape<C>,
-) -> Result<(Vec<WordRay>, u32), NoMemory>
+) -> Result<(RayRow, u32), NoMemory>
     requires strip { strip < length (strips_of grid.now) }
     requires stock_grid { stock.now.grid ≡ grid.now }
     requires part_grid { part.now.grid ≡ grid.now }
@@ -73,12 +73,12 @@ pub fn fresh_rays<
     requires part_gives { Gives (FnReturnsAt B.Fn part.now.source) part.now.grid part.now.solid }
     requires fixture_gives { Gives (FnReturnsAt C.Fn fixture.now.source) fixture.now.grid fixture.now.solid }
     ensures rays { IfOk result (λ r. AreFreshRays grid.now strip (length (strip_at grid.now strip)) stock.now.solid part.now.solid
-        fixture.now.solid r.0.items) }
-    ensures stock { IfOk result (λ r. r.1 ≡ stock_points r.0.items) }
+        fixture.now.solid r.0) }
+    ensures stock { IfOk result (λ r. r.1 ≡ stock_points r.0) }
 {
     hold_grid(grid);
     let count = grid.strip_len(strip);
-    let mut rays = Vec::with_capacity(alloc, count as usize)?;
+    let mut rays = RayRow::with_capacity(alloc, count as usize)?;
     let mut points = 0;
     for n in 0..count {
         let ray = fresh_ray(alloc, &grid.strip_ray(strip, n), stock, part, fixture)?;

@@ -1,7 +1,7 @@
 use crate::edit_line::EditLine;
 use crate::entry::Entry;
 use ray_shapes::Solid;
-use ray_words::WordRay;
+use ray_words::RayRow;
 use std::alloc::Global;
 use std::snapshot::Snapshot;
 use strip_marks::WordChange;
@@ -25,7 +25,7 @@ pub struct Journal {
     pub fixture: Snapshot<Solid>,
     /// How many stock points it has.
     pub of: u32,
-    pub rays: Vec<WordRay>,
+    pub rays: RayRow,
     /// What edits changed, those of one edit together.
     pub changes: Vec<WordChange>,
     /// The edits that had an effect here, in order.

@@ -11,20 +11,20 @@ use crate::journal::Journal;
 use crate::rays::turn_all;
 use crate::room::reserve_more;
 use edit_plan::Edit;
-use ray_words::WordRay;
+use ray_words::RayRow;
 use strip_marks::WordChange;
 use strip_plan::Plan;
 use vf_io::NoMemory;
 
 /// Takes the points of an entry's changes away, or gives them again. It takes no memory.
-fn turn_changes(rays: &mut Vec<WordRay>, changes: &[WordChange], entry: &Entry, is_undo: bool)
+fn turn_changes(rays: &mut RayRow, changes: &[WordChange], entry: &Entry, is_undo: bool)
     requires order { entry.now.from ≤ entry.now.to }
     requires within { entry.now.to ≤ length changes.now }
-    requires on { All (IsChangeOn rays.old.items) changes.now }
-    ensures { AreRaysTurned rays.old.items rays.new.items (changes_of changes.now entry.now) is_undo }
+    requires on { All (IsChangeOn rays.old) changes.now }
+    ensures { AreRaysTurned rays.old rays.new (changes_of changes.now entry.now) is_undo }
 {
     turn_all(
-        rays.as_mut_slice(),
+        rays,
         &changes[entry.from as usize..entry.to as usize],
         is_undo,
     );
@@ -53,7 +53,7 @@ impl Journal {
         ensures ok { OnOk result (IsTurnedBy self.old self.new place is_undo) }
         ensures line { HasSameLine self.old self.new }
         ensures edits { OnErr result (HasSameEdits self.old self.new) }
-        ensures rays { OnErr result (self.new.rays.items ≡ self.old.rays.items) }
+        ensures rays { OnErr result (self.new.rays ≡ self.old.rays) }
     {
         reserve_more(&mut self.entries, 1)?;
         let (removed, possible) = self.totals_again(place, is_undo);
@@ -77,7 +77,7 @@ impl Journal {
         ensures ok { OnOk result (IsTurnedFrom self.old self.new source is_undo) }
         ensures line { HasSameLine self.old self.new }
         ensures edits { OnErr result (HasSameEdits self.old self.new) }
-        ensures rays { OnErr result (self.new.rays.items ≡ self.old.rays.items) }
+        ensures rays { OnErr result (self.new.rays ≡ self.old.rays) }
     {
         match self.entry_of(source) {
             None => Ok(()),

@@ -6,11 +6,12 @@ use Rattle.job_facts.specs.Counts.{no_counts}
 use Rattle.ray_grid.specs.Strips.{strip_at, strips_of}
 use Rattle.near_points.specs.Rays.{NearStripOf, near_ray_at}
 use Rattle.ray_words.specs.Rays.{KeptSets}
+use Rattle.ray_words.specs.Rows.{kept_at}
 use Rattle.dexel_rays.specs.Sets.{Sets}
 use Rattle.job_model.specs.Tasks.{IsPlan, JobMove, PlanOf}
 use Rattle.strip_plan.specs.Plans.{HasNumber}
 use Rattle.strip_marks.specs.declared.asked_word.AskedWord.{AskedWord}
-use Rattle.strip_marks.specs.Marks.{AreRays, kept_of, points_at, possible_there, ray_found, seen_on, sets_of, sure_there}
+use Rattle.strip_marks.specs.Marks.{AreRays, points_at, possible_there, ray_found, seen_on, sets_of, sure_there}
 use Rattle.strip_marks.specs.RayMarks.{IsFirstAsked, IsIdle, IsUnasked}
 use Rattle.strip_marks.specs.RowMarks.{AreRaysMarked, AreUnasked, IsChangeFrom, IsFirstIn, IsNearStripOf}
 use Rattle.strip_marks.proofs.AlongRays.{IsAlong, IsRayWindow, along_on}
@@ -62,7 +63,7 @@ pub idle_unasked_ray : (plan : PlanOf) (number strip n : ℕ) (s : NearStripOf) 
     → IsIdleRay plan number strip n (sets_of rays n)
 idle_unasked_ray plan number strip n s rays window valid there are near lt w none = λ move has.
     let on_strip : n < length (strip_at plan.grid strip) = omega (arith, lt, are.many) in
-    idle_on plan number strip n window.0 window.1 move s (kept_of rays n) near has there on_strip
+    idle_on plan number strip n window.0 window.1 move s (kept_at rays n) near has there on_strip
     (sets_at plan.grid strip rays rays n are (same_self rays) lt)
     (window_on plan number move strip n window.0 window.1 valid has there on_strip w.order w.within (w.holds move has)) none
 

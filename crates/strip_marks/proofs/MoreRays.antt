@@ -2,7 +2,7 @@
 use Rattle.std.proofs.Common.{◌≡◌, ◌≢◌, ℕ, ◌+◌, ◌-◌, ◌^◌, ◌<◌, ◌≤◌, Bool, not, ◌&&◌, ◌||◌, List, [], ◌++◌, length, get_or, set, arith, refl, sym, ap, ap₂, ◌∙◌, subst, ⊎_elim}
 use Rattle.std.specs.List.{All, range_with_len}
 use Rattle.std.proofs.lemmas.Bool.{cases_eq, cases_lt}
-use Rattle.std.proofs.lemmas.List.{get_or_default, get_or-set_other, get_or-set_same, length-set}
+use Rattle.std.proofs.lemmas.List.{get_or-set_other, get_or-set_same, length-set}
 use Rattle.std.proofs.lemmas.List.Elements.{All-append, All-nil}
 use Rattle.vf_spans.specs.Members.{has}
 use Rattle.job_facts.specs.declared.counts.Counts.{Counts}
@@ -11,9 +11,10 @@ use Rattle.dexel_rays.specs.Findings.{findings}
 use Rattle.dexel_rays.specs.Sets.{Sets}
 use Rattle.ray_grid.specs.Grids.{GridSize}
 use Rattle.ray_words.specs.Rays.{IsBelow, IsKept, KeptSets}
+use Rattle.ray_words.specs.Rows.{kept_at}
 use Rattle.job_model.specs.Tasks.{JobMove, PlanOf}
 use Rattle.strip_marks.specs.declared.change.WordChange.{WordChange}
-use Rattle.strip_marks.specs.Marks.{AreRays, HaveSameSets, IsChangeOn, among, kept_of, points_at, possible_of, possible_there, ray_found, seen_on, sets_of, sure_of, sure_there}
+use Rattle.strip_marks.specs.Marks.{AreRays, HaveSameSets, IsChangeOn, among, points_at, possible_of, possible_there, ray_found, seen_on, sets_of, sure_of, sure_there}
 use Rattle.strip_marks.specs.RayMarks.{HasSameSets, IsRayMarked}
 use Rattle.strip_marks.specs.RowMarks.{AreRaysMarked, AreSetsAt, IsChangeFrom}
 use Rattle.strip_marks.proofs.Counting.{found_within, sum_more, sum_over}
@@ -35,7 +36,7 @@ same_again a b c h k = record {
 }
 
 -- one ray of them has the same sets
-pub same_with : (rays : List KeptSets) (n : ℕ) (ray : KeptSets) → n < length rays → HasSameSets (kept_of rays n) ray
+pub same_with : (rays : List KeptSets) (n : ℕ) (ray : KeptSets) → n < length rays → HasSameSets (kept_at rays n) ray
     → HaveSameSets rays (set rays n ray)
 same_with rays n ray lt h = record {
   many = length-set rays n ray;
@@ -48,19 +49,18 @@ same_with rays n ray lt h = record {
   kept = λ m k within kept.
       ⊎_elim
       (λ (e : m ≡ n).
-      subst (λ (r : KeptSets). IsKept r k) (sym (ap (kept_of (set rays n ray)) e ∙ get_or-set_same rays n ray no_sets lt))
-      (h.kept k (subst (λ (j : ℕ). IsKept (kept_of rays j) k) e kept)))
+      subst (λ (r : KeptSets). IsKept r k) (sym (ap (kept_at (set rays n ray)) e ∙ get_or-set_same rays n ray no_sets lt))
+      (h.kept k (subst (λ (j : ℕ). IsKept (kept_at rays j) k) e kept)))
       (λ (ne : m ≢ n). subst (λ (r : KeptSets). IsKept r k) (sym (get_or-set_other rays n m ray no_sets ne)) kept)
       (cases_eq m n);
 }
 
 -- and so have all of them, and those that they are the same as
-pub same_set : (before rays : List KeptSets) (n : ℕ) (d ray : KeptSets) → HaveSameSets before rays → n < length before
-    → HasSameSets (get_or rays n d) ray → HaveSameSets before (set rays n ray)
-same_set before rays n d ray same lt h =
-    let within : n < length rays = omega (arith, lt, same.many) in
-    same_again before rays (set rays n ray) same
-    (same_with rays n ray within (subst (λ (r : KeptSets). HasSameSets r ray) (get_or_default rays n d no_sets within) h))
+pub same_set : (before rays after : List KeptSets) (n : ℕ) (ray : KeptSets) → HaveSameSets before rays → n < length before
+    → HasSameSets (kept_at rays n) ray → after ≡ set rays n ray → HaveSameSets before after
+same_set before rays after n ray same lt h e =
+    subst (λ (l : List KeptSets). HaveSameSets before l) (sym e)
+    (same_again before rays (set rays n ray) same (same_with rays n ray (omega (arith, lt, same.many)) h))
 
 -- a change on one of the rays is one on the same rays later
 pub change_stays : (before after : List KeptSets) (change : WordChange) → HaveSameSets before after → IsChangeOn before change
@@ -97,7 +97,7 @@ no_rays_to plan move strip lo hi rays after changes counts same e z = record {
 
 module _ (plan : PlanOf) (move : JobMove) (strip lo n : ℕ) (before mid : List KeptSets) (ray : KeptSets) (changes added : List WordChange)
     (counts found : Counts)
-    (rays : AreRays plan.grid strip before) (same : HaveSameSets before mid) (own : HasSameSets (kept_of mid n) ray) (from : lo ≤ n)
+    (rays : AreRays plan.grid strip before) (same : HaveSameSets before mid) (own : HasSameSets (kept_at mid n) ray) (from : lo ≤ n)
     (within : n < length before)
     (h : AreRaysMarked plan move strip before mid lo n changes counts)
     (next : IsRayMarked ray (sure_there plan move strip n) (possible_there plan move strip n) move.rapid n added found) where
@@ -134,8 +134,8 @@ module _ (plan : PlanOf) (move : JobMove) (strip lo n : ℕ) (before mid : List 
             (arith, here.below);
       }
 
-  kept_here : (m : ℕ) → m ≡ n → kept_of (set mid n ray) m ≡ ray
-  kept_here m e = ap (kept_of (set mid n ray)) e ∙ get_or-set_same mid n ray no_sets (omega (arith, same.many))
+  kept_here : (m : ℕ) → m ≡ n → kept_at (set mid n ray) m ≡ ray
+  kept_here m e = ap (kept_at (set mid n ray)) e ∙ get_or-set_same mid n ray no_sets (omega (arith, same.many))
 
   new_stays : (i : ℕ) (d : WordChange) → i < length added → IsChangeFrom (set mid n ray) lo (n + 1) (get_or added i d)
   new_stays i d lt =

@@ -3,10 +3,11 @@ use Rattle.std.proofs.Common.{◌≡◌, ℕ, ◌+◌, ◌<◌, ◌≤◌, Bool,
 use Rattle.job_facts.specs.declared.counts.Counts.{Counts}
 use Rattle.job_facts.specs.Counts.{AreWithin}
 use Rattle.ray_words.specs.Rays.{KeptSets}
+use Rattle.ray_words.specs.Rows.{kept_at}
 use Rattle.wanted_marks.specs.Rays.{RayOf, is_possible_at, is_sure_at}
 use Rattle.job_model.specs.Tasks.{JobMove, PlanOf}
 use Rattle.strip_marks.specs.declared.marked.Marked.{Marked}
-use Rattle.strip_marks.specs.Marks.{AreRays, HaveSameSets, kept_of, possible_there, sure_there}
+use Rattle.strip_marks.specs.Marks.{AreRays, HaveSameSets, possible_there, sure_there}
 use Rattle.strip_marks.specs.RayMarks.{Adds, HasSameSets, IsRayMarked}
 use Rattle.strip_marks.specs.RowMarks.{AreRaysMarked, AreSetsAt}
 use Rattle.strip_marks.specs.Words.{AreSetsOf}
@@ -36,15 +37,17 @@ marked_by plan move strip n r rapid ray before after e f h = record {
 }
 
 -- with the next ray marked, one ray more is
-pub rays_step : (plan : PlanOf) (move : JobMove) (strip lo n : ℕ) (before mid : List KeptSets) (ray : KeptSets) (between after : Marked)
-    → AreRays plan.grid strip before → HaveSameSets before mid → HasSameSets (kept_of mid n) ray → lo ≤ n → n < length before
+pub rays_step : (plan : PlanOf) (move : JobMove) (strip lo n : ℕ) (before mid mid' : List KeptSets) (ray : KeptSets) (between after : Marked)
+    → AreRays plan.grid strip before → HaveSameSets before mid → HasSameSets (kept_at mid n) ray → mid' ≡ set mid n ray → lo ≤ n
+    → n < length before
     → AreRaysMarked plan move strip before mid lo n between.changes.items between.counts
     → Adds between after (λ added found. IsRayMarked ray (sure_there plan move strip n)
     (possible_there plan move strip n) move.rapid n added found)
-    → AreRaysMarked plan move strip before (set mid n ray) lo (n + 1) after.changes.items after.counts
-rays_step plan move strip lo n before mid ray between after rays same own from within h next =
-    rays_more plan move strip lo n before mid ray between.changes.items next.added between.counts next.found rays same own from within h
-    next.holds after.counts after.changes.items next.summed next.joined
+    → AreRaysMarked plan move strip before mid' lo (n + 1) after.changes.items after.counts
+rays_step plan move strip lo n before mid mid' ray between after rays same own e from within h next =
+    subst (λ (l : List KeptSets). AreRaysMarked plan move strip before l lo (n + 1) after.changes.items after.counts) (sym e)
+    (rays_more plan move strip lo n before mid ray between.changes.items next.added between.counts next.found rays same own from within h
+    next.holds after.counts after.changes.items next.summed next.joined)
 
 -- and the counts are within so much more
 pub within_next : (plan : PlanOf) (move : JobMove) (strip n span : ℕ) (ray : KeptSets) (between after : Marked)

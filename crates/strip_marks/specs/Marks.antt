@@ -1,5 +1,5 @@
 -- What a move changes on the rays of a strip, and what it finds there, by the sets of the rays.
-use Rattle.std.specs.Prelude.{◌≡◌, ℕ, ◌<◌, true, Bool, not, ◌&&◌, ◌||◌, nat_eq, nat_lt, IsTrue, List, [], length, map, slice_index_or, All}
+use Rattle.std.specs.Prelude.{◌≡◌, ℕ, ◌<◌, true, Bool, not, ◌&&◌, ◌||◌, nat_eq, nat_lt, IsTrue, List, length, map, slice_index_or, All}
 use Rattle.std.specs.List.{list_any, range_with_len}
 use Rattle.vf_spans.specs.Members.{has}
 use Rattle.vf_spans.specs.Words.{in_word}
@@ -13,6 +13,7 @@ use Rattle.job_facts.specs.declared.counts.Counts.{Counts}
 use Rattle.dexel_rays.specs.Findings.{Seen, findings}
 use Rattle.dexel_rays.specs.Sets.{HaveBound, Sets}
 use Rattle.ray_words.specs.Rays.{IsBelow, IsKept, KeptSets}
+use Rattle.ray_words.specs.Rows.{kept_at}
 use Rattle.job_model.specs.Points.{is_sure, may_meet, point_in}
 use Rattle.job_model.specs.Sums.{sum_counts}
 use Rattle.job_model.specs.Tasks.{JobMove, PlanOf}
@@ -28,16 +29,9 @@ points_at grid strip n = points_of grid (ray_of grid strip n).family
 abbrev pub point_at : GridSize → ℕ → ℕ → ℕ → LatticePoint
 point_at grid strip n l = point_in grid (ray_of grid strip n) l
 
--- what is kept of ray n, and its sets
-abbrev pub kept_of : List KeptSets → ℕ → KeptSets
-kept_of rays n = slice_index_or rays n record {
-  sets = record { stock = []; part = []; fixture = []; sure = []; possible = [] };
-  first = 0;
-  count = 0;
-}
-
+-- the sets of ray n
 abbrev pub sets_of : List KeptSets → ℕ → Sets
-sets_of rays n = (kept_of rays n).sets
+sets_of rays n = (kept_at rays n).sets
 
 -- the rays are those of a strip, and no point is sure that isn't possible
 pub record AreRays (grid : GridSize) (strip : ℕ) (rays : List KeptSets) : Type 0 where
@@ -49,7 +43,7 @@ pub record AreRays (grid : GridSize) (strip : ℕ) (rays : List KeptSets) : Type
 pub record HaveSameSets (before after : List KeptSets) : Type 0 where
   pub many : length after ≡ length before
   pub sets : (n : ℕ) → n < length before → sets_of after n ≡ sets_of before n
-  pub kept : (n k : ℕ) → n < length before → IsKept (kept_of before n) k → IsKept (kept_of after n) k
+  pub kept : (n k : ℕ) → n < length before → IsKept (kept_at before n) k → IsKept (kept_at after n) k
 
 -- the move is sure of the point of ray n with the index l, and possible there
 abbrev pub sure_there : PlanOf → JobMove → ℕ → ℕ → ℕ → Bool
@@ -94,7 +88,7 @@ among pick changes n l = list_any (λ change. nat_eq change.ray n && in_word cha
 -- a change is at a kept word of one of the rays, and has only points of the ray
 pub record IsChangeOn (rays : List KeptSets) (change : WordChange) : Type 0 where
   pub ray : change.ray < length rays
-  pub kept : IsKept (kept_of rays change.ray) change.word
+  pub kept : IsKept (kept_at rays change.ray) change.word
   pub sure : IsBelow (length (sets_of rays change.ray).stock) change.word change.sure
   pub possible : IsBelow (length (sets_of rays change.ray).stock) change.word change.possible
 

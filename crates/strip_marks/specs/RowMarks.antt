@@ -1,11 +1,10 @@
 -- What a move changes on neighbouring rays of a strip, and what it finds there.
-use Rattle.std.specs.Prelude.{◌≡◌, ℕ, ◌-◌, ◌<◌, ◌≤◌, true, not, ◌&&◌, List, [], map, All}
+use Rattle.std.specs.Prelude.{◌≡◌, ℕ, ◌-◌, ◌<◌, ◌≤◌, true, not, ◌&&◌, List, map, All}
 use Rattle.std.specs.List.{range_with_len}
 use Rattle.vf_spans.specs.Members.{has}
 use Rattle.ray_grid.specs.Grids.{GridSize}
 use Rattle.ray_grid.specs.Strips.{strip_at, strip_of}
 use Rattle.job_facts.specs.declared.counts.Counts.{Counts}
-use Rattle.job_facts.specs.Counts.{no_counts}
 use Rattle.dexel_rays.specs.Sets.{HaveBound, Sets}
 use Rattle.ray_words.specs.Rays.{HasAllWanted, KeptSets}
 use Rattle.near_points.specs.Rays.{NearStripOf, near_ray_at}
@@ -17,7 +16,7 @@ use Rattle.strip_plan.specs.Windows.{HoldsMet}
 use Rattle.strip_marks.specs.declared.asked_word.AskedWord.{AskedWord}
 use Rattle.strip_marks.specs.declared.change.WordChange.{WordChange}
 use Rattle.strip_marks.specs.RayMarks.{IsFirstAsked, IsUnasked}
-use Rattle.strip_marks.specs.Marks.{AreInOrder, IsChangeOn, among, points_at, possible_of, possible_there, ray_found, ray_of, sets_of, sure_of, sure_there}
+use Rattle.strip_marks.specs.Marks.{AreInOrder, IsChangeOn, among, points_at, possible_of, possible_there, ray_found, sets_of, sure_of, sure_there}
 
 -- the sets are those of ray n of the strip, and no point is sure that isn't possible
 pub record AreSetsAt (grid : GridSize) (strip n : ℕ) (d : Sets) : Type 0 where

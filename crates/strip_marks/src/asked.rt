@@ -9,7 +9,7 @@ ghost use Rattle.strip_marks.specs.RowMarks.{AreUnasked, IsFirstIn, IsOpenRay};
 use crate::asked_word::AskedWord;
 use crate::word::asked_in;
 use near_points::NearStrip;
-use ray_words::WordRay;
+use ray_words::{RayRow, WordRay};
 
 /// The first ray, from the one number on and below the other, on which something is left of the window that the cylinder may hold, and
 /// what is left there: without what is settled at either end. Most rays that a move enters are passed over here, so nothing else of them
@@ -17,7 +17,7 @@ use ray_words::WordRay;
 #[inline]
 fn next_open(
     near: &NearStrip<'_>,
-    rays: &[WordRay],
+    rays: &RayRow,
     window: (u32, u32),
     from: u32,
     end: u32,
@@ -31,7 +31,7 @@ fn next_open(
     ensures some { IfSome result (IsOpenRay near.now rays.now window from end) }
 {
     for n in from..end {
-        let left = rays[n as usize].unsettled(window);
+        let left = rays.unsettled(n, window);
         if left.0 < left.1 && near.may_hold(n, left) {
             return Some((n, left));
         }
@@ -67,7 +67,7 @@ fn first_word(near: &NearStrip<'_>, ray: &WordRay, n: u32, range: (u32, u32)) ->
 #[inline(never)]
 pub fn first_in(
     near: &NearStrip<'_>,
-    rays: &[WordRay],
+    rays: &RayRow,
     window: (u32, u32),
     from: u32,
     end: u32,
@@ -82,7 +82,7 @@ pub fn first_in(
 {
     let mut at = from;
     while let Some((n, left)) = next_open(near, rays, window, at, end) {
-        if let Some(first) = first_word(near, &rays[n as usize], n, left) {
+        if let Some(first) = first_word(near, rays.ray(n), n, left) {
             return Some((n, first));
         }
         at = n + 1;

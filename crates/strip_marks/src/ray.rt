@@ -1,9 +1,11 @@
-ghost use Rattle.std.specs.Prelude.{◌≡◌, ◌/◌, ◌^◌, ◌<◌, OnOk, All, length};
+ghost use Rattle.std.specs.Prelude.{◌≡◌, ◌/◌, ◌^◌, ◌<◌, OnOk, All, length, slice_set};
 ghost use Rattle.vf_spans.specs.Words.{words_below};
 ghost use Rattle.ray_grid.specs.Families.{second_axis};
 ghost use Rattle.ray_grid.specs.Lattice.{nodes_of};
+ghost use Rattle.ray_words.specs.Rows.{kept_at};
 ghost use Rattle.near_points.specs.Rays.{near_ray_at};
 ghost use Rattle.wanted_marks.specs.Rays.{is_possible_at, is_sure_at};
+ghost use Rattle.strip_marks.specs.Marks.{sets_of};
 ghost use Rattle.strip_marks.specs.Words.{AreSetsOf};
 ghost use Rattle.strip_marks.specs.RayMarks.{Adds, AreWordsMarked, CanCount, HasSameSets};
 ghost use Rattle.strip_marks.specs.RayMarks.{HaveWordsBelow, IsAtKept, IsFirstAsked, IsNearOf, IsRayMarked, IsWindow};
@@ -13,7 +15,7 @@ use crate::change::WordChange;
 use crate::marked::Marked;
 use crate::word::{asked_in, mark_word};
 use near_points::NearStrip;
-use ray_words::WordRay;
+use ray_words::{RayRow, WordRay};
 use vf_io::NoMemory;
 use wanted_marks::RayMarker;
 
@@ -51,17 +53,19 @@ fn mark_words(
     Ok(())
 }
 
-/// Keeps the words of the changes, which are all of this ray, in order.
-fn keep_changed(ray: &mut WordRay, changes: &[WordChange]) -> Result<(), NoMemory>
-    requires { HaveWordsBelow (words_below (length ray.old.sets.stock)) changes.now }
-    ensures same { HasSameSets ray.old ray.new }
-    ensures kept { OnOk result (All (IsAtKept ray.new) changes.now) }
+/// Keeps the words of the changes, which are all of ray n, in order.
+fn keep_changed(rays: &mut RayRow, n: u32, changes: &[WordChange]) -> Result<(), NoMemory>
+    requires some { n < length rays.old }
+    requires words { HaveWordsBelow (words_below (length (sets_of rays.old n).stock)) changes.now }
+    ensures others { rays.new ≡ slice_set rays.old n (kept_at rays.new n) }
+    ensures same { HasSameSets (kept_at rays.old n) (kept_at rays.new n) }
+    ensures kept { OnOk result (All (IsAtKept (kept_at rays.new n)) changes.now) }
 {
     let count = changes.len();
     if 0 < count {
         // The bound fits.
-        let _bound = ray.bound();
-        ray.keep(changes[0].word, changes[count - 1].word + 1)?;
+        let _bound = rays.ray(n).bound();
+        rays.keep(n, changes[0].word, changes[count - 1].word + 1)?;
     }
     Ok(())
 }
@@ -71,7 +75,7 @@ fn keep_changed(ray: &mut WordRay, changes: &[WordChange]) -> Result<(), NoMemor
 pub fn mark_ray(
     marker: &RayMarker<'_>,
     near: &NearStrip<'_>,
-    ray: &mut WordRay,
+    rays: &mut RayRow,
     n: u32,
     first: AskedWord,
     window: (u32, u32),
@@ -79,20 +83,23 @@ pub fn mark_ray(
     slab: &mut usize,
     marked: &mut Marked,
 ) -> Result<(), NoMemory>
-    requires ray { AreSetsOf marker.now ray.old.sets }
+    requires some { n < length rays.old }
+    requires ray { AreSetsOf marker.now (sets_of rays.old n) }
     requires window { IsWindow marker.now window.0 window.1 }
     requires n { n < nodes_of near.now.grid (second_axis near.now.family) }
     requires near { IsNearOf (near_ray_at near.now n) marker.now }
-    requires first { IsFirstAsked (near_ray_at near.now n) ray.old.sets window first }
+    requires first { IsFirstAsked (near_ray_at near.now n) (sets_of rays.old n) window first }
     requires room { CanCount (2 ^ 33) marked.old.counts }
-    ensures same { HasSameSets ray.old ray.new }
+    ensures others { rays.new ≡ slice_set rays.old n (kept_at rays.new n) }
+    ensures same { HasSameSets (kept_at rays.old n) (kept_at rays.new n) }
     ensures marked { OnOk result (Adds marked.old marked.new (λ added found.
-        IsRayMarked ray.new (is_sure_at marker.now) (is_possible_at marker.now) rapid n added found)) }
+        IsRayMarked (kept_at rays.new n) (is_sure_at marker.now) (is_possible_at marker.now) rapid n added found)) }
 {
+    let ray = rays.ray(n);
     // The bound fits.
     let _bound = ray.bound();
     let start = marked.changes.len();
     mark_words(marker, near, ray, n, first, window, rapid, slab, marked)?;
-    keep_changed(ray, &marked.changes.as_slice()[start..])?;
+    keep_changed(rays, n, &marked.changes.as_slice()[start..])?;
     Ok(())
 }

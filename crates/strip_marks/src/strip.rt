@@ -1,13 +1,14 @@
-ghost use Rattle.std.specs.Prelude.{◌≡◌, [], ◌<◌, ◌≤◌, ◌^◌, IfOk, OnOk, length};
+ghost use Rattle.std.specs.Prelude.{◌≡◌, [], ◌<◌, ◌≤◌, ◌^◌, IfOk, OnOk, length, slice_set};
 ghost use Rattle.ray_grid.specs.Families.{second_axis};
 ghost use Rattle.ray_grid.specs.Lattice.{nodes_of};
 ghost use Rattle.ray_grid.specs.Strips.{strip_at, strips_of};
 ghost use Rattle.job_model.specs.Tasks.{IsPlan, JobMove};
+ghost use Rattle.ray_words.specs.Rows.{kept_at};
 ghost use Rattle.near_points.specs.Rays.{near_ray_at};
 ghost use Rattle.wanted_marks.specs.Rays.{is_possible_at, is_sure_at};
 ghost use Rattle.wanted_marks.specs.Strips.{ray_at};
 ghost use Rattle.strip_plan.specs.Plans.{HasNumber};
-ghost use Rattle.strip_marks.specs.Marks.{AreRays, HaveSameSets, IsMarkedStrip};
+ghost use Rattle.strip_marks.specs.Marks.{AreRays, HaveSameSets, IsMarkedStrip, sets_of};
 ghost use Rattle.strip_marks.specs.Words.{AreSetsOf};
 ghost use Rattle.strip_marks.specs.RayMarks.{Adds, CanCount, HasSameSets, IsFirstAsked, IsNearOf, IsRayMarked, IsWindow};
 ghost use Rattle.strip_marks.specs.RowMarks.{AreRaysMarked};
@@ -19,7 +20,7 @@ use crate::marked::Marked;
 use crate::ray::mark_ray;
 use job_facts::Counts;
 use near_points::NearStrip;
-use ray_words::WordRay;
+use ray_words::RayRow;
 use strip_plan::Plan;
 use vf_io::NoMemory;
 use wanted_marks::{LOW_SLAB, StripMarker};
@@ -29,7 +30,7 @@ use wanted_marks::{LOW_SLAB, StripMarker};
 fn mark_asked<'x>(
     marker: &'x StripMarker<'x>,
     near: &NearStrip<'_>,
-    ray: &mut WordRay,
+    rays: &mut RayRow,
     n: u32,
     first: AskedWord,
     along: (u32, u32),
@@ -37,19 +38,21 @@ fn mark_asked<'x>(
     slab: &mut usize,
     marked: &mut Marked,
 ) -> Result<(), NoMemory>
-    requires ray { AreSetsOf (ray_at marker.now n) ray.old.sets }
+    requires some { n < length rays.old }
+    requires ray { AreSetsOf (ray_at marker.now n) (sets_of rays.old n) }
     requires window { IsWindow (ray_at marker.now n) along.0 along.1 }
     requires node { n < nodes_of marker.now.grid (second_axis marker.now.family) }
     requires n { n < nodes_of near.now.grid (second_axis near.now.family) }
     requires near { IsNearOf (near_ray_at near.now n) (ray_at marker.now n) }
-    requires first { IsFirstAsked (near_ray_at near.now n) ray.old.sets along first }
+    requires first { IsFirstAsked (near_ray_at near.now n) (sets_of rays.old n) along first }
     requires room { CanCount (2 ^ 33) marked.old.counts }
-    ensures same { HasSameSets ray.old ray.new }
+    ensures others { rays.new ≡ slice_set rays.old n (kept_at rays.new n) }
+    ensures same { HasSameSets (kept_at rays.old n) (kept_at rays.new n) }
     ensures marked { OnOk result (Adds marked.old marked.new (λ added found.
-        IsRayMarked ray.new (is_sure_at (ray_at marker.now n)) (is_possible_at (ray_at marker.now n)) rapid n added found)) }
+        IsRayMarked (kept_at rays.new n) (is_sure_at (ray_at marker.now n)) (is_possible_at (ray_at marker.now n)) rapid n added found)) }
 {
     let on_ray = marker.on_ray(n);
-    mark_ray(&on_ray, near, ray, n, first, along, rapid, slab, marked)?;
+    mark_ray(&on_ray, near, rays, n, first, along, rapid, slab, marked)?;
     Ok(())
 }
 
@@ -59,7 +62,7 @@ fn mark_asked<'x>(
 #[inline(never)]
 fn mark_rays(
     room: Vec<WordChange>,
-    rays: &mut [WordRay],
+    rays: &mut RayRow,
     plan: &Plan,
     number: u32,
     strip: u32,
@@ -97,7 +100,7 @@ fn mark_rays(
         mark_asked(
             &marker,
             &near,
-            &mut rays[n as usize],
+            rays,
             n,
             first,
             along,
@@ -115,7 +118,7 @@ fn mark_rays(
 /// its memory for the changes.
 pub fn mark_strip(
     mut room: Vec<WordChange>,
-    rays: &mut [WordRay],
+    rays: &mut RayRow,
     plan: &Plan,
     number: u32,
     strip: u32,

@@ -12,6 +12,7 @@ mod plan;
 mod plan_move;
 mod ranges;
 mod ready_moves;
+mod reckoned;
 mod strip_range;
 mod windows;
 

@@ -3,23 +3,27 @@ ghost use Rattle.edit_plan.specs.Edits.{AppliesBelow};
 ghost use Rattle.edit_plan.specs.Limits.{most_edits, most_script_moves};
 ghost use Rattle.ray_grid.specs.Strips.{strip_at, strips_of};
 ghost use Rattle.job_model.specs.Tasks.{IsPlan, JobMove};
-ghost use Rattle.strip_plan.specs.Passing.{ArePassed};
+ghost use Rattle.strip_plan.specs.Boxed.{HasBoxes};
+ghost use Rattle.strip_plan.specs.Cutters.{HasStacks};
+ghost use Rattle.strip_plan.specs.Cylinders.{HasCylinders};
+ghost use Rattle.strip_plan.specs.Passing.{AreGroups, ArePassed};
 ghost use Rattle.strip_plan.specs.Plans.{HasNumber, move_in};
+ghost use Rattle.strip_plan.specs.ReadyMoves.{HasReadyMoves};
 ghost use Rattle.strip_plan.specs.Windows.{HoldsEntered, HoldsMet, IsAlongStrip};
 
-use crate::boxes::{Boxes, boxes_of};
+use crate::boxes::Boxes;
 use crate::cutters::{Cutters, cutters_of};
-use crate::cylinders::cylinders_of;
 use crate::index_box::IndexBox;
-use crate::passing::{count_alone, groups_of};
+use crate::passing::count_alone;
 use crate::plan_move::PlanMove;
-use crate::ready_moves::ready_moves_of;
+use crate::reckoned::{Entered, Readied, entered_of, readied_of, reckoned_by_two};
 use crate::strip_range::StripRange;
 use crate::windows::{range_in_strip, row};
 use edit_plan::{Edit, Edits};
 use ray_grid::{Family, Grid, Ray};
 use std::alloc::Global;
 use std::marker::Model;
+use std::thread::Threads;
 use sweep_boxes::BoundingCylinder;
 use vf_io::NoMemory;
 use wanted_marks::{MoveMarker, ReadyMove};
@@ -83,11 +87,72 @@ impl Plan {
         ensures { IfOk result (λ plan. plan ≡ record { grid = grid; slabs = slabs; depth = depth; moves = moves.items; edits = edits }) }
     {
         let cutters = cutters_of(alloc, &moves, slabs)?;
-        let boxes = boxes_of(alloc, &grid, depth, &moves, &cutters)?;
-        let groups = groups_of(alloc, &boxes.hulls, edits.as_slice())?;
-        let cylinders = cylinders_of(alloc, &grid, &moves, &cutters)?;
-        let ready = ready_moves_of(alloc, &grid, depth, &moves, &cutters)?;
-        Ok(Plan {
+        let entered = entered_of(alloc, &grid, depth, &moves, &cutters, edits.as_slice())?;
+        let readied = readied_of(alloc, &grid, depth, &moves, &cutters)?;
+        Ok(Plan::of_parts(grid, depth, moves, edits, cutters, entered, readied))
+    }
+
+    /// The same plan, made by so many workers: two threads have a part of it each where there are two or more.
+    pub fn by_workers<R: Threads + Sync>(
+        rt: &R,
+        alloc: Global,
+        grid: Grid,
+        slabs: u32,
+        depth: u32,
+        moves: Vec<PlanMove>,
+        edits: Edits,
+        workers: u32,
+    ) -> Result<Plan, NoMemory>
+        requires some { 1 ≤ slabs }
+        requires few { slabs ≤ 256 }
+        requires shallow { depth ≤ 10 }
+        requires few_moves { length moves.items ≤ most_script_moves }
+        requires few_edits { length edits ≤ most_edits }
+        requires named { All (AppliesBelow (length moves.items)) edits }
+        ensures { IfOk result (λ plan. plan ≡ record { grid = grid; slabs = slabs; depth = depth; moves = moves.items; edits = edits }) }
+    {
+        if workers < 2 {
+            return Plan::new(alloc, grid, slabs, depth, moves, edits);
+        }
+        let cutters = cutters_of(alloc, &moves, slabs)?;
+        let (entered, readied) = reckoned_by_two(
+            rt,
+            alloc,
+            &grid,
+            depth,
+            &moves,
+            &cutters,
+            edits.as_slice(),
+        )?;
+        Ok(Plan::of_parts(grid, depth, moves, edits, cutters, entered, readied))
+    }
+
+    /// A plan of what was reckoned of it.
+    fn of_parts(
+        grid: Grid,
+        depth: u32,
+        moves: Vec<PlanMove>,
+        edits: Edits,
+        cutters: Cutters,
+        entered: Entered,
+        readied: Readied,
+    ) -> Plan
+        requires shallow { depth ≤ 10 }
+        requires few_moves { length moves.items ≤ most_script_moves }
+        requires few_edits { length edits ≤ most_edits }
+        requires named { All (AppliesBelow (length moves.items)) edits }
+        requires valid { IsPlan record { grid = grid; slabs = cutters.slabs; depth = depth; moves = moves.items; edits = edits } }
+        requires stacks { HasStacks cutters.slabs moves.items cutters.stacks.items cutters.places.items (length moves.items) }
+        requires boxes { HasBoxes grid cutters.slabs depth moves.items entered.boxes.hulls.items entered.boxes.boxes.items
+            entered.boxes.starts.items (length moves.items) }
+        requires groups { AreGroups entered.boxes.hulls.items edits entered.groups.items }
+        requires cylinders { HasCylinders grid cutters.slabs depth moves.items readied.cylinders.items (length moves.items) }
+        requires ready { HasReadyMoves cutters.slabs depth moves.items readied.ready.items (length moves.items) }
+        ensures { result ≡ record { grid = grid; slabs = cutters.slabs; depth = depth; moves = moves.items; edits = edits } }
+    {
+        let Entered { boxes, groups } = entered;
+        let Readied { cylinders, ready } = readied;
+        Plan {
             grid,
             depth,
             moves,
@@ -97,7 +162,7 @@ impl Plan {
             groups,
             cylinders,
             ready,
-        })
+        }
     }
 
     /// The lattice.

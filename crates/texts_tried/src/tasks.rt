@@ -2,6 +2,7 @@ use job_inputs::{Stopped, made_inputs, make_ready, read_moves, read_task};
 use report_text::refusal_text;
 use std::alloc::Global;
 use std::test::Fail;
+use std::thread::Threads;
 use vf_io::{MemShelf, NoMemory};
 
 /// Files as they are handed over.
@@ -135,10 +136,12 @@ const TASK: [(&str, &[u8]); 3] = [
     ("F", b"run 1 1\ncount\nundo 1\n"),
 ];
 
-/// Whether the task with this script is made ready, with one move and so many edits and queries.
-fn is_ready(
+/// Whether the task with this script is made ready by so many workers, with one move and so many edits and queries.
+fn is_ready<R: Threads + Sync>(
+    rt: &R,
     alloc: Global,
     script: Option<&str>,
+    workers: u32,
     edits: u32,
     queries: usize,
 ) -> Result<bool, NoMemory> {
@@ -146,22 +149,30 @@ fn is_ready(
     let Ok(inputs) = read_task(alloc, "A", "S", script, &mut shelf) else {
         return Ok(false);
     };
-    let ready = make_ready(alloc, inputs)?;
+    let ready = make_ready(rt, alloc, inputs, workers)?;
     Ok(ready.plan.moves() == 1 && ready.plan.edits() == edits && ready.queries.len() == queries)
 }
 
-/// The moves of a made task that is made ready.
-fn made_moves(alloc: Global) -> Result<u32, NoMemory> {
-    let made = make_ready(alloc, made_inputs(alloc, 1)?)?;
+/// The moves of a made task that is made ready by so many workers.
+fn made_moves<R: Threads + Sync>(rt: &R, alloc: Global, workers: u32) -> Result<u32, NoMemory> {
+    let made = make_ready(rt, alloc, made_inputs(alloc, 1)?, workers)?;
     Ok(made.plan.moves())
 }
 
 #[test]
 fn tasks_are_made_ready(rt: HostRuntime) -> Result<(), Fail> {
     let alloc = rt.alloc();
-    assert!(rt; is_ready(alloc, None, 1, 0)?, "a task without a script");
-    assert!(rt; is_ready(alloc, Some("F"), 2, 1)?, "a task with a script");
-    assert_eq!(rt; made_moves(alloc)?, 24);
+    for workers in 1..3 {
+        assert!(rt;
+            is_ready(&rt, alloc, None, workers, 1, 0)?,
+            "a task without a script"
+        );
+        assert!(rt;
+            is_ready(&rt, alloc, Some("F"), workers, 2, 1)?,
+            "a task with a script"
+        );
+        assert_eq!(rt; made_moves(&rt, alloc, workers)?, 24);
+    }
     Ok(())
 }
 

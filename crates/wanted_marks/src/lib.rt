@@ -19,6 +19,7 @@ mod scaled;
 mod sets;
 mod sheet;
 mod sides;
+mod slab_table;
 mod step_forms;
 mod strip_marker;
 mod turn;

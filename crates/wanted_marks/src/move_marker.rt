@@ -425,7 +425,8 @@ impl<'a> MoveMarker<'a> {
         }
     }
 
-    /// Looks for the inner slab at a point's height, where the one that was looked for last isn't there.
+    /// Looks for the inner slab at a point's height, where the one that was looked for last isn't there: from the number on that the move's
+    /// table has for that height, which is mostly nearer than that of the point before.
     #[inline]
     fn look_near(&self, last: &Sample, near: &mut Near)
         requires last { IsAtLast last.now self.now }
@@ -435,11 +436,11 @@ impl<'a> MoveMarker<'a> {
         if near.bounds.is_between(last) {
             return;
         }
-        *near = self.inner_near(last, near.reached);
+        *near = self.inner_near(last, self.ready.table.near(last.u));
     }
 
-    /// Whether some inner slab holds a point at its last sample. It is then sure. The slab at its height is looked for near the one
-    /// that was looked for last, in whose place it comes.
+    /// Whether some inner slab holds a point at its last sample. It is then sure. The slab at its height comes in the place of the one that
+    /// was looked for last.
     #[inline]
     pub(crate) fn is_held_last(&self, last: &Sample, near: &mut Near) -> bool
         requires last { IsAtLast last.now self.now }

@@ -15,7 +15,7 @@ pub struct Near {
 }
 
 impl Near {
-    /// Where none was looked for yet. The first point looks from a number on.
+    /// Where none was looked for yet. The number is for what is looked for at other samples than the last.
     pub fn from_slab(reached: usize) -> Near
         ensures { (v : MoveOf) → IsNear result v }
     {

@@ -115,7 +115,7 @@ impl Peak {
 
     /// From a number upwards to that of a slab that begins higher.
     #[inline]
-    fn walk_up(&self, slabs: &[Slab], low: usize) -> usize
+    pub fn walk_up(&self, slabs: &[Slab], low: usize) -> usize
         requires { low ≤ length slabs.now }
         ensures within { result ≤ length slabs.now }
         ensures under { let at = self.now in

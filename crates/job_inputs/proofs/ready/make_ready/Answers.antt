@@ -4,13 +4,13 @@ use Rattle.job_inputs.specs.Tasks.{job_move}
 use Rattle.job_inputs.proofs.Readied.{asked_of_plan, named_in_plan}
 use Rattle.job_inputs.proofs.ready.make_ready.Goals as goal
 
-pub new-requires-clause-named : goal.new-requires-clause-named
-new-requires-clause-named c =
+pub by_workers-requires-clause-named : goal.by_workers-requires-clause-named
+by_workers-requires-clause-named g c κs within =
     named_in_plan (job_move c.inputs.inside.setup.tool) c.inputs.inside.program.moves c.as_slice.result.now c.in_ok-moves.moves.items c.inputs.inside.script.edits
     c.in_ok-moves.ensures c.as_slice.ensures c.inputs.invariant.script_in.named
 
 pub returns-clause-asked : goal.returns-clause-asked
-returns-clause-asked c =
+returns-clause-asked g c =
     let made = c.in_ok-plan.ensures in
     asked_of_plan c.in_ok-plan.plan c.inputs.inside.setup.grid c.inputs.inside.script.edits c.inputs.inside.script.queries
     (ap (λ (plan : PlanOf). plan.grid) made) (ap (λ (plan : PlanOf). plan.edits) made) c.inputs.invariant.script_in.queries

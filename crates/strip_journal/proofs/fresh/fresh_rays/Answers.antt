@@ -11,7 +11,7 @@ overflow_add-points g c =
     fresh_on c.args.grid.now _ c.strip_ray.result _ _ _ c.in_ok-ray.ray c.requires.stock_grid c.in_ok-ray.ensures in
     let few =
     few_more c.args.grid.now c.args.strip c.loop-n.n c.loop-n.points c.stock_count-points.result c.args.stock.now.solid
-    c.args.part.now.solid c.args.fixture.now.solid c.loop-n.rays.items c.strip_ray.result c.in_ok-ray.ray c.hold_grid.ensures
+    c.args.part.now.solid c.args.fixture.now.solid c.loop-n.rays c.strip_ray.result c.in_ok-ray.ray c.hold_grid.ensures
     c.requires.strip low c.loop-n.invariant.rays c.loop-n.invariant.points c.strip_ray.ensures.there one c.stock_count-points.ensures in
     omega (arith, few)
 
@@ -22,11 +22,11 @@ loop-n-preserved g c =
     record {
       rays =
           fresh_more c.args.grid.now c.args.strip c.loop-n.n c.args.stock.now.solid c.args.part.now.solid c.args.fixture.now.solid
-          c.loop-n.rays.items c.push.new.self.items c.strip_ray.result c.in_ok-ray.ray c.loop-n.invariant.rays
-          c.strip_ray.ensures.there one c.in_ok-push.ensures.items;
+          c.loop-n.rays c.push.new.self c.strip_ray.result c.in_ok-ray.ray c.loop-n.invariant.rays
+          c.strip_ray.ensures.there one c.in_ok-push.ensures.ok;
       points =
-          stock_more c.loop-n.rays.items c.push.new.self.items c.in_ok-ray.ray c.loop-n.points c.stock_count-points.result
-          c.loop-n.invariant.points c.stock_count-points.ensures c.in_ok-push.ensures.items;
+          stock_more c.loop-n.rays c.push.new.self c.in_ok-ray.ray c.loop-n.points c.stock_count-points.result
+          c.loop-n.invariant.points c.stock_count-points.ensures c.in_ok-push.ensures.ok;
     }
 
 pub fresh_ray-requires-clause-part_grid : goal.fresh_ray-requires-clause-part_grid

@@ -1,33 +1,37 @@
-use Rattle.std.proofs.Common.{◌*◌, ◌/◌, ◌≤◌, List, length, arith, sym, ◌∙◌, subst}
+use Rattle.std.proofs.Common.{◌≡◌, ◌*◌, ◌/◌, ◌≤◌, List, length, arith, sym, ap, ◌∙◌, subst}
 use Rattle.std.specs.List.{All}
 use Rattle.vf_spans.specs.Words.{words_below}
 use Rattle.dexel_rays.specs.Sets.{Sets}
+use Rattle.ray_words.specs.Rays.{KeptSets}
+use Rattle.ray_words.specs.Rows.{kept_at}
 use Rattle.wanted_marks.specs.Rays.{is_possible_at, is_sure_at}
 use Rattle.strip_marks.specs.declared.change.WordChange.{WordChange}
+use Rattle.strip_marks.specs.Marks.{sets_of}
 use Rattle.strip_marks.specs.RayMarks.{AreWordsMarked, HaveWordsBelow, IsAtKept}
 use Rattle.strip_marks.specs.Words.{AreSetsOf}
 use Rattle.strip_marks.proofs.Lists.{tail_of, words_ascend}
 use Rattle.strip_marks.proofs.WholeRays.{ray_marked}
 use Rattle.strip_marks.proofs.ray.mark_ray.Goals as goal
 
-pub keep_changed-requires : goal.keep_changed-requires
-keep_changed-requires c =
+pub keep_changed-requires-clause-words : goal.keep_changed-requires-clause-words
+keep_changed-requires-clause-words c =
     let a = c.args in
     let h = c.in_ok-mark_words.ensures in
-    let most = words_below (length a.ray.now.sets.stock) in
+    let most = words_below (length (sets_of a.rays.now a.n).stock) in
     subst (λ (l : List WordChange). HaveWordsBelow most l)
     (sym (tail_of a.marked.now.changes.items c.mark_words.new.marked.changes.items h.added c.as_slice.result.now c.len-start.result h.joined
     c.as_slice.ensures.value (c.len-start.ensures ∙ a.marked.now.changes.ok.0)))
-    (words_ascend (length a.ray.now.sets.stock) a.n (a.window.0 / 64) (words_below a.window.1) most h.added h.holds.each h.holds.order
-    (omega (arith, c.requires.window.within, c.requires.ray.bound.stock)))
+    (words_ascend (length c.ray-ray.result.now.sets.stock) a.n (a.window.0 / 64) (words_below a.window.1) most h.added h.holds.each
+    h.holds.order (omega (arith, c.requires.window.within, c.requires.ray.bound.stock)))
 
 pub returns-clause-marked : goal.returns-clause-marked
 returns-clause-marked c =
     let a = c.args in
     let r = a.marker.now in
     let h = c.in_ok-mark_words.ensures in
-    let after = c.keep_changed.new.ray in
+    let after = kept_at c.keep_changed.new.rays a.n in
     let same = c.in_ok-keep_changed.ensures.same.sets in
+    let own : c.ray-ray.result.now.sets ≡ sets_of a.rays.now a.n = ap (λ (k : KeptSets). k.sets) c.ray-ray.ensures in
     let lo = a.window.0 / 64 in
     let hi = words_below a.window.1 in
     let kept = subst (λ (l : List WordChange). All (IsAtKept after) l)
@@ -35,8 +39,8 @@ returns-clause-marked c =
     c.as_slice.ensures.value (c.len-start.ensures ∙ a.marked.now.changes.ok.0))
     c.in_ok-keep_changed.ensures.kept in
     let sets = subst (λ (d : Sets). AreSetsOf r d) (sym same) c.requires.ray in
-    let marked = subst (λ (d : Sets). AreWordsMarked d (is_sure_at r) (is_possible_at r) a.rapid a.n lo hi h.added h.found) (sym same)
-    h.holds in
+    let marked = subst (λ (d : Sets). AreWordsMarked d (is_sure_at r) (is_possible_at r) a.rapid a.n lo hi h.added h.found)
+    (own ∙ sym same) h.holds in
     let from : 64 * lo ≤ a.window.0 = omega arith in
     let to : a.window.1 ≤ 64 * hi = omega arith in
     let order : lo ≤ hi = omega (arith, c.requires.window.order) in
@@ -47,5 +51,5 @@ returns-clause-marked c =
       summed = h.summed;
       holds = ray_marked r after a.rapid a.n a.window.0 a.window.1
           lo hi h.added h.found sets c.requires.window from to order marked
-          kept (omega (arith, sets.bound.stock, c.requires.ray.bound.stock, c.bound-bound.ensures.points));
+          kept (omega (arith, sets.bound.stock, c.requires.ray.bound.stock, c.bound-bound.ensures.points, ap (λ (d : Sets). length d.stock) own));
     }

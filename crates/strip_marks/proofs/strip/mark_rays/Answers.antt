@@ -1,22 +1,20 @@
-use Rattle.std.proofs.Common.{◌≡◌, ℕ, ◌+◌, ◌-◌, ◌*◌, ◌<◌, ◌≤◌, List, [], length, get_or, set, arith, refl, sym, subst}
-use Rattle.std.proofs.lemmas.List.{get_or_default}
+use Rattle.std.proofs.Common.{◌≡◌, ℕ, ◌+◌, ◌-◌, ◌*◌, ◌<◌, ◌≤◌, List, [], length, arith, refl, sym, subst}
 use Rattle.job_facts.specs.declared.counts.Counts.{Counts}
 use Rattle.job_facts.specs.Counts.{AreWithin, most_count, no_counts}
 use Rattle.job_model.specs.Tasks.{JobMove, PlanOf}
 use Rattle.strip_plan.specs.Plans.{HasNumber}
-use Rattle.near_points.specs.Rays.{near_ray_at}
 use Rattle.ray_grid.specs.Strips.{strip_at}
 use Rattle.ray_words.specs.Rays.{KeptSets}
+use Rattle.ray_words.specs.Rows.{kept_at}
 use Rattle.strip_marks.specs.declared.change.WordChange.{WordChange}
-use Rattle.strip_marks.specs.Marks.{kept_of, possible_there, sure_there}
+use Rattle.strip_marks.specs.Marks.{possible_there, sure_there}
 use Rattle.wanted_marks.specs.Strips.{ray_at}
-use Rattle.strip_marks.specs.Words.{AreSetsOf}
-use Rattle.strip_marks.specs.RayMarks.{Adds, HasSameSets, IsFirstAsked, IsRayMarked}
+use Rattle.strip_marks.specs.RayMarks.{Adds, IsRayMarked}
 use Rattle.strip_marks.specs.RowMarks.{AreRaysMarked}
 use Rattle.strip_marks.proofs.AlongRays.{along_of, along_on}
 use Rattle.strip_marks.proofs.Counting.{within_more}
 use Rattle.strip_marks.proofs.IdleRays.{first_found, none_found}
-use Rattle.strip_marks.proofs.MoreRays.{no_rays_to, no_sets, same_self, same_set, sets_at}
+use Rattle.strip_marks.proofs.MoreRays.{no_rays_to, same_self, same_set, sets_at}
 use Rattle.strip_marks.proofs.NearRays.{near_node, near_nodes, near_of}
 use Rattle.strip_marks.proofs.NextRays.{IsNextRay, are_rays_still, fewer_left, next_more, nothing_more}
 use Rattle.strip_marks.proofs.OneRay.{marked_by, rays_step, within_next}
@@ -24,11 +22,6 @@ use Rattle.strip_marks.proofs.OnStrips.{marker_is, marker_of, node_within, some_
 use Rattle.strip_marks.proofs.ReadyRays.{ready_at}
 use Rattle.strip_marks.proofs.Told.{none_told, some_told}
 use Rattle.strip_marks.proofs.strip.mark_rays.Goals as goal
-
--- a ray is the same as the one that stands at its number
-own_of : (rays : List KeptSets) (n : ℕ) (d ray : KeptSets) → n < length rays → HasSameSets (get_or rays n d) ray
-    → HasSameSets (kept_of rays n) ray
-own_of rays n d ray lt h = subst (λ (r : KeptSets). HasSameSets r ray) (get_or_default rays n d no_sets lt) h
 
 -- no changes and no counts are none
 nothing_yet : (plan : PlanOf) (move : JobMove) (strip lo hi : ℕ) (rays : List KeptSets) (changes : List WordChange) (counts : Counts) → changes ≡ [] → counts ≡ no_counts
@@ -109,26 +102,24 @@ mark_asked-requires c =
     (n, c.in-Some.first) k.invariant.some c.in-Some.is in
     let lt : n < length a.rays.now = omega (arith, next.below, c.requires.within) in
     let on_strip : n < length (strip_at a.plan.now.grid a.strip) = omega (arith, lt, c.requires.rays.many) in
-    let own : kept_of k.rays n ≡ get_or k.rays n c.index-rays-n.result =
-    sym (get_or_default k.rays n c.index-rays-n.result no_sets (omega (arith, lt, k.invariant.same.many))) in
     let marker = marker_of a.plan.now a.number a.strip c.on_strip-marker.result c.marker-mover.result c.grid-grid.result.now
     c.strip_ray-row.result c.on_strip-marker.ensures c.grid-grid.ensures c.strip_ray-row.ensures.there c.strip_ray-row.ensures.ray
     c.marker-mover.ensures.marker in
     let near = near_of a.plan.now a.number a.strip c.new-near.result c.cylinder.result.now c.grid-grid.result.now c.strip_ray-row.result
     c.new-near.ensures c.grid-grid.ensures c.strip_ray-row.ensures.there c.strip_ray-row.ensures.ray c.cylinder.ensures in
-    let ready = ready_at a.plan.now a.number a.strip n c.on_strip-marker.result c.new-near.result (kept_of k.rays n) c.strip_along-along.result
+    let ready = ready_at a.plan.now a.number a.strip n c.on_strip-marker.result c.new-near.result (kept_at k.rays n) c.strip_along-along.result
     c.requires.plan c.requires.number c.requires.strip on_strip marker near
     (sets_at a.plan.now.grid a.strip a.rays.now k.rays n c.requires.rays k.invariant.same lt)
     (along_on a.plan.now a.number a.strip n c.new-near.result c.strip_along-along.result near on_strip
     (along_of a.plan.now a.number c.new-near.result _ c.strip_along-along.result c.new-near.ensures c.strip_along-along.ensures)) in
     record {
-      ray = subst (λ (r : KeptSets). AreSetsOf (ray_at c.on_strip-marker.result n) r.sets) own ready.sets;
+      some = omega (arith, lt, k.invariant.same.many);
+      ray = ready.sets;
       window = ready.window;
       node = node_within a.plan.now a.number a.strip n c.on_strip-marker.result marker on_strip;
       n = near_node a.plan.now a.number a.strip n c.new-near.result near on_strip;
       near = ready.near;
-      first = subst (λ (r : KeptSets). IsFirstAsked (near_ray_at c.new-near.result n) r.sets c.strip_along-along.result c.in-Some.first) own
-          next.asked;
+      first = next.asked;
       room = within_more ((n - a.window.0) * 4294967295) (most_count - 8589934592) k.marked.counts (omega arith) next.within;
     }
 
@@ -139,8 +130,9 @@ returns-in_err-mark_asked-clause-same c =
     let n = c.in-Some.n in
     let next = some_told (IsNextRay a.plan.now a.number a.strip c.new-near.result c.strip_along-along.result a.rays.now k.rays k.marked a.window.0 a.window.1) k.next
     (n, c.in-Some.first) k.invariant.some c.in-Some.is in
-    same_set a.rays.now k.rays n c.index-rays-n.result c.mark_asked.new.ray k.invariant.same (omega (arith, next.below, c.requires.within))
-    c.in_err-mark_asked.ensures.same
+    let e = c.in_err-mark_asked.ensures in
+    same_set a.rays.now k.rays c.mark_asked.new.rays n (kept_at c.mark_asked.new.rays n) k.invariant.same
+    (omega (arith, next.below, c.requires.within)) e.same e.others
 
 pub loop-next-smaller : goal.loop-next-smaller
 loop-next-smaller c =
@@ -153,9 +145,10 @@ loop-next-smaller c =
     let along = along_of a.plan.now a.number c.new-near.result _ window c.new-near.ensures c.strip_along-along.ensures in
     let next = some_told (IsNextRay a.plan.now a.number a.strip c.new-near.result window a.rays.now k.rays k.marked a.window.0 a.window.1) k.next
     (n, c.in-Some.first) k.invariant.some c.in-Some.is in
-    let same = same_set a.rays.now k.rays n c.index-rays-n.result c.mark_asked.new.ray k.invariant.same
-    (omega (arith, next.below, c.requires.within)) c.in_ok-mark_asked.ensures.same in
-    let rays = set k.rays n c.mark_asked.new.ray in
+    let rays = c.mark_asked.new.rays in
+    let e = c.in_ok-mark_asked.ensures in
+    let same = same_set a.rays.now k.rays rays n (kept_at rays n) k.invariant.same (omega (arith, next.below, c.requires.within)) e.same
+    e.others in
     fewer_left a.plan.now a.number a.strip c.new-near.result window rays n a.window.1 c.in-Some.first k.next c.first_in-next-in-Some.result
     c.in-Some.is next.below
     (first_found a.plan.now a.number a.strip (n + 1) a.window.1 c.new-near.result rays window c.first_in-next-in-Some.result c.requires.plan
@@ -169,14 +162,15 @@ loop-next-preserved c =
     let n = c.in-Some.n in
     let lo = a.window.0 in
     let hi = a.window.1 in
-    let ray = c.mark_asked.new.ray in
+    let rays = c.mark_asked.new.rays in
+    let ray = kept_at rays n in
+    let e = c.in_ok-mark_asked.ensures in
     let after = c.mark_asked.new.marked in
     let span = (n - lo) * 4294967295 in
     let next = some_told (IsNextRay a.plan.now a.number a.strip c.new-near.result c.strip_along-along.result a.rays.now k.rays k.marked lo hi) k.next
     (n, c.in-Some.first) k.invariant.some c.in-Some.is in
     let lt : n < length a.rays.now = omega (arith, next.below, c.requires.within) in
-    let own = own_of k.rays n c.index-rays-n.result ray (omega (arith, lt, k.invariant.same.many)) c.in_ok-mark_asked.ensures.same in
-    let same = same_set a.rays.now k.rays n c.index-rays-n.result ray k.invariant.same lt c.in_ok-mark_asked.ensures.same in
+    let same = same_set a.rays.now k.rays rays n ray k.invariant.same lt e.same e.others in
     let marker = marker_of a.plan.now a.number a.strip c.on_strip-marker.result c.marker-mover.result c.grid-grid.result.now
     c.strip_ray-row.result c.on_strip-marker.ensures c.grid-grid.ensures c.strip_ray-row.ensures.there c.strip_ray-row.ensures.ray
     c.marker-mover.ensures.marker in
@@ -184,28 +178,27 @@ loop-next-preserved c =
     IsRayMarked ray (sure_there a.plan.now move a.strip n) (possible_there a.plan.now move a.strip n) move.rapid n added found) =
     λ move has. marked_by a.plan.now move a.strip n (ray_at c.on_strip-marker.result n) c.is_rapid-rapid.result ray k.marked after
     (marker_is a.plan.now a.number a.strip n move c.on_strip-marker.result marker has (omega (arith, lt, c.requires.rays.many)))
-    (c.is_rapid-rapid.ensures move has) c.in_ok-mark_asked.ensures.marked in
+    (c.is_rapid-rapid.ensures move has) e.marked in
     let near = near_of a.plan.now a.number a.strip c.new-near.result c.cylinder.result.now c.grid-grid.result.now c.strip_ray-row.result
     c.new-near.ensures c.grid-grid.ensures c.strip_ray-row.ensures.there c.strip_ray-row.ensures.ray c.cylinder.ensures in
     let window = c.strip_along-along.result in
     let along = along_of a.plan.now a.number c.new-near.result _ window c.new-near.ensures c.strip_along-along.ensures in
-    let rays = set k.rays n ray in
     let still = are_rays_still a.plan.now.grid a.strip a.rays.now rays c.requires.rays same in
     let end : hi ≤ length rays = omega (arith, c.requires.within, same.many) in
     let some = some_move a.plan.now a.number c.requires.number in
     let within = within_more (span + 4294967295) ((n + 1 - lo) * 4294967295) after.counts (omega (arith, next.from))
     (within_next a.plan.now some.0 a.strip n span ray k.marked after next.within (adds some.0 some.1)) in
     let done : (move : JobMove) → HasNumber a.plan.now a.number move
-    → AreRaysMarked a.plan.now move a.strip a.rays.now (set k.rays n ray) lo (n + 1) after.changes.items after.counts =
-    λ move has. rays_step a.plan.now move a.strip lo n a.rays.now k.rays ray k.marked after c.requires.rays k.invariant.same own
-    next.from lt (next.ahead move has) (adds move has) in
+    → AreRaysMarked a.plan.now move a.strip a.rays.now rays lo (n + 1) after.changes.items after.counts =
+    λ move has. rays_step a.plan.now move a.strip lo n a.rays.now k.rays rays ray k.marked after c.requires.rays k.invariant.same e.same
+    e.others next.from lt (next.ahead move has) (adds move has) in
     record {
       same = same;
-      none = nothing_more a.plan.now a.number a.strip a.rays.now (set k.rays n ray) after lo (n + 1) hi c.first_in-next-in-Some.result same
+      none = nothing_more a.plan.now a.number a.strip a.rays.now rays after lo (n + 1) hi c.first_in-next-in-Some.result same
           (omega (arith, next.from)) (omega (arith, next.below)) c.requires.within done
           (none_found a.plan.now a.number a.strip (n + 1) hi c.new-near.result rays window c.first_in-next-in-Some.result c.requires.plan
           c.requires.strip still near end along c.first_in-next-in-Some.ensures.none);
-      some = next_more a.plan.now a.number a.strip c.new-near.result c.strip_along-along.result a.rays.now (set k.rays n ray) after lo (n + 1) hi
+      some = next_more a.plan.now a.number a.strip c.new-near.result c.strip_along-along.result a.rays.now rays after lo (n + 1) hi
           c.first_in-next-in-Some.result same (omega (arith, next.from)) c.requires.within within done
           (first_found a.plan.now a.number a.strip (n + 1) hi c.new-near.result rays window c.first_in-next-in-Some.result c.requires.plan
           c.requires.strip still near end along c.first_in-next-in-Some.ensures.some);

@@ -8,4 +8,4 @@ pub returns-clause-all : goal.returns-clause-all
 returns-clause-all c =
     subst (λ (r : KeptSets). HaveBound c.bound.result r.sets) c.self.view_is
     (have_bound c.self.inside.stock c.self.inside.part c.self.inside.fixture c.self.inside.first c.self.inside.words.items c.bound.result
-    (sym c.bound.ensures) c.self.invariant.ray.part_bound c.self.invariant.ray.fixture_bound)
+    (sym c.bound.ensures) c.self.invariant.part_bound c.self.invariant.fixture_bound)

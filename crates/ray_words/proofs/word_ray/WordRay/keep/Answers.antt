@@ -1,23 +1,15 @@
-use Rattle.std.proofs.Common.{ap, subst, sym, ◌∙◌}
-use Rattle.dexel_rays.specs.Sets.{Sets}
-use Rattle.ray_words.specs.Rays.{HasNoneWanted, KeptSets}
+use Rattle.std.proofs.Common.{ap, ◌∙◌}
+use Rattle.ray_words.specs.Rays.{KeptSets}
 use Rattle.ray_words.proofs.Keeping.{longer_ray, longer_sets, made_longer}
 use Rattle.ray_words.proofs.word_ray.WordRay.keep.Goals as goal
 
 pub invariant_of-self : goal.invariant_of-self
 invariant_of-self c =
     let i = c.self.inside in
-    let longer =
-    made_longer c.args.self.now i.stock i.part i.fixture i.first i.words.items c.args.lo c.args.hi c.stretch-first.result
+    longer_ray i.stock i.part i.fixture i.first i.words.items c.stretch-first.result.0 c.in_ok-words.words.items c.self.invariant
+    (made_longer c.args.self.now i.stock i.part i.fixture i.first i.words.items c.args.lo c.args.hi c.stretch-first.result
     c.in_ok-words.words.items c.self.view_is c.stretch-first.ensures c.requires.some c.in_ok-words.ensures.count
-    c.in_ok-words.ensures.bits in
-    record {
-      ray = longer_ray i.stock i.part i.fixture i.first i.words.items c.stretch-first.result.0 c.in_ok-words.words.items
-          c.self.invariant.ray longer;
-      none = subst (λ (d : Sets). HasNoneWanted d i.settled)
-          (sym (longer_sets i.stock i.part i.fixture i.first i.words.items c.stretch-first.result.0 c.in_ok-words.words.items longer))
-          c.self.invariant.none;
-    }
+    c.in_ok-words.ensures.bits)
 
 pub returns-clause-sets : goal.returns-clause-sets
 returns-clause-sets c =

@@ -54,8 +54,8 @@ pub returns-clause-unchanged : goal.returns-clause-unchanged
 returns-clause-unchanged c =
     let before = c.args.self.now in
     let after = c.take_over.new.self in
-    let at = λ (edits : HasSameEdits c.mark.new.self after) (rays : after.rays.items ≡ c.mark.new.self.rays.items).
+    let at = λ (edits : HasSameEdits c.mark.new.self after) (rays : after.rays ≡ c.mark.new.self.rays).
     same_at before after c.requires.journal
-    (subst (λ (z : List KeptSets). HaveSameSets before.rays.items z) (sym rays) c.mark.ensures.same)
+    (subst (λ (z : List KeptSets). HaveSameSets before.rays z) (sym rays) c.mark.ensures.same)
     (same_edits_through before c.mark.new.self after c.mark.ensures.edits edits) in
     on_err_both c.take_over.result _ _ _ at c.take_over.ensures.edits c.take_over.ensures.rays

@@ -6,8 +6,8 @@ use Rattle.strip_journal.proofs.journal.Journal.state_at.Goals as goal
 pub loop-place-init : goal.loop-place-init
 loop-place-init g c =
     let past : c.len-place.result ≡ length c.args.self.now.entries.items = omega arith in (
-      look_begins c.args.self.now c.args.version c.args.n c.args.l c.len-place.result c.index-ray.result.now c.has_sure.result
-          c.has_possible.result c.requires.journal c.requires.version c.requires.ray c.requires.point c.index-ray.ensures past
+      look_begins c.args.self.now c.args.version c.args.n c.args.l c.len-place.result c.ray-ray.result.now c.has_sure.result
+          c.has_possible.result c.requires.journal c.requires.version c.requires.ray c.requires.point c.ray-ray.ensures past
           c.has_sure.ensures c.has_possible.ensures,
       omega arith,
     )
@@ -50,8 +50,8 @@ loop-place-preserved g c =
 pub returns-clause-state : goal.returns-clause-state
 returns-clause-state g c =
     let within = c.loop-place.invariant.0.within in
-    look_ends c.args.self.now c.args.version c.args.n c.args.l c.loop-place.place c.index-ray.result.now c.has_stock.result
-    c.loop-place.marks c.state_of.result c.requires.journal c.requires.ray c.requires.point c.index-ray.ensures
+    look_ends c.args.self.now c.args.version c.args.n c.args.l c.loop-place.place c.ray-ray.result.now c.has_stock.result
+    c.loop-place.marks c.state_of.result c.requires.journal c.requires.ray c.requires.point c.ray-ray.ensures
     c.has_stock.ensures c.state_of.ensures
     (λ some. elim c.loop-place-test.branch [
       | then-loop-place-test+else-index-version w ↦

@@ -14,7 +14,7 @@ invariant_of-result g c =
     (subst (λ (grid : GridSize). IsGrid grid) c.grid.ensures c.hold_grid.ensures)
     c.requires.number few c.edits-edits.ensures.named
     (first_on c.args.plan.now.grid c.grid-2.result.now c.args.number c.args.stock.now.solid c.args.part.now.solid
-    c.args.fixture.now.solid c.in_ok-rays.rays.items c.grid-2.ensures c.in_ok-rays.ensures.rays)
+    c.args.fixture.now.solid c.in_ok-rays.rays c.grid-2.ensures c.in_ok-rays.ensures.rays)
     (record {
       of = c.in_ok-rays.ensures.stock;
       changes = c.new-2.ensures.items;

@@ -33,8 +33,8 @@ returns c =
       shallow = c.requires;
       valid = valid;
       both = λ p sure.
-          c.inner-stack.ensures.possible m p S (some_cells c.args.depth) valid (subst (λ l. held_at_sample l m p S ≡ true) (sym c.inner-stack.ensures.stack) sure);
-      rising = subst IsRising c.inner-stack.ensures.stack c.inner-stack.ensures.rising;
+          c.inner-inner.ensures.possible m p S (some_cells c.args.depth) valid (subst (λ l. held_at_sample l m p S ≡ true) (sym c.inner-inner.ensures.stack) sure);
+      rising = subst IsRising c.inner-inner.ensures.stack c.inner-inner.ensures.rising;
       outer_rising = subst IsRising c.outer.ensures.stack c.outer.ensures.rising;
       scale_is = scale.ensures.cells;
       few = scale.ensures.few;

@@ -1,0 +1,117 @@
+ghost use Rattle.std.specs.Prelude.{◌≤◌, All, IfOk, length};
+ghost use Rattle.edit_plan.specs.Edits.{AppliesBelow};
+ghost use Rattle.strip_plan.specs.Boxed.{HasBoxes};
+ghost use Rattle.strip_plan.specs.Cutters.{HasStacks};
+ghost use Rattle.strip_plan.specs.Cylinders.{HasCylinders};
+ghost use Rattle.strip_plan.specs.Passing.{AreGroups};
+ghost use Rattle.strip_plan.specs.ReadyMoves.{HasReadyMoves};
+
+use crate::boxes::{Boxes, boxes_of};
+use crate::cutters::Cutters;
+use crate::cylinders::cylinders_of;
+use crate::index_box::IndexBox;
+use crate::passing::groups_of;
+use crate::plan_move::PlanMove;
+use crate::ready_moves::ready_moves_of;
+use edit_plan::Edit;
+use ray_grid::Grid;
+use std::alloc::Global;
+use std::thread::{Threads, join};
+use sweep_boxes::BoundingCylinder;
+use vf_io::NoMemory;
+use wanted_marks::ReadyMove;
+
+/// Which strips moves enter: the boxes of the moves, and those of the groups of edits.
+#[derive(Drop)]
+pub(crate) struct Entered {
+    pub(crate) boxes: Boxes,
+    pub(crate) groups: Vec<Option<IndexBox>>,
+}
+
+/// What the marks of moves are made by: the cylinders of the moves, and what is reckoned of each once.
+#[derive(Drop)]
+pub(crate) struct Readied {
+    pub(crate) cylinders: Vec<BoundingCylinder>,
+    pub(crate) ready: Vec<ReadyMove>,
+}
+
+/// The boxes of moves, and those of the groups of edits. Fails only for want of memory.
+pub(crate) fn entered_of(
+    alloc: Global,
+    grid: &Grid,
+    depth: u32,
+    moves: &[PlanMove],
+    cutters: &Cutters,
+    edits: &[Edit],
+) -> Result<Entered, NoMemory>
+    requires shallow { depth ≤ 10 }
+    requires stacks { HasStacks cutters.now.slabs moves.now cutters.now.stacks.items cutters.now.places.items (length moves.now) }
+    requires named { All (AppliesBelow (length moves.now)) edits.now }
+    ensures boxes { IfOk result (λ made. HasBoxes grid.now cutters.now.slabs depth moves.now made.boxes.hulls.items made.boxes.boxes.items
+        made.boxes.starts.items (length moves.now)) }
+    ensures groups { IfOk result (λ made. AreGroups made.boxes.hulls.items edits.now made.groups.items) }
+{
+    let boxes = boxes_of(alloc, grid, depth, moves, cutters)?;
+    let groups = groups_of(alloc, &boxes.hulls, edits)?;
+    Ok(Entered { boxes, groups })
+}
+
+/// The cylinders of moves, and what is reckoned of each for its marks. Fails only for want of memory.
+pub(crate) fn readied_of(
+    alloc: Global,
+    grid: &Grid,
+    depth: u32,
+    moves: &[PlanMove],
+    cutters: &Cutters,
+) -> Result<Readied, NoMemory>
+    requires shallow { depth ≤ 10 }
+    requires stacks { HasStacks cutters.now.slabs moves.now cutters.now.stacks.items cutters.now.places.items (length moves.now) }
+    ensures cylinders { IfOk result (λ made. HasCylinders grid.now cutters.now.slabs depth moves.now made.cylinders.items
+        (length moves.now)) }
+    ensures ready { IfOk result (λ made. HasReadyMoves cutters.now.slabs depth moves.now made.ready.items (length moves.now)) }
+{
+    let cylinders = cylinders_of(alloc, grid, moves, cutters)?;
+    let ready = ready_moves_of(alloc, grid, depth, moves, cutters)?;
+    Ok(Readied { cylinders, ready })
+}
+
+/// Both at once, the first in a thread of its own where one can be made: neither waits for the other. Fails only for want of memory.
+pub(crate) fn reckoned_by_two<R: Threads + Sync>(
+    rt: &R,
+    alloc: Global,
+    grid: &Grid,
+    depth: u32,
+    moves: &[PlanMove],
+    cutters: &Cutters,
+    edits: &[Edit],
+) -> Result<(Entered, Readied), NoMemory>
+    requires shallow { depth ≤ 10 }
+    requires stacks { HasStacks cutters.now.slabs moves.now cutters.now.stacks.items cutters.now.places.items (length moves.now) }
+    requires named { All (AppliesBelow (length moves.now)) edits.now }
+    ensures boxes { IfOk result (λ made. HasBoxes grid.now cutters.now.slabs depth moves.now made.0.boxes.hulls.items
+        made.0.boxes.boxes.items made.0.boxes.starts.items (length moves.now)) }
+    ensures groups { IfOk result (λ made. AreGroups made.0.boxes.hulls.items edits.now made.0.groups.items) }
+    ensures cylinders { IfOk result (λ made. HasCylinders grid.now cutters.now.slabs depth moves.now made.1.cylinders.items
+        (length moves.now)) }
+    ensures ready { IfOk result (λ made. HasReadyMoves cutters.now.slabs depth moves.now made.1.ready.items (length moves.now)) }
+{
+    let front = move || -> Result<Entered, NoMemory>
+        requires { (depth ≤ 10)
+            × HasStacks cutters.now.slabs moves.now cutters.now.stacks.items cutters.now.places.items (length moves.now)
+            × All (AppliesBelow (length moves.now)) edits.now }
+        ensures { IfOk result (λ made. HasBoxes grid.entry.now cutters.entry.now.slabs depth moves.entry.now made.boxes.hulls.items
+            made.boxes.boxes.items made.boxes.starts.items (length moves.entry.now)
+            × AreGroups made.boxes.hulls.items edits.entry.now made.groups.items) }
+    { entered_of(alloc, grid, depth, moves, cutters, edits) };
+    let back = move || -> Result<Readied, NoMemory>
+        requires { (depth ≤ 10)
+            × HasStacks cutters.now.slabs moves.now cutters.now.stacks.items cutters.now.places.items (length moves.now) }
+        ensures { IfOk result (λ made. HasCylinders grid.entry.now cutters.entry.now.slabs depth moves.entry.now made.cylinders.items
+            (length moves.entry.now)
+            × HasReadyMoves cutters.entry.now.slabs depth moves.entry.now made.ready.items (length moves.entry.now)) }
+    { readied_of(alloc, grid, depth, moves, cutters) };
+    let (entered, readied) = join(rt, front, back);
+    let entered = entered?;
+    let readied = readied?;
+    Ok((entered, readied))
+}
