@@ -1,4 +1,4 @@
-ghost use Rattle.std.specs.Prelude.{◌≡◌, ℕ, ◌<◌, ◌≤◌, ◌<ℤ◌, pos, not, true, false, IsTrue, slice_index_or};
+ghost use Rattle.std.specs.Prelude.{◌≡◌, ℕ, ◌<◌, ◌≤◌, ◌<ℤ◌, pos, not, true, false, Contains, IfSome, IsTrue};
 ghost use Rattle.sweep_boxes.specs.declared.level.Level.{Level};
 ghost use Rattle.vf_spans.specs.Members.{in_range};
 ghost use Rattle.near_points.specs.Lines.{FitsAfter};
@@ -8,22 +8,29 @@ use crate::stance::{Stance, moved, tilted};
 use crate::step::Step;
 use sweep_boxes::{LEVELS, Level};
 
-/// The place of a level whose height is above a given one, or the number of levels where none is found. It is looked for from another
-/// place, as that of a point close by: from there down, and then up.
+/// The lowest level above a height, where they are in order and the last one is above it. It is found by halving, in three steps that a
+/// processor need not guess.
 #[inline]
-fn place_above(levels: &[Level; LEVELS], near: usize, height: i64) -> usize
-    requires { near ≤ 8 }
-    ensures within { result ≤ 8 }
-    ensures above { (d : Level) → result < 8 → height <ℤ (slice_index_or levels.now result d).height }
+fn level_above(levels: &[Level; LEVELS], height: i64) -> Option<&Level>
+    ensures { IfSome result (λ level. Contains levels.now level.now × (height <ℤ level.now.height)) }
 {
-    let mut place = near;
-    while 0 < place && height < levels[place - 1].height {
-        place -= 1;
+    let half = if levels[3].height <= height { 4 } else { 0 };
+    let quarter = if levels[half + 1].height <= height {
+        2
+    } else {
+        0
+    };
+    let rest = if levels[half + quarter].height <= height {
+        1
+    } else {
+        0
+    };
+    let level = &levels[half + quarter + rest];
+    if height < level.height {
+        Some(level)
+    } else {
+        None
     }
-    while place < LEVELS && levels[place].height <= height {
-        place += 1;
-    }
-    place
 }
 
 /// Whether the point l steps on, below the height of a level, has too long a moment for it or is too far to either side.
@@ -43,22 +50,20 @@ fn is_beyond(first: &Stance, step: &Step, level: &Level, l: u32) -> bool
     moment * moment < step.after(first, l).width()
 }
 
-/// Whether a level is found that leaves out the point l steps on. `place` is that of the level that the point before was held against,
-/// and then that of this one. Most points are above all levels, and the last one is the highest.
+/// Whether a level is found that leaves out the point l steps on. Most points are above all levels, and the last one is the highest.
 #[inline]
-fn is_out(first: &Stance, step: &Step, levels: &[Level; LEVELS], l: u32, place: &mut usize) -> bool
-    requires fits { FitsAfter first.now step.now (pos l) }
-    requires place { place.old ≤ 8 }
-    ensures place { place.new ≤ 8 }
-    ensures out { IsTrue result → IsLeftOut levels.now first.now step.now (pos l) }
+fn is_out(first: &Stance, step: &Step, levels: &[Level; LEVELS], l: u32) -> bool
+    requires { FitsAfter first.now step.now (pos l) }
+    ensures { IsTrue result → IsLeftOut levels.now first.now step.now (pos l) }
 {
     let height = moved(first.height, l, step.height);
     if levels[LEVELS - 1].height <= height {
         return false;
     }
-    let near = place_above(levels, *place, height);
-    *place = near;
-    near < LEVELS && is_beyond(first, step, &levels[near], l)
+    match level_above(levels, height) {
+        Some(level) => is_beyond(first, step, level, l),
+        None => false,
+    }
 }
 
 /// The first point from one on up to another, which is excluded, that isn't found to be left out, or the other where there is none.
@@ -70,10 +75,9 @@ fn first_in(first: &Stance, step: &Step, levels: &[Level; LEVELS], from: u32, en
     ensures to { result ≤ end }
     ensures ahead { (x : ℕ) → from ≤ x → x < result → IsLeftOut levels.now first.now step.now (pos x) }
 {
-    let mut place = 0;
     let mut at = from;
     while at < end {
-        if !is_out(first, step, levels, at, &mut place) {
+        if !is_out(first, step, levels, at) {
             return at;
         }
         at += 1;
@@ -90,10 +94,9 @@ fn end_of_in(first: &Stance, step: &Step, levels: &[Level; LEVELS], from: u32, e
     ensures to { result ≤ end }
     ensures behind { (x : ℕ) → result ≤ x → x < end → IsLeftOut levels.now first.now step.now (pos x) }
 {
-    let mut place = 0;
     let mut at = end;
     while from < at {
-        if !is_out(first, step, levels, at - 1, &mut place) {
+        if !is_out(first, step, levels, at - 1) {
             return at;
         }
         at -= 1;

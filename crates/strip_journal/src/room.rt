@@ -2,8 +2,11 @@ ghost use Rattle.std.specs.Prelude.{◌≡◌, ◌+◌, ◌≤◌, OnOk, vec_cap
 
 use vf_io::NoMemory;
 
-/// Room for so many items more. A list that has too little grows to four times its length: it is copied half as often as one that
-/// doubles, and what it doesn't fill is mostly never touched. After want of memory nothing is changed.
+/// A list of fewer items grows to sixteen times its length, and one of as many or more to four times.
+const FEW: usize = 4096;
+
+/// Room for so many items more. A list that has too little grows to many times its length: so most are copied once or twice, and what
+/// they don't fill is mostly never touched. After want of memory nothing is changed.
 pub fn reserve_more<T>(list: &mut Vec<T>, more: usize) -> Result<(), NoMemory>
     ensures items { list.new.items ≡ list.old.items }
     ensures room { OnOk result (vec_len list.new + more ≤ vec_capacity list.new) }
@@ -11,7 +14,8 @@ pub fn reserve_more<T>(list: &mut Vec<T>, more: usize) -> Result<(), NoMemory>
     if more <= list.capacity() - list.len() {
         return Ok(());
     }
-    let grown = list.len().saturating_mul(3);
+    let times = if list.len() < FEW { 15 } else { 3 };
+    let grown = list.len().saturating_mul(times);
     list.reserve(more.max(grown))?;
     Ok(())
 }

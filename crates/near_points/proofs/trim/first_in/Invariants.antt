@@ -6,7 +6,6 @@ abbrev pub invariant-loop-at : goal.invariant-loop-at
 invariant-loop-at l = record {
   from : l.from ≤ l.at;
   to : l.at ≤ l.end;
-  place : l.place ≤ 8;
   ahead : (x : ℕ) → l.from ≤ x → x < l.at → IsLeftOut l.levels l.first l.step (pos x);
 }
 
