@@ -1,14 +1,14 @@
 -- What is added to the counts of the moves that are left, entry by entry.
-use Rattle.std.proofs.Common.{◌≡◌, ℕ, zero, suc, ◌+◌, ◌-◌, ◌^◌, ◌<◌, ◌⊎◌, ◌≢◌, inl, inr, All, List, length, slice_index, slice_index_or, slice_set, add-zero, arith, refl, sym, ap, ◌∙◌, subst, ⊎_elim}
+use Rattle.std.proofs.Common.{◌≡◌, ℕ, zero, suc, ◌+◌, ◌-◌, ◌^◌, ◌<◌, ◌⊎◌, ◌≢◌, inl, inr, All, List, length, slice_index, slice_set, add-zero, arith, refl, sym, ap, ◌∙◌, subst, ⊎_elim}
 use Rattle.std.proofs.lemmas.Bool.{cases_eq}
-use Rattle.std.proofs.lemmas.List.{get_or_default, get_or-set_other, get_or-set_same, length-set}
+use Rattle.std.proofs.lemmas.List.{get_or-set_other, get_or-set_same, length-set}
 use native.Mathlib.Decide.{dec_le}
 use mathlib.Core.Logic.{dite}
 use Rattle.job_facts.specs.declared.counts.Counts.{Counts}
 use Rattle.job_facts.specs.Counts.{AreWithin, most_count, no_counts, plus}
 use Rattle.strip_journal.specs.declared.entry.Entry.{Entry}
 use Rattle.strip_journal.specs.declared.journal.Journal.{Journal}
-use Rattle.strip_journal.specs.Entries.{HasNo, counts_of_hits, edit_at, entry_at, no_entry, possible_ahead, removed_ahead}
+use Rattle.strip_journal.specs.Entries.{HasNo, counts_of_hits, edit_at, entry_at, possible_ahead, removed_ahead}
 use Rattle.strip_journal.specs.Found.{AddsAhead, AddsEntry, AddsLeft, HasRoomAt, IsFoundBy, count_at}
 use Rattle.strip_journal.specs.Journals.{IsJournal, job_of}
 use Rattle.strip_journal.specs.Strips.{most_before}
@@ -54,14 +54,10 @@ pub record IsOfLeft (j : Journal) (place k : ℕ) : Type 0 where
   pub left : k < j.at
   pub same : slice_index j.line k ≡ edit_at j.entries.items place
 
--- as where the entry that was read is
-pub of_left : (j : Journal) (place k : ℕ) (entry : Entry) → place < length j.entries.items
-    → entry ≡ slice_index_or j.entries.items place entry → k < j.at → slice_index j.line k ≡ entry.edit → IsOfLeft j place k
-of_left j place k entry within is left same = record {
-  within = within;
-  left = left;
-  same = same ∙ ap (λ (e : Entry). e.edit) (is ∙ get_or_default j.entries.items place entry no_entry within);
-}
+-- as where its edit was read
+pub of_left : (j : Journal) (place k edit : ℕ) → place < length j.entries.items → edit ≡ edit_at j.entries.items place → k < j.at
+    → slice_index j.line k ≡ edit → IsOfLeft j place k
+of_left j place k edit within is left same = record { within = within; left = left; same = same ∙ is }
 
 -- what the entry tells
 abbrev pub told : Journal → ℕ → Counts

@@ -109,7 +109,7 @@ goes_on straight at edit rest =
     ∙ ap (λ (l : List ℕ). l ++ edit ∷ []) (sym (take_joined straight at rest))
 
 -- what a push that succeeds leaves
-pub pushed : {T E : Type 0} (r : Result T E) (after before : List ℕ) → IsOk r → (if is_ok r then after else before) ≡ after
+pub pushed : {T E X : Type 0} (r : Result T E) (after before : List X) → IsOk r → (if is_ok r then after else before) ≡ after
 pushed r after before ok = ap (λ (b : Bool). if b then after else before) ok
 
 -- numbers that ascend don't fall

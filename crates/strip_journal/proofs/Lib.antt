@@ -23,6 +23,7 @@ pub mod Unmoved
 pub mod LookBack
 pub mod FoundIs
 pub mod TurnedAt
+pub mod KeptHits
 pub mod Places
 pub mod Searching
 pub mod TotalsFound

@@ -1,6 +1,5 @@
 -- Looking back by what is read of the rays and of the entries.
-use Rattle.std.proofs.Common.{◌≡◌, ℕ, ◌+◌, ◌-◌, ◌<◌, ◌≤◌, Bool, not, if◌then◌else◌, List, length, slice_index_or, arith, sym, ap, ◌∙◌, subst}
-use Rattle.std.proofs.lemmas.List.{get_or_default}
+use Rattle.std.proofs.Common.{◌≡◌, ℕ, ◌+◌, ◌-◌, ◌<◌, ◌≤◌, Bool, not, if◌then◌else◌, length, arith, sym, ap, ◌∙◌, subst}
 use Rattle.vf_spans.specs.Members.{has}
 use Rattle.job_facts.specs.declared.totals.PointState.{PointState}
 use Rattle.job_facts.specs.declared.totals.PointState.TheVariants.{Absent, Kept, Possible, Removed}
@@ -10,15 +9,10 @@ use Rattle.ray_words.specs.Rows.{kept_at}
 use Rattle.strip_marks.specs.Marks.{AreInOrder, among, point_at, points_at, possible_of, sure_of}
 use Rattle.strip_journal.specs.declared.entry.Entry.{Entry}
 use Rattle.strip_journal.specs.declared.journal.Journal.{Journal}
-use Rattle.strip_journal.specs.Entries.{changes_of, edit_at, entry_at, no_entry, was}
+use Rattle.strip_journal.specs.Entries.{changes_of, edit_at, entry_at, was}
 use Rattle.strip_journal.specs.Journals.{IsJournal, job_of}
 use Rattle.strip_journal.specs.Looking.{IsLookingBack}
 use Rattle.strip_journal.proofs.LookBack.{looked_back, looked_cost, looked_state, looking_start, looking_step}
-
--- the entry that is read
-pub entry_read : (entries : List Entry) (place : ℕ) (entry : Entry) → place < length entries → entry ≡ slice_index_or entries place entry
-    → entry ≡ entry_at entries place
-entry_read entries place entry low is = is ∙ get_or_default entries place entry no_entry low
 
 -- the walk begins past the last entry
 pub look_begins : (j : Journal) (version n l place : ℕ) (ray : KeptSets) (sure possible : Bool) → IsJournal (job_of j) j → version ≤ j.done
@@ -42,23 +36,20 @@ pub record IsEntryOf (j : Journal) (entry : Entry) : Type 0 where
   pub sorted : AreInOrder (changes_of j.changes.items entry)
 
 pub entry_of_journal : (j : Journal) (place : ℕ) (entry : Entry) → IsJournal (job_of j) j → place < length j.entries.items
-    → entry ≡ slice_index_or j.entries.items place entry → IsEntryOf j entry
+    → entry ≡ entry_at j.entries.items place → IsEntryOf j entry
 entry_of_journal j place entry h low read =
-    subst (λ (e : Entry). IsEntryOf j e) (sym (entry_read j.entries.items place entry low read))
+    subst (λ (e : Entry). IsEntryOf j e) (sym read)
     record { order = h.kept.order place low; within = h.kept.within place low; sorted = h.sorted place low }
 
 -- it goes one entry back
-pub look_goes_on : (j : Journal) (version n l place : ℕ) (entry tested : Entry) (marks next : Bool × Bool) → IsJournal (job_of j) j
+pub look_goes_on : (j : Journal) (version n l place edit : ℕ) (entry : Entry) (marks next : Bool × Bool) → IsJournal (job_of j) j
     → n < length j.rays → l < points_at j.plan.value.grid j.number n → 0 < place
-    → entry ≡ slice_index_or j.entries.items (place - 1) entry → tested ≡ slice_index_or j.entries.items (place - 1) tested
-    → version ≤ tested.edit
+    → entry ≡ entry_at j.entries.items (place - 1) → edit ≡ edit_at j.entries.items (place - 1) → version ≤ edit
     → next.0 ≡ was entry.is_undo (among sure_of (changes_of j.changes.items entry) n l) marks.0
     → next.1 ≡ was entry.is_undo (among possible_of (changes_of j.changes.items entry) n l) marks.1
     → IsLookingBack j version n l place marks → IsLookingBack j version n l (place - 1) next
-look_goes_on j version n l place entry tested marks next h low point some read test from first second looking =
+look_goes_on j version n l place edit entry marks next h low point some is same from first second looking =
     let few : place - 1 < length j.entries.items = let within = looking.within in omega (arith, within, some) in
-    let is = entry_read j.entries.items (place - 1) entry few read in
-    let same = ap (λ (e : Entry). e.edit) (entry_read j.entries.items (place - 1) tested few test) in
     let here : place ≡ place - 1 + 1 = omega (arith, some) in
     let step =
     looking_step j version n l (place - 1) marks h low point few (omega (arith, from, same))
@@ -77,13 +68,6 @@ look_goes_on j version n l place entry tested marks next h low point some read t
 pub look_cost_on : (old steps size place : ℕ) → 0 < place → place ≤ size → steps ≤ old + (size - place)
     → steps + 1 ≤ old + (size - (place - 1))
 look_cost_on old steps size place some within cost = omega arith
-
--- the entry ahead is of an edit ahead of the version, if the one that was read is
-pub ahead_read : (entries : List Entry) (version place : ℕ) (tested : Entry) → 0 < place → place ≤ length entries
-    → tested ≡ slice_index_or entries (place - 1) tested → tested.edit < version → edit_at entries (place - 1) < version
-ahead_read entries version place tested some within read below =
-    let same = ap (λ (e : Entry). e.edit) (entry_read entries (place - 1) tested (omega (arith, some, within)) read) in
-    omega (arith, same, below)
 
 -- it ends with the state at the version
 pub look_ends : (j : Journal) (version n l place : ℕ) (ray : KeptSets) (stock : Bool) (marks : Bool × Bool) (told : PointState)

@@ -1,34 +1,9 @@
 -- What a binary search among the entries, and among the line, finds.
-use Rattle.std.proofs.Common.{◌≡◌, ℕ, ◌<◌, ◌≤◌, true, false, ltb, List, length, arith, ap, ◌∙◌}
-use Rattle.std.specs.List.Sorted.{IsPartitionedBy, IsPartitionPoint}
-use Rattle.std.proofs.lemmas.Bool.{ltb-false, ltb-true}
-use Rattle.std.proofs.lemmas.List.Sorted.{IsNonDecreasingBy-from_default, IsPartitionedBy-ltb}
+use Rattle.std.proofs.Common.{◌≡◌, ℕ, ◌<◌, List, length, arith, ap, ◌∙◌}
 use native.Mathlib.Decide.{dec_le}
 use mathlib.Core.Logic.{dite}
 use Rattle.strip_journal.specs.declared.entry.Entry.{Entry}
-use Rattle.strip_journal.specs.Entries.{AreAscending, HasNo, IsPlace, edit_at, no_entry}
-
--- entries in order are split by a version
-pub entries_parted : (entries : List Entry) (version : ℕ) → AreAscending entries → IsPartitionedBy (λ entry. ltb entry.edit version) entries
-entries_parted entries version ascend =
-    IsPartitionedBy-ltb (λ (entry : Entry). entry.edit) entries version
-    (IsNonDecreasingBy-from_default (λ (entry : Entry). entry.edit) entries no_entry
-    (λ i k up few.
-    dite (dec_le k i)
-    (λ same.
-    let is : edit_at entries i ≡ edit_at entries k = let e : i ≡ k = omega (arith, up, same) in ap (edit_at entries) e in
-    omega (arith, is))
-    (λ later. let order = ascend.each i k (omega (arith, later)) few in omega (arith, order))))
-
--- where they are split is the place of the version
-pub place_is : (entries : List Entry) (version place : ℕ) → place ≤ length entries
-    → IsPartitionPoint (λ entry. ltb entry.edit version ≡ true) (λ entry. ltb entry.edit version ≡ false) entries place
-    → IsPlace entries version place
-place_is entries version place within point = record {
-  within = within;
-  ahead = λ i low. ltb-true (edit_at entries i) version (point.0 i no_entry (omega arith) low);
-  behind = λ i from few. ltb-false (edit_at entries i) version (point.1 i no_entry from few);
-}
+use Rattle.strip_journal.specs.Entries.{AreAscending, HasNo, IsPlace, edit_at}
 
 -- an edit that isn't that of the entry at its place has no entry
 pub entry_missing : (entries : List Entry) (edit place : ℕ) → AreAscending entries → IsPlace entries edit place

@@ -1,19 +1,22 @@
 -- A move that doesn't enter the strip: its edit is added to those that are left, and nothing else changes.
-use Rattle.std.proofs.Common.{◌≡◌, ℕ, ◌+◌, ◌<◌, ◌≤◌, true, false, Bool, ◌||◌, List, [], Some, length, slice_get, arith, refl, sym, ◌∙◌, subst}
+use Rattle.std.proofs.Common.{◌≡◌, ℕ, ◌+◌, ◌<◌, ◌≤◌, true, false, Bool, ◌||◌, List, [], ◌++◌, Some, length, slice_get, arith, refl, sym, ap, ◌∙◌, subst}
 use Rattle.std.proofs.lemmas.List.{append-nil}
 use Rattle.std.proofs.lemmas.Option.{slice_get_within}
 use Rattle.ray_grid.specs.Strips.{strip_at, strips_of}
 use Rattle.edit_plan.specs.declared.edit.Edit.TheVariants.{Apply}
+use Rattle.job_facts.specs.declared.counts.Counts.{Counts}
 use Rattle.job_facts.specs.Counts.{no_counts}
 use Rattle.job_model.specs.Tasks.{IsPlan, JobMove, PlanOf}
 use Rattle.ray_words.specs.Rays.{KeptSets}
 use Rattle.strip_plan.specs.Plans.{HasNumber}
 use Rattle.strip_plan.specs.Windows.{HoldsEntered}
+use Rattle.strip_marks.specs.declared.change.WordChange.{WordChange}
 use Rattle.strip_marks.specs.Marks.{AreRays}
 use Rattle.strip_marks.proofs.WholeStrips.{unentered_strip}
 use Rattle.strip_journal.specs.declared.journal.Journal.{Journal}
 use Rattle.strip_journal.specs.Journals.{IsAt, IsJournal, job_of}
-use Rattle.strip_journal.specs.Steps.{AreRaysTurned, CanStand, IsApplied, IsStood}
+use Rattle.strip_journal.specs.Steps.{AreRaysTurned, CanStand, IsApplied, IsStood, applied_entry, does_nothing, noted}
+use Rattle.strip_journal.proofs.EnteredParts.{nothing_done}
 use Rattle.strip_journal.proofs.EnteredRoom.{stands_so}
 use Rattle.strip_journal.proofs.MarkedBy.{IsMarking, marking_at}
 
@@ -51,6 +54,22 @@ stood_applied j l stood = record {
   at = stood.at;
   done = stood.done;
 }
+
+-- so is one with a move that is seen to do nothing
+pub idle_applied : (j l : Journal) (changes : List WordChange) (counts : Counts) → does_nothing changes counts ≡ true → IsStood j l
+    → IsApplied j l changes counts
+idle_applied j l changes counts is stood =
+    let empty = sym (nothing_done changes counts is).changes_are in
+    record {
+      strip = stood.strip;
+      rays = subst (λ (z : List WordChange). AreRaysTurned j.rays l.rays z false) empty (none_turned j.rays l.rays stood.rays);
+      changes_are =
+          stood.changes ∙ sym (append-nil j.changes.items) ∙ ap (λ (z : List WordChange). j.changes.items ++ z) empty;
+      entries = stood.entries ∙ ap (λ (b : Bool). noted b j.entries.items (applied_entry j.done j changes counts)) (sym is);
+      line = stood.line;
+      at = stood.at;
+      done = stood.done;
+    }
 
 -- nothing is marked there
 unentered_marking : (plan : PlanOf) (j : Journal) (number lo hi : ℕ) → IsJournal (job_of j) j → j.plan.value ≡ plan

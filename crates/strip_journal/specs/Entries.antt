@@ -41,6 +41,17 @@ counts_of_hits hits removed possible = record {
 abbrev pub no_entry : Entry
 no_entry = record { edit = 0; from = 0; to = 0; is_undo = false; hits = no_hits; removed = 0; possible = 0 }
 
+-- a list of entries, for how many more there is room, and for how many more that have hits
+pub record EntryList : Type 0 where
+  pub items : List Entry
+  pub room : ℕ
+  pub hits_room : ℕ
+
+-- there is room for an entry more that has these hits
+pub record HasRoomFor (entries : EntryList) (hits : Hits) : Type 0 where
+  pub entry : 0 < entries.room
+  pub found : are_none hits ≡ false → 0 < entries.hits_room
+
 -- the entry at a place, and its edit
 abbrev pub entry_at : List Entry → ℕ → Entry
 entry_at entries place = slice_index_or entries place no_entry

@@ -10,9 +10,10 @@ use Rattle.ray_words.specs.Rows.{kept_at}
 use Rattle.strip_marks.specs.declared.change.WordChange.{WordChange}
 use Rattle.strip_marks.specs.Marks.{among, possible_of, sure_of}
 use Rattle.strip_journal.specs.declared.entry.Entry.{Entry}
+use Rattle.strip_journal.specs.declared.entry.Hits.{Hits}
 use Rattle.strip_journal.specs.declared.journal.Journal.{Journal}
 use Rattle.strip_journal.specs.Journals.{job_of}
-use Rattle.strip_journal.specs.Entries.{HasNo, are_none, changes_of, edit_at, entry_at, hits_of, no_hits, possible_ahead, removed_ahead, was}
+use Rattle.strip_journal.specs.Entries.{HasNo, HasRoomFor, are_none, changes_of, edit_at, entry_at, hits_of, no_hits, possible_ahead, removed_ahead, was}
 
 -- The sets of a ray with changes, or without them: of each set the members are by `was`, and the bodies and the words that are kept
 -- stay.
@@ -73,11 +74,11 @@ pub record HasSameEdits (j k : Journal) : Type 0 where
   pub at : k.at ≡ j.at
   pub done : k.done ≡ j.done
 
--- there is room for so many changes and for an entry; a place among the changes has 32 bits
-pub record HasRoom (j : Journal) (changes : ℕ) : Type 0 where
+-- there is room for so many changes and for an entry with these hits; a place among the changes has 32 bits
+pub record HasRoom (j : Journal) (changes : ℕ) (hits : Hits) : Type 0 where
   pub changes_fit : vec_len j.changes + changes ≤ vec_capacity j.changes
   pub few : length j.changes.items + changes < 2 ^ 32
-  pub entry : vec_len j.entries < vec_capacity j.entries
+  pub entry : HasRoomFor j.entries hits
 
 -- the line and the number of edits done stay
 pub record HasSameLine (j k : Journal) : Type 0 where

@@ -4,6 +4,8 @@ ghost use Rattle.job_facts.specs.Counts.{AreWithin};
 ghost use Rattle.job_model.specs.Tasks.{JobMove};
 ghost use Rattle.strip_plan.specs.Plans.{HasNumber};
 ghost use Rattle.strip_marks.specs.Marks.{HaveSameSets, IsChangeOn, IsMarkedStrip};
+ghost use Rattle.strip_journal.specs.declared.entry.Hits.{Hits};
+ghost use Rattle.strip_journal.specs.Entries.{hits_of};
 ghost use Rattle.strip_journal.specs.Journals.{IsAt, IsJournal, job_of};
 ghost use Rattle.strip_journal.specs.Steps.{CanStand, FitsEntry, HasRoom, HasSameEdits, IsApplied, IsEntered, IsStood, does_nothing};
 
@@ -28,26 +30,25 @@ fn does_nothing(marked: &Marked) -> bool
 }
 
 impl Journal {
-    /// Room for so many changes and for an entry.
-    fn make_room(&mut self, changes: usize) -> Result<(), NoMemory>
+    /// Room for so many changes and for an entry with these hits.
+    fn make_room(&mut self, changes: usize, hits: &Hits) -> Result<(), NoMemory>
         ensures edits { HasSameEdits self.old self.new }
         ensures rays { self.new.rays ≡ self.old.rays }
-        ensures room { OnOk result (HasRoom self.new changes) }
+        ensures room { OnOk result (HasRoom self.new changes hits.now) }
     {
         // A place in the list of changes is a number of 32 bits: more would take a hundred gigabytes.
         if self.changes.len() > MOST_CHANGES || changes > MOST_CHANGES - self.changes.len() {
             return Err(NoMemory);
         }
         reserve_more(&mut self.changes, changes)?;
-        reserve_more(&mut self.entries, 1)?;
-        Ok(())
+        self.entries.reserve(hits)
     }
 
     /// Adds this edit to those that are left, in place of those that are dropped.
     fn stand(&mut self) -> Result<(), NoMemory>
         requires { CanStand self.old }
         ensures ok { OnOk result (IsStood self.old self.new) }
-        ensures room { (changes : ℕ) → HasRoom self.old changes → HasRoom self.new changes }
+        ensures room { (changes : ℕ) (hits : Hits) → HasRoom self.old changes hits → HasRoom self.new changes hits }
         ensures edits { OnErr result (HasSameEdits self.old self.new) }
         ensures rays { OnErr result (self.new.rays ≡ self.old.rays) }
     {
@@ -59,7 +60,7 @@ impl Journal {
 
     /// Takes over what a move changes or finds, with the entry of its edit. It takes no memory.
     fn enter(&mut self, edit: u32, marked: Marked)
-        requires room { HasRoom self.old (length marked.changes.items) }
+        requires room { HasRoom self.old (length marked.changes.items) (hits_of marked.counts) }
         requires on { All (IsChangeOn self.old.rays) marked.changes.items }
         requires fits { FitsEntry self.old marked.counts }
         requires some { does_nothing marked.changes.items marked.counts ≡ false }
@@ -82,7 +83,7 @@ impl Journal {
             removed: removed + counts.removed as u32,
             possible: possible + counts.possible as u32,
         };
-        let _noted = self.entries.push(entry);
+        self.entries.push(&entry);
         self.room = changes;
     }
 
@@ -101,7 +102,7 @@ impl Journal {
             self.room = marked.changes;
             return self.stand();
         }
-        self.make_room(marked.changes.len())?;
+        self.make_room(marked.changes.len(), &Hits::of_counts(&marked.counts))?;
         let edit = self.done;
         self.stand()?;
         self.enter(edit, marked);

@@ -4,7 +4,7 @@ ghost use Rattle.job_facts.specs.declared.totals.PointState.TheVariants.{Absent,
 ghost use Rattle.job_facts.specs.Counts.{AreWithin};
 ghost use Rattle.job_model.specs.Points.{left_moves, state_after, strip_points, totals_over};
 ghost use Rattle.strip_marks.specs.Marks.{AreInOrder, among, is_ahead, point_at, points_at, possible_of, sure_of};
-ghost use Rattle.strip_journal.specs.Entries.{AreAscending, HasNo, IsPlace, changes_of, counts_of_hits, edit_at, entry_at, possible_ahead, removed_ahead, was};
+ghost use Rattle.strip_journal.specs.Entries.{AreAscending, HasNo, changes_of, counts_of_hits, edit_at, entry_at, possible_ahead, removed_ahead, was};
 ghost use Rattle.strip_journal.specs.Journals.{IsJournal, job_of};
 ghost use Rattle.strip_journal.specs.Looking.{at_word};
 ghost use Rattle.strip_journal.specs.Strips.{most_before};
@@ -17,14 +17,6 @@ use std::sync::ledger::Ledger;
 use strip_marks::WordChange;
 use vf_spans::bits::has_bit;
 use vf_steps::Steps;
-
-/// The place of the first entry of an edit at or behind a version.
-pub fn place_of(entries: &[Entry], version: u32) -> usize
-    requires { AreAscending entries.now }
-    ensures { IsPlace entries.now version result }
-{
-    entries.partition_point(|entry| entry.edit < version)
-}
 
 /// Whether a change stands ahead of a word of ray n.
 fn stands_ahead(change: &WordChange, n: u32, word: u32) -> bool
@@ -96,8 +88,8 @@ impl Journal {
         ensures { MatchOption result (HasNo self.now.entries.items edit)
             (λ place. (place < length self.now.entries.items) × (edit_at self.now.entries.items place ≡ edit)) }
     {
-        let place = place_of(self.entries.as_slice(), edit);
-        if place < self.entries.len() && self.entries[place].edit == edit {
+        let place = self.entries.place_of(edit);
+        if place < self.entries.len() && self.entries.edit_at(place) == edit {
             Some(place)
         } else {
             None
@@ -113,7 +105,7 @@ impl Journal {
         if place == 0 {
             return (0, 0);
         }
-        let entry = &self.entries[place - 1];
+        let entry = self.entries.get(place - 1);
         (entry.removed, entry.possible)
     }
 
@@ -124,7 +116,7 @@ impl Journal {
         ensures { result ≡ totals_over (job_of self.now) (strip_points self.now.plan.value.grid self.now.number)
             (left_moves self.now.plan.value version) }
     {
-        let place = place_of(self.entries.as_slice(), version);
+        let place = self.entries.place_of(version);
         let (removed, possible) = self.totals_ahead(place);
         Totals {
             removed: u64::from(removed),
@@ -143,7 +135,7 @@ impl Journal {
             ((entry_at self.now.entries.items place).possible - possible_ahead self.now.entries.items place) }
     {
         let (removed, possible) = self.totals_ahead(place);
-        let entry = &self.entries[place];
+        let entry = self.entries.get(place);
         entry
             .hits
             .with_stock(entry.removed - removed, entry.possible - possible)
@@ -205,10 +197,10 @@ impl Journal {
         let ray = self.rays.ray(n);
         let mut marks = (ray.has_sure(l), ray.has_possible(l));
         let mut place = self.entries.len();
-        while place > 0 && self.entries[place - 1].edit >= version {
+        while place > 0 && self.entries.edit_at(place - 1) >= version {
             place -= 1;
             steps.tick();
-            marks = self.look_back(&self.entries[place], n, l, marks);
+            marks = self.look_back(&self.entries.get(place), n, l, marks);
         }
         state_of(ray.has_stock(l), marks.0, marks.1)
     }
@@ -230,7 +222,7 @@ impl Journal {
         requires room { HasRoomAt self.now place counts.old }
         ensures { AddsEntry self.now place counts.old counts.new }
     {
-        let edit = self.entries[place].edit;
+        let edit = self.entries.edit_at(place);
         if let Some(k) = self.left_of(edit) {
             let found = self.counts_at(place);
             counts[k] = counts[k].plus(&found);

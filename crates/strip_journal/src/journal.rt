@@ -1,5 +1,5 @@
 use crate::edit_line::EditLine;
-use crate::entry::Entry;
+use crate::entries::Entries;
 use ray_shapes::Solid;
 use ray_words::RayRow;
 use std::alloc::Global;
@@ -29,7 +29,7 @@ pub struct Journal {
     /// What edits changed, those of one edit together.
     pub changes: Vec<WordChange>,
     /// The edits that had an effect here, in order.
-    pub entries: Vec<Entry>,
+    pub entries: Entries,
     /// An empty list, whose memory serves the changes of the next move that is marked.
     pub room: Vec<WordChange>,
 }

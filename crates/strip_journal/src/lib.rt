@@ -3,6 +3,7 @@
 
 mod applying;
 mod edit_line;
+mod entries;
 mod entry;
 mod finding;
 mod fresh;

@@ -10,6 +10,7 @@ ghost use Rattle.job_model.specs.Points.{left_moves, point_in, state_after, stri
 ghost use Rattle.strip_journal.specs.Strips.{AddsFound, IsFoundAt, most_before};
 
 use crate::edit_line::EditLine;
+use crate::entries::Entries;
 use crate::fresh::{fresh_rays, hold_grid};
 use crate::journal::Journal;
 use job_facts::{Counts, PointState, Totals};
@@ -90,7 +91,7 @@ impl Strip {
             of,
             rays,
             changes: Vec::new(alloc),
-            entries: Vec::new(alloc),
+            entries: Entries::new(alloc),
             room: Vec::new(alloc),
         };
         Ok(Strip { journal })

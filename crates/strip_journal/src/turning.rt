@@ -9,7 +9,6 @@ ghost use Rattle.strip_journal.specs.Steps.{AreRaysTurned, HasSameEdits, HasSame
 use crate::entry::{Entry, Hits};
 use crate::journal::Journal;
 use crate::rays::turn_all;
-use crate::room::reserve_more;
 use edit_plan::Edit;
 use ray_words::RayRow;
 use strip_marks::WordChange;
@@ -42,7 +41,8 @@ impl Journal {
         if is_undo {
             self.totals_ahead(place)
         } else {
-            self.totals_ahead(place + 1)
+            let entry = self.entries.get(place);
+            (entry.removed, entry.possible)
         }
     }
 
@@ -55,16 +55,17 @@ impl Journal {
         ensures edits { OnErr result (HasSameEdits self.old self.new) }
         ensures rays { OnErr result (self.new.rays ≡ self.old.rays) }
     {
-        reserve_more(&mut self.entries, 1)?;
+        let hits = Hits::none();
+        self.entries.reserve(&hits)?;
         let (removed, possible) = self.totals_again(place, is_undo);
-        let source = self.entries[place];
+        let source = self.entries.get(place);
         turn_changes(&mut self.rays, self.changes.as_slice(), &source, is_undo);
-        let _noted = self.entries.push(Entry {
+        self.entries.push(&Entry {
             edit: self.done,
             from: source.from,
             to: source.to,
             is_undo,
-            hits: Hits::none(),
+            hits,
             removed,
             possible,
         });

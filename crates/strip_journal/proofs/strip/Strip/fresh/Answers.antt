@@ -18,7 +18,7 @@ invariant_of-result g c =
     (record {
       of = c.in_ok-rays.ensures.stock;
       changes = c.new-2.ensures.items;
-      entries = c.new-3.ensures.items;
+      entries = c.new-3.ensures;
       line = c.new.ensures;
       at = refl;
       done = refl;
