@@ -10,7 +10,8 @@ use strip_marks::WordChange;
 fn turn_ray(rays: &mut RayRow, change: &WordChange, is_undo: bool)
     requires { IsChangeOn rays.old change.now }
     ensures others { rays.new ≡ slice_set rays.old change.now.ray (kept_at rays.new change.now.ray) }
-    ensures turned { IsRayTurned (kept_at rays.old change.now.ray) (kept_at rays.new change.now.ray) (change.now ∷ []) change.now.ray is_undo }
+    ensures turned { IsRayTurned (kept_at rays.old change.now.ray) (kept_at rays.new change.now.ray) (change.now ∷ []) change.now.ray
+        is_undo }
 {
     if is_undo {
         rays.take(change.ray, change.word, &change.delta());

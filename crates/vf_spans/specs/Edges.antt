@@ -1,7 +1,9 @@
 -- How a set is kept: by its edges, the first index of each range and the first one past it, in one ascending list.
-use Rattle.std.specs.Prelude.{◌≡◌, ℕ, ◌<◌, ◌≤◌, ◌%◌, Bool, false, not, nat_le, nat_lt, nat_eq, if◌then◌else◌, List, [], ◌∷◌, length, map, slice_index}
+use Rattle.std.specs.Prelude.{◌≡◌, ℕ, ◌<◌, ◌≤◌, ◌%◌, Bool, false, not, nat_le, nat_eq, if◌then◌else◌, List, [], ◌∷◌, length, map, slice_index}
 use Rattle.std.specs.List.{range_with_len}
 use Rattle.vf_spans.specs.declared.edges.Edges.{Edges}
+use Rattle.vf_spans.specs.declared.edges.Kept.{Kept}
+use Rattle.vf_spans.specs.declared.edges.Kept.TheVariants.{Empty, OneRange, Ranges}
 
 -- x is inside where an odd number of edges are at most x
 abbrev pub inside : List ℕ → ℕ → Bool
@@ -16,14 +18,15 @@ is_odd passed = nat_eq (passed % 2) 1
 abbrev pub flags_of : ℕ → List ℕ → List Bool
 flags_of bound edges = map (inside edges) (range_with_len 0 bound)
 
--- the edges that are kept as one range and a list: those of the list; where it has none, those of the range, if that is not empty
-abbrev pub edges_kept : List ℕ → List ℕ → List ℕ
-edges_kept one [] = if nat_lt (slice_index one 0) (slice_index one 1) then one else []
-edges_kept one (edge ∷ more) = edge ∷ more
+-- the edges that are kept as none, as those of one range, or as a list of them all
+abbrev pub edges_kept : Kept → List ℕ
+edges_kept Empty = []
+edges_kept (OneRange edges) = edges
+edges_kept (Ranges edges) = edges.value.items
 
 -- the edges that are kept
 abbrev pub edges_of : Edges → List ℕ
-edges_of edges = edges_kept edges.one edges.more.items
+edges_of edges = edges_kept edges.kept
 
 -- the edges ascend
 abbrev pub Ascends : List ℕ → Type 0

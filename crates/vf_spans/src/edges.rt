@@ -1,17 +1,30 @@
-ghost use Rattle.std.specs.Prelude.{◌≡◌, ℕ, ◌-◌, ◌<◌, [], ◌∷◌, ◌++◌, IfOk, OnOk, OnErr, IsOk, length, slice_index, slice_set};
+ghost use Rattle.std.specs.Prelude.{◌≡◌, ℕ, ◌-◌, ◌<◌, ◌≤◌, [], ◌∷◌, ◌++◌, IfOk, OnOk, OnErr, IsOk, length, slice_index, slice_set};
 ghost use Rattle.vf_spans.specs.Edges.{edges_of, AreEdges};
 
 use std::alloc::{AllocError, Global};
+use std::mem::size_of;
 
 /// The edges of a set, in order, which take memory only where they are more than those of one range.
-///
-/// Where `more` has edges, it has all of them. Where it has none, `one` is the only range; where that
-/// is empty too, there is none.
 #[derive(Debug, Drop)]
 pub struct Edges {
-    one: [u32; 2],
-    more: Vec<u32>,
+    kept: Kept,
+    alloc: Global,
 }
+
+/// How the edges are kept. Most sets have one range or none, so a list stands behind a pointer, and
+/// edges without one are no larger than need be.
+#[derive(Debug, Drop)]
+enum Kept {
+    /// There are none.
+    Empty,
+    /// Those of one range.
+    OneRange([u32; 2]),
+    /// Those of any number of ranges.
+    Ranges(Box<Vec<u32>>),
+}
+
+// A large job has a set for each of hundreds of thousands of rays.
+const _: () = prove!(size_of::<Edges>() == 16);
 
 impl Edges {
     /// No edges. It takes no memory.
@@ -19,50 +32,46 @@ impl Edges {
         ensures { edges_of result ≡ [] }
     {
         Edges {
-            one: [0, 0],
-            more: Vec::new(alloc),
+            kept: Kept::Empty,
+            alloc,
         }
     }
 
-    /// The edges of the list. Where they are none or those of one range, the list's memory is given
-    /// back.
-    pub fn from_list(list: Vec<u32>) -> Edges
+    /// The edges of the list. Where they are none or those of one range, no memory is taken, and the
+    /// list's is given back.
+    pub fn from_list(list: Vec<u32>) -> Result<Edges, AllocError>
         requires { (bound : ℕ) × AreEdges bound list.items }
-        ensures { edges_of result ≡ list.items }
+        ensures edges { IfOk result (λ r. edges_of r ≡ list.items) }
+        ensures few { length list.items ≤ 2 → IsOk result }
     {
-        let one = match list.len() {
-            0 => [0, 0],
-            2 => [list[0], list[1]],
-            _ => {
-                return Edges {
-                    one: [0, 0],
-                    more: list,
-                };
-            }
+        let alloc = *list.allocator();
+        let kept = match list.len() {
+            0 => Kept::Empty,
+            2 => Kept::OneRange([list[0], list[1]]),
+            _ => Kept::Ranges(Box::new(alloc, list)?),
         };
-        Edges {
-            one,
-            more: Vec::new(*list.allocator()),
-        }
+        Ok(Edges { kept, alloc })
     }
 
     /// The same edges. Those of one range take no memory.
     pub fn copy(&self) -> Result<Edges, AllocError>
         ensures { IfOk result (λ r. edges_of r ≡ edges_of self.now) }
     {
-        if self.more.is_empty() {
-            return Ok(Edges {
-                one: self.one,
-                more: Vec::new(self.allocator()),
-            });
-        }
-        let more = Vec::from_slice(self.allocator(), self.more.as_slice())?;
-        Ok(Edges { one: [0, 0], more })
+        let alloc = self.alloc;
+        let kept = match &self.kept {
+            Kept::Empty => Kept::Empty,
+            Kept::OneRange(edges) => Kept::OneRange(*edges),
+            Kept::Ranges(list) => {
+                let copy = Vec::from_slice(alloc, list.as_slice())?;
+                Kept::Ranges(Box::new(alloc, copy)?)
+            }
+        };
+        Ok(Edges { kept, alloc })
     }
 
     /// What the memory is taken from.
     pub fn allocator(&self) -> Global {
-        *self.more.allocator()
+        self.alloc
     }
 
     /// The edges in order.
@@ -70,13 +79,11 @@ impl Edges {
     pub fn as_slice(&self) -> &[u32]
         ensures value { result.now ≡ edges_of self.now }
     {
-        if !self.more.is_empty() {
-            return self.more.as_slice();
+        match &self.kept {
+            Kept::Empty => &[],
+            Kept::OneRange(edges) => edges,
+            Kept::Ranges(list) => list.as_slice(),
         }
-        if self.one[0] < self.one[1] {
-            return &self.one;
-        }
-        &[]
     }
 
     /// Adds both edges of a range at the end. The first range takes no memory; with the second the
@@ -87,16 +94,19 @@ impl Edges {
         ensures unchanged { OnErr result (edges_of self.new ≡ edges_of self.old) }
         ensures first { edges_of self.old ≡ [] → IsOk result }
     {
-        if !self.more.is_empty() {
-            return self.more.extend_from_slice(&[lo, hi]);
+        match &mut self.kept {
+            Kept::Ranges(list) if !list.is_empty() => list.extend_from_slice(&[lo, hi]),
+            Kept::OneRange(edges) => {
+                let list = Vec::from_slice(self.alloc, &[edges[0], edges[1], lo, hi])?;
+                self.kept = Kept::Ranges(Box::new(self.alloc, list)?);
+                Ok(())
+            }
+            // There are no edges, however that is kept.
+            _ => {
+                self.kept = Kept::OneRange([lo, hi]);
+                Ok(())
+            }
         }
-        if self.one[0] < self.one[1] {
-            return self
-                .more
-                .extend_from_slice(&[self.one[0], self.one[1], lo, hi]);
-        }
-        self.one = [lo, hi];
-        Ok(())
     }
 
     /// Puts a higher edge in the place of the last.
@@ -105,11 +115,13 @@ impl Edges {
         requires higher { slice_index (edges_of self.old) (length (edges_of self.old) - 1) < edge }
         ensures { edges_of self.new ≡ slice_set (edges_of self.old) (length (edges_of self.old) - 1) edge }
     {
-        if self.more.is_empty() {
-            self.one[1] = edge;
-            return;
+        match &mut self.kept {
+            Kept::Empty => {}
+            Kept::OneRange(edges) => edges[1] = edge,
+            Kept::Ranges(list) => {
+                let last = list.len() - 1;
+                list[last] = edge;
+            }
         }
-        let last = self.more.len() - 1;
-        self.more[last] = edge;
     }
 }

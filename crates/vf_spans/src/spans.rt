@@ -216,15 +216,16 @@ impl Spans {
         ensures bound { IfOk result (λ r. length r ≡ length self.now) }
         ensures combined { IfOk result (λ r. (i : ℕ) → has r i ≡ combined operation (has self.now i) (has other.now i)) }
     {
-        let edges = combine_edges(
+        let list = combine_edges(
             self.edges.allocator(),
             self.edges.as_slice(),
             other.edges.as_slice(),
             operation,
         )?;
+        let edges = Edges::from_list(list)?;
         Ok(Spans {
             bound: self.bound,
-            edges: Edges::from_list(edges),
+            edges,
         })
     }
 }

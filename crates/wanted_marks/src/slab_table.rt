@@ -52,8 +52,8 @@ fn middle_of(entry: usize, shift: u32) -> i64
 
 impl SlabTable {
     /// Of the slabs of a stack, at a sample with the scale and n. Each number is that of the slab above the highest that is reached in the
-    /// middle of its entry, or 255 where that is more. It is looked for from the one before it on, so a table takes no more steps than it has
-    /// entries and slabs. How near a number is, is a hint of which no clause speaks: every number is right to look from.
+    /// middle of its entry, or 255 where that is more. It is looked for from the one before it on, so a table takes no more steps than it
+    /// has entries and slabs. How near a number is, is a hint of which no clause speaks: every number is right to look from.
     pub fn of_slabs(slabs: &[Slab], scale: u32, n: i64) -> SlabTable
         requires { scale ≤ scale_limit }
         ensures { All (λ number. number ≤ length slabs.now) result.numbers }
