@@ -25,7 +25,10 @@ pub mod FoundIs
 pub mod TurnedAt
 pub mod KeptHits
 pub mod Places
+pub mod Packs
 pub mod Searching
+pub mod OneTurned
+pub mod PartSearch
 pub mod TotalsFound
 pub mod LeftPlaces
 pub mod AddedFound

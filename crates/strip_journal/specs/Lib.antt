@@ -4,5 +4,6 @@ pub mod Found
 pub mod Journals
 pub mod Kept
 pub mod Looking
+pub mod Packed
 pub mod Steps
 pub mod Strips

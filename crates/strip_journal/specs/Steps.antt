@@ -1,5 +1,5 @@
 -- What one edit makes of what a strip keeps.
-use Rattle.std.specs.Prelude.{◌≡◌, ℕ, ◌+◌, ◌-◌, ◌^◌, ◌<◌, ◌≤◌, ◌&&◌, ◌==◌, not, Bool, false, if◌then◌else◌, List, [], ◌∷◌, ◌++◌, length, take, vec_capacity, vec_len}
+use Rattle.std.specs.Prelude.{◌≡◌, ℕ, ◌+◌, ◌-◌, ◌^◌, ◌<◌, ◌≤◌, ◌&&◌, ◌==◌, not, Bool, false, if◌then◌else◌, List, [], ◌∷◌, ◌++◌, length, take}
 use Rattle.std.specs.List.{range_with_len}
 use Rattle.vf_spans.specs.Members.{has}
 use Rattle.edit_plan.specs.Limits.{most_edits}
@@ -76,7 +76,7 @@ pub record HasSameEdits (j k : Journal) : Type 0 where
 
 -- there is room for so many changes and for an entry with these hits; a place among the changes has 32 bits
 pub record HasRoom (j : Journal) (changes : ℕ) (hits : Hits) : Type 0 where
-  pub changes_fit : vec_len j.changes + changes ≤ vec_capacity j.changes
+  pub changes_fit : changes ≤ j.changes.room
   pub few : length j.changes.items + changes < 2 ^ 32
   pub entry : HasRoomFor j.entries hits
 

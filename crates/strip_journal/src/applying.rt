@@ -12,7 +12,6 @@ ghost use Rattle.strip_journal.specs.Steps.{CanStand, FitsEntry, HasRoom, HasSam
 use crate::entry::{Entry, Hits};
 use crate::journal::Journal;
 use crate::rays::turn_all;
-use crate::room::reserve_more;
 use std::mem;
 use strip_marks::{Marked, mark_strip};
 use strip_plan::Plan;
@@ -36,11 +35,11 @@ impl Journal {
         ensures rays { self.new.rays ≡ self.old.rays }
         ensures room { OnOk result (HasRoom self.new changes hits.now) }
     {
-        // A place in the list of changes is a number of 32 bits: more would take a hundred gigabytes.
+        // A place in the list of changes is a number of 32 bits: more would take seventy gigabytes.
         if self.changes.len() > MOST_CHANGES || changes > MOST_CHANGES - self.changes.len() {
             return Err(NoMemory);
         }
-        reserve_more(&mut self.changes, changes)?;
+        self.changes.reserve(changes)?;
         self.entries.reserve(hits)
     }
 
@@ -72,12 +71,14 @@ impl Journal {
         } = marked;
         let (removed, possible) = self.totals_ahead(self.entries.len());
         let from = self.changes.len() as u32;
-        turn_all(&mut self.rays, changes.as_slice(), false);
-        let _moved = self.changes.append(&mut changes);
+        self.changes.append(changes.as_slice());
+        changes.clear();
+        let to = self.changes.len() as u32;
+        turn_all(&mut self.rays, &self.changes.part(from, to), false);
         let entry = Entry {
             edit,
             from,
-            to: self.changes.len() as u32,
+            to,
             is_undo: false,
             hits: Hits::of_counts(&counts),
             removed: removed + counts.removed as u32,

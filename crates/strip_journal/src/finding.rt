@@ -1,52 +1,33 @@
 ghost use Rattle.std.specs.Prelude.{◌≡◌, ℕ, ◌+◌, ◌-◌, ◌<◌, ◌≤◌, true, false, All, if◌then◌else◌, not, MatchOption, length, slice_index};
-ghost use Rattle.std.specs.List.Sorted.{IsPartitionPoint};
 ghost use Rattle.job_facts.specs.declared.totals.PointState.TheVariants.{Absent, Kept, Possible, Removed};
 ghost use Rattle.job_facts.specs.Counts.{AreWithin};
 ghost use Rattle.job_model.specs.Points.{left_moves, state_after, strip_points, totals_over};
-ghost use Rattle.strip_marks.specs.Marks.{AreInOrder, among, is_ahead, point_at, points_at, possible_of, sure_of};
+ghost use Rattle.strip_marks.specs.Marks.{AreInOrder, among, point_at, points_at, possible_of, sure_of};
 ghost use Rattle.strip_journal.specs.Entries.{AreAscending, HasNo, changes_of, counts_of_hits, edit_at, entry_at, possible_ahead, removed_ahead, was};
 ghost use Rattle.strip_journal.specs.Journals.{IsJournal, job_of};
-ghost use Rattle.strip_journal.specs.Looking.{at_word};
 ghost use Rattle.strip_journal.specs.Strips.{most_before};
 ghost use Rattle.strip_journal.specs.Found.{AddsEntry, AddsLeft, HasRoomAt, IsFoundBy};
 
+use crate::changes::ChangesPart;
 use crate::entry::Entry;
 use crate::journal::Journal;
 use job_facts::{Counts, PointState, Totals};
 use std::sync::ledger::Ledger;
-use strip_marks::WordChange;
 use vf_spans::bits::has_bit;
 use vf_steps::Steps;
 
-/// Whether a change stands ahead of a word of ray n.
-fn stands_ahead(change: &WordChange, n: u32, word: u32) -> bool
-    ensures { result ≡ is_ahead change.now (at_word n word) }
-{
-    change.ray < n || (change.ray == n && change.word < word)
-}
-
-/// The place of the first change at or behind a word of ray n.
-fn place_at(changes: &[WordChange], n: u32, word: u32) -> usize
-    requires { AreInOrder changes.now }
-    ensures within { result ≤ length changes.now }
-    ensures parted { IsPartitionPoint (λ change. is_ahead change (at_word n word) ≡ true)
-        (λ change. is_ahead change (at_word n word) ≡ false) changes.now result }
-{
-    changes.partition_point(|change| stands_ahead(change, n, word))
-}
-
 /// Whether the changes make index l of ray n sure, and possible.
-pub fn changed_at(changes: &[WordChange], n: u32, l: u32) -> (bool, bool)
+pub fn changed_at(changes: &ChangesPart<'_>, n: u32, l: u32) -> (bool, bool)
     requires { AreInOrder changes.now }
     ensures sure { result.0 ≡ among sure_of changes.now n l }
     ensures possible { result.1 ≡ among possible_of changes.now n l }
 {
     let word = l / 64;
-    let place = place_at(changes, n, word);
+    let place = changes.place_of(n, word);
     if place >= changes.len() {
         return (false, false);
     }
-    let change = &changes[place];
+    let change = changes.get(place);
     if change.ray != n || change.word != word {
         return (false, false);
     }
@@ -154,12 +135,12 @@ impl Journal {
     }
 
     /// The changes that an entry made, took back or gave again.
-    fn changes_of(&self, entry: &Entry) -> &[WordChange]
+    fn changes_of(&self, entry: &Entry) -> ChangesPart<'_>
         requires order { entry.now.from ≤ entry.now.to }
         requires within { entry.now.to ≤ length self.now.changes.items }
-        ensures { result.now ≡ changes_of self.now.changes.items entry.now }
+        ensures { result ≡ changes_of self.now.changes.items entry.now }
     {
-        &self.changes.as_slice()[entry.from as usize..entry.to as usize]
+        self.changes.part(entry.from, entry.to)
     }
 
     /// Whether a point was sure, and possible, before an entry's edit, by whether it is after it.
@@ -170,7 +151,7 @@ impl Journal {
         ensures sure { result.0 ≡ was entry.now.is_undo (among sure_of (changes_of self.now.changes.items entry.now) n l) after.0 }
         ensures possible { result.1 ≡ was entry.now.is_undo (among possible_of (changes_of self.now.changes.items entry.now) n l) after.1 }
     {
-        let (sure, possible) = changed_at(self.changes_of(entry), n, l);
+        let (sure, possible) = changed_at(&self.changes_of(entry), n, l);
         (
             was(entry.is_undo, sure, after.0),
             was(entry.is_undo, possible, after.1),

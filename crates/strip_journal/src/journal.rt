@@ -1,3 +1,4 @@
+use crate::changes::Changes;
 use crate::edit_line::EditLine;
 use crate::entries::Entries;
 use ray_shapes::Solid;
@@ -27,7 +28,7 @@ pub struct Journal {
     pub of: u32,
     pub rays: RayRow,
     /// What edits changed, those of one edit together.
-    pub changes: Vec<WordChange>,
+    pub changes: Changes,
     /// The edits that had an effect here, in order.
     pub entries: Entries,
     /// An empty list, whose memory serves the changes of the next move that is marked.

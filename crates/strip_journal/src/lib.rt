@@ -2,12 +2,14 @@
 #![tactic(auto)]
 
 mod applying;
+mod changes;
 mod edit_line;
 mod entries;
 mod entry;
 mod finding;
 mod fresh;
 mod journal;
+mod packed;
 mod passing;
 mod rays;
 mod room;

@@ -3,6 +3,7 @@ ghost use Rattle.ray_words.specs.Rows.{kept_at};
 ghost use Rattle.strip_marks.specs.Marks.{IsChangeOn};
 ghost use Rattle.strip_journal.specs.Steps.{AreRaysTurned, IsRayTurned};
 
+use crate::changes::ChangesPart;
 use ray_words::RayRow;
 use strip_marks::WordChange;
 
@@ -21,11 +22,11 @@ fn turn_ray(rays: &mut RayRow, change: &WordChange, is_undo: bool)
 }
 
 /// Takes the points of changes away, or adds them. It takes no memory.
-pub fn turn_all(rays: &mut RayRow, changes: &[WordChange], is_undo: bool)
+pub fn turn_all(rays: &mut RayRow, changes: &ChangesPart<'_>, is_undo: bool)
     requires { All (IsChangeOn rays.old) changes.now }
     ensures { AreRaysTurned rays.old rays.new changes.now is_undo }
 {
-    for change in changes {
-        turn_ray(rays, change, is_undo);
+    for k in 0..changes.len() {
+        turn_ray(rays, &changes.get(k), is_undo);
     }
 }

@@ -9,6 +9,7 @@ ghost use Rattle.job_facts.specs.Counts.{AreWithin};
 ghost use Rattle.job_model.specs.Points.{left_moves, point_in, state_after, strip_points, totals_over};
 ghost use Rattle.strip_journal.specs.Strips.{AddsFound, IsFoundAt, most_before};
 
+use crate::changes::Changes;
 use crate::edit_line::EditLine;
 use crate::entries::Entries;
 use crate::fresh::{fresh_rays, hold_grid};
@@ -90,7 +91,7 @@ impl Strip {
             fixture: Snapshot::of(&fixture.solid),
             of,
             rays,
-            changes: Vec::new(alloc),
+            changes: Changes::new(alloc),
             entries: Entries::new(alloc),
             room: Vec::new(alloc),
         };

@@ -6,27 +6,23 @@ ghost use Rattle.strip_journal.specs.Entries.{changes_of, possible_ahead, remove
 ghost use Rattle.strip_journal.specs.Journals.{IsAt, IsJournal, job_of};
 ghost use Rattle.strip_journal.specs.Steps.{AreRaysTurned, HasSameEdits, HasSameLine, IsMovedTo, IsTurnedBy, IsTurnedFrom};
 
+use crate::changes::Changes;
 use crate::entry::{Entry, Hits};
 use crate::journal::Journal;
 use crate::rays::turn_all;
 use edit_plan::Edit;
 use ray_words::RayRow;
-use strip_marks::WordChange;
 use strip_plan::Plan;
 use vf_io::NoMemory;
 
 /// Takes the points of an entry's changes away, or gives them again. It takes no memory.
-fn turn_changes(rays: &mut RayRow, changes: &[WordChange], entry: &Entry, is_undo: bool)
+fn turn_changes(rays: &mut RayRow, changes: &Changes, entry: &Entry, is_undo: bool)
     requires order { entry.now.from ≤ entry.now.to }
-    requires within { entry.now.to ≤ length changes.now }
-    requires on { All (IsChangeOn rays.old) changes.now }
-    ensures { AreRaysTurned rays.old rays.new (changes_of changes.now entry.now) is_undo }
+    requires within { entry.now.to ≤ length changes.now.items }
+    requires on { All (IsChangeOn rays.old) changes.now.items }
+    ensures { AreRaysTurned rays.old rays.new (changes_of changes.now.items entry.now) is_undo }
 {
-    turn_all(
-        rays,
-        &changes[entry.from as usize..entry.to as usize],
-        is_undo,
-    );
+    turn_all(rays, &changes.part(entry.from, entry.to), is_undo);
 }
 
 impl Journal {
@@ -59,7 +55,7 @@ impl Journal {
         self.entries.reserve(&hits)?;
         let (removed, possible) = self.totals_again(place, is_undo);
         let source = self.entries.get(place);
-        turn_changes(&mut self.rays, self.changes.as_slice(), &source, is_undo);
+        turn_changes(&mut self.rays, &self.changes, &source, is_undo);
         self.entries.push(&Entry {
             edit: self.done,
             from: source.from,

@@ -17,7 +17,7 @@ invariant_of-result g c =
     c.args.fixture.now.solid c.in_ok-rays.rays c.grid-2.ensures c.in_ok-rays.ensures.rays)
     (record {
       of = c.in_ok-rays.ensures.stock;
-      changes = c.new-2.ensures.items;
+      changes = c.new-2.ensures;
       entries = c.new-3.ensures;
       line = c.new.ensures;
       at = refl;
