@@ -189,3 +189,7 @@ pub mod thread {
         (a(), b())
     }
 }
+/// What the kit's `Box::new` does.
+pub fn boxed<T>(_: Global, x: T) -> Result<Box<T>, AllocError> {
+    Ok(Box::new(x))
+}
