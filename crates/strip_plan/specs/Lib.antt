@@ -8,3 +8,4 @@ pub mod Boxed
 pub mod Cylinders
 pub mod Passing
 pub mod ReadyMoves
+pub mod Parts

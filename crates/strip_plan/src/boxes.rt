@@ -4,8 +4,8 @@ ghost use Rattle.ray_grid.specs.declared.ray.Ray.{Ray};
 ghost use Rattle.ray_grid.specs.Grids.{GridSize};
 ghost use Rattle.sweep_boxes.specs.Limits.{place_limit};
 ghost use Rattle.strip_plan.specs.Boxed.{AreHeld, ArePushed, Covers, HasBoxes, IsInOneOf};
-ghost use Rattle.strip_plan.specs.Cutters.{HasStacks};
 ghost use Rattle.strip_plan.specs.IndexBoxes.{AreBoxesOf, HasPoint, IsBoxOf};
+ghost use Rattle.strip_plan.specs.Parts.{AreStacksOf};
 
 use crate::bounds::bounds;
 use crate::cutters::Cutters;
@@ -95,7 +95,7 @@ pub(crate) fn boxes_of(
     cutters: &Cutters,
 ) -> Result<Boxes, NoMemory>
     requires depth { depth ≤ 10 }
-    requires stacks { HasStacks cutters.now.slabs moves.now cutters.now.stacks.items cutters.now.places.items (length moves.now) }
+    requires stacks { AreStacksOf moves.now cutters.now }
     ensures { IfOk result (λ made. HasBoxes grid.now cutters.now.slabs depth moves.now made.hulls.items made.boxes.items
         made.starts.items (length moves.now)) }
 {

@@ -1,6 +1,6 @@
 ghost use Rattle.std.specs.Prelude.{ℕ, IfOk, length};
-ghost use Rattle.strip_plan.specs.Cutters.{HasStacks};
 ghost use Rattle.strip_plan.specs.Cylinders.{HasCylinders};
+ghost use Rattle.strip_plan.specs.Parts.{AreStacksOf};
 
 use crate::bounds::bounds;
 use crate::cutters::Cutters;
@@ -17,7 +17,7 @@ pub(crate) fn cylinders_of(
     moves: &[PlanMove],
     cutters: &Cutters,
 ) -> Result<Vec<BoundingCylinder>, NoMemory>
-    requires { HasStacks cutters.now.slabs moves.now cutters.now.stacks.items cutters.now.places.items (length moves.now) }
+    requires { AreStacksOf moves.now cutters.now }
     ensures { (depth : ℕ) → IfOk result (λ made. HasCylinders grid.now cutters.now.slabs depth moves.now made.items (length moves.now)) }
 {
     let region = bounds(grid);

@@ -3,17 +3,12 @@ ghost use Rattle.edit_plan.specs.Edits.{AppliesBelow};
 ghost use Rattle.edit_plan.specs.Limits.{most_edits, most_script_moves};
 ghost use Rattle.ray_grid.specs.Strips.{strip_at, strips_of};
 ghost use Rattle.job_model.specs.Tasks.{IsPlan, JobMove};
-ghost use Rattle.strip_plan.specs.Boxed.{HasBoxes};
-ghost use Rattle.strip_plan.specs.Cutters.{HasStacks};
-ghost use Rattle.strip_plan.specs.Cylinders.{HasCylinders};
-ghost use Rattle.strip_plan.specs.Passing.{AreGroups, ArePassed};
+ghost use Rattle.strip_plan.specs.Parts.{AreStacksOf, IsEnteredBy, IsReadiedFor};
+ghost use Rattle.strip_plan.specs.Passing.{ArePassed};
 ghost use Rattle.strip_plan.specs.Plans.{HasNumber, move_in};
-ghost use Rattle.strip_plan.specs.ReadyMoves.{HasReadyMoves};
 ghost use Rattle.strip_plan.specs.Windows.{HoldsEntered, HoldsMet, IsAlongStrip};
 
-use crate::boxes::Boxes;
 use crate::cutters::{Cutters, cutters_of};
-use crate::index_box::IndexBox;
 use crate::passing::count_alone;
 use crate::plan_move::PlanMove;
 use crate::reckoned::{Entered, Readied, entered_of, readied_of, reckoned_by_two};
@@ -26,7 +21,7 @@ use std::marker::Model;
 use std::thread::Threads;
 use sweep_boxes::BoundingCylinder;
 use vf_io::NoMemory;
-use wanted_marks::{MoveMarker, ReadyMove};
+use wanted_marks::MoveMarker;
 
 /// A plan, ready for strips. It is seen as the grid, the slabs, the depth, the moves and the edits that it was made of.
 #[derive(Drop)]
@@ -36,10 +31,8 @@ pub struct Plan {
     moves: Vec<PlanMove>,
     edits: Edits,
     cutters: Cutters,
-    boxes: Boxes,
-    groups: Vec<Option<IndexBox>>,
-    cylinders: Vec<BoundingCylinder>,
-    ready: Vec<ReadyMove>,
+    entered: Entered,
+    readied: Readied,
 }
 
 impl Model for Plan {
@@ -47,11 +40,7 @@ impl Model for Plan {
     ghost use Rattle.edit_plan.specs.Edits.{AppliesBelow};
     ghost use Rattle.edit_plan.specs.Limits.{most_edits, most_script_moves};
     ghost use Rattle.job_model.specs.Tasks.{IsPlan, PlanOf};
-    ghost use Rattle.strip_plan.specs.Boxed.{HasBoxes};
-    ghost use Rattle.strip_plan.specs.Cutters.{HasStacks};
-    ghost use Rattle.strip_plan.specs.Cylinders.{HasCylinders};
-    ghost use Rattle.strip_plan.specs.Passing.{AreGroups};
-    ghost use Rattle.strip_plan.specs.ReadyMoves.{HasReadyMoves};
+    ghost use Rattle.strip_plan.specs.Parts.{AreStacksOf, IsEnteredBy, IsReadiedFor};
 
     ghost Value = { PlanOf };
 
@@ -59,13 +48,10 @@ impl Model for Plan {
 
     ghost invariant = { λ p. (p.depth ≤ 10) × (length p.moves.items ≤ most_script_moves) × (length p.edits ≤ most_edits)
         × All (AppliesBelow (length p.moves.items)) p.edits
-        × HasStacks p.cutters.slabs p.moves.items p.cutters.stacks.items p.cutters.places.items (length p.moves.items)
-        × HasBoxes p.grid p.cutters.slabs p.depth p.moves.items p.boxes.hulls.items p.boxes.boxes.items p.boxes.starts.items
-        (length p.moves.items)
-        × HasCylinders p.grid p.cutters.slabs p.depth p.moves.items p.cylinders.items (length p.moves.items)
         × IsPlan record { grid = p.grid; slabs = p.cutters.slabs; depth = p.depth; moves = p.moves.items; edits = p.edits }
-        × AreGroups p.boxes.hulls.items p.edits p.groups.items
-        × HasReadyMoves p.cutters.slabs p.depth p.moves.items p.ready.items (length p.moves.items) };
+        × AreStacksOf p.moves.items p.cutters
+        × IsEnteredBy p.grid p.cutters.slabs p.depth p.moves.items p.edits p.entered
+        × IsReadiedFor p.grid p.cutters.slabs p.depth p.moves.items p.readied };
 }
 
 impl Plan {
@@ -127,7 +113,7 @@ impl Plan {
         Ok(Plan::of_parts(grid, depth, moves, edits, cutters, entered, readied))
     }
 
-    /// A plan of what was reckoned of it.
+    /// A plan of its parts.
     fn of_parts(
         grid: Grid,
         depth: u32,
@@ -142,26 +128,19 @@ impl Plan {
         requires few_edits { length edits ≤ most_edits }
         requires named { All (AppliesBelow (length moves.items)) edits }
         requires valid { IsPlan record { grid = grid; slabs = cutters.slabs; depth = depth; moves = moves.items; edits = edits } }
-        requires stacks { HasStacks cutters.slabs moves.items cutters.stacks.items cutters.places.items (length moves.items) }
-        requires boxes { HasBoxes grid cutters.slabs depth moves.items entered.boxes.hulls.items entered.boxes.boxes.items
-            entered.boxes.starts.items (length moves.items) }
-        requires groups { AreGroups entered.boxes.hulls.items edits entered.groups.items }
-        requires cylinders { HasCylinders grid cutters.slabs depth moves.items readied.cylinders.items (length moves.items) }
-        requires ready { HasReadyMoves cutters.slabs depth moves.items readied.ready.items (length moves.items) }
+        requires stacks { AreStacksOf moves.items cutters }
+        requires entered { IsEnteredBy grid cutters.slabs depth moves.items edits entered }
+        requires readied { IsReadiedFor grid cutters.slabs depth moves.items readied }
         ensures { result ≡ record { grid = grid; slabs = cutters.slabs; depth = depth; moves = moves.items; edits = edits } }
     {
-        let Entered { boxes, groups } = entered;
-        let Readied { cylinders, ready } = readied;
         Plan {
             grid,
             depth,
             moves,
             edits,
             cutters,
-            boxes,
-            groups,
-            cylinders,
-            ready,
+            entered,
+            readied,
         }
     }
 
@@ -227,7 +206,7 @@ impl Plan {
             &self.moves[number as usize].sweep,
             &self.cutters.stacks[place],
             self.depth,
-            &self.ready[number as usize],
+            &self.readied.ready[number as usize],
         )
     }
 
@@ -237,12 +216,19 @@ impl Plan {
         requires { number < length self.now.moves }
         ensures { IsAlongStrip self.now number family i result }
     {
-        let start = self.boxes.starts[number as usize];
-        let end = self.boxes.starts[number as usize + 1];
+        let start = self.entered.boxes.starts[number as usize];
+        let end = self.entered.boxes.starts[number as usize + 1];
         if start == end {
-            return self.boxes.hulls[number as usize].along(family);
+            return self.entered.boxes.hulls[number as usize].along(family);
         }
-        range_in_strip(&self.boxes.boxes, start, end, family, i, StripRange::Points)
+        range_in_strip(
+            &self.entered.boxes.boxes,
+            start,
+            end,
+            family,
+            i,
+            StripRange::Points,
+        )
     }
 
     /// The cylinder that holds the points of the lattice at which a move is possible.
@@ -250,7 +236,7 @@ impl Plan {
         requires { number < length self.now.moves }
         ensures { (move : JobMove) → HasNumber self.now number move → HoldsMet self.now move result.now }
     {
-        &self.cylinders[number as usize]
+        &self.readied.cylinders[number as usize]
     }
 
     /// From the one number of a strip's rays to the other stand all with a point at which a move is possible. The second is
@@ -263,16 +249,27 @@ impl Plan {
         ensures holds { (move : JobMove) → HasNumber self.now number move → HoldsEntered self.now move strip result.0 result.1 }
     {
         let (family, i) = row(&self.grid, strip);
-        let window = self.boxes.hulls[number as usize].in_strip(family, i, StripRange::Rays);
+        let window = self.entered.boxes.hulls[number as usize].in_strip(
+            family,
+            i,
+            StripRange::Rays,
+        );
         if window.0 == window.1 {
             return window;
         }
-        let start = self.boxes.starts[number as usize];
-        let end = self.boxes.starts[number as usize + 1];
+        let start = self.entered.boxes.starts[number as usize];
+        let end = self.entered.boxes.starts[number as usize + 1];
         if start == end {
             return window;
         }
-        range_in_strip(&self.boxes.boxes, start, end, family, i, StripRange::Rays)
+        range_in_strip(
+            &self.entered.boxes.boxes,
+            start,
+            end,
+            family,
+            i,
+            StripRange::Rays,
+        )
     }
 
     /// How many of the edits from a version on, one after the other and at most `most`, apply a move whose boxes leave a strip alone.
@@ -286,6 +283,14 @@ impl Plan {
         let from = version as usize;
         let to = from + most as usize;
         let edits = self.edits.as_slice();
-        count_alone(&self.boxes.hulls, &self.groups, edits, from, to, family, i) as u32
+        count_alone(
+            &self.entered.boxes.hulls,
+            &self.entered.groups,
+            edits,
+            from,
+            to,
+            family,
+            i,
+        ) as u32
     }
 }

@@ -1,5 +1,5 @@
 ghost use Rattle.std.specs.Prelude.{◌≤◌, IfOk, length};
-ghost use Rattle.strip_plan.specs.Cutters.{HasStacks};
+ghost use Rattle.strip_plan.specs.Parts.{AreStacksOf};
 ghost use Rattle.strip_plan.specs.ReadyMoves.{HasReadyMoves};
 
 use crate::cutters::Cutters;
@@ -18,7 +18,7 @@ pub(crate) fn ready_moves_of(
     cutters: &Cutters,
 ) -> Result<Vec<ReadyMove>, NoMemory>
     requires shallow { depth ≤ 10 }
-    requires stacks { HasStacks cutters.now.slabs moves.now cutters.now.stacks.items cutters.now.places.items (length moves.now) }
+    requires stacks { AreStacksOf moves.now cutters.now }
     ensures { IfOk result (λ made. HasReadyMoves cutters.now.slabs depth moves.now made.items (length moves.now)) }
 {
     let mut ready = Vec::with_capacity(alloc, moves.len())?;

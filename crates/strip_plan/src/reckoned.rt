@@ -1,10 +1,6 @@
 ghost use Rattle.std.specs.Prelude.{◌≤◌, All, IfOk, length};
 ghost use Rattle.edit_plan.specs.Edits.{AppliesBelow};
-ghost use Rattle.strip_plan.specs.Boxed.{HasBoxes};
-ghost use Rattle.strip_plan.specs.Cutters.{HasStacks};
-ghost use Rattle.strip_plan.specs.Cylinders.{HasCylinders};
-ghost use Rattle.strip_plan.specs.Passing.{AreGroups};
-ghost use Rattle.strip_plan.specs.ReadyMoves.{HasReadyMoves};
+ghost use Rattle.strip_plan.specs.Parts.{AreStacksOf, IsEnteredBy, IsReadiedFor};
 
 use crate::boxes::{Boxes, boxes_of};
 use crate::cutters::Cutters;
@@ -45,11 +41,9 @@ pub(crate) fn entered_of(
     edits: &[Edit],
 ) -> Result<Entered, NoMemory>
     requires shallow { depth ≤ 10 }
-    requires stacks { HasStacks cutters.now.slabs moves.now cutters.now.stacks.items cutters.now.places.items (length moves.now) }
+    requires stacks { AreStacksOf moves.now cutters.now }
     requires named { All (AppliesBelow (length moves.now)) edits.now }
-    ensures boxes { IfOk result (λ made. HasBoxes grid.now cutters.now.slabs depth moves.now made.boxes.hulls.items made.boxes.boxes.items
-        made.boxes.starts.items (length moves.now)) }
-    ensures groups { IfOk result (λ made. AreGroups made.boxes.hulls.items edits.now made.groups.items) }
+    ensures { IfOk result (IsEnteredBy grid.now cutters.now.slabs depth moves.now edits.now) }
 {
     let boxes = boxes_of(alloc, grid, depth, moves, cutters)?;
     let groups = groups_of(alloc, &boxes.hulls, edits)?;
@@ -65,10 +59,8 @@ pub(crate) fn readied_of(
     cutters: &Cutters,
 ) -> Result<Readied, NoMemory>
     requires shallow { depth ≤ 10 }
-    requires stacks { HasStacks cutters.now.slabs moves.now cutters.now.stacks.items cutters.now.places.items (length moves.now) }
-    ensures cylinders { IfOk result (λ made. HasCylinders grid.now cutters.now.slabs depth moves.now made.cylinders.items
-        (length moves.now)) }
-    ensures ready { IfOk result (λ made. HasReadyMoves cutters.now.slabs depth moves.now made.ready.items (length moves.now)) }
+    requires stacks { AreStacksOf moves.now cutters.now }
+    ensures { IfOk result (IsReadiedFor grid.now cutters.now.slabs depth moves.now) }
 {
     let cylinders = cylinders_of(alloc, grid, moves, cutters)?;
     let ready = ready_moves_of(alloc, grid, depth, moves, cutters)?;
@@ -86,29 +78,18 @@ pub(crate) fn reckoned_by_two<R: Threads + Sync>(
     edits: &[Edit],
 ) -> Result<(Entered, Readied), NoMemory>
     requires shallow { depth ≤ 10 }
-    requires stacks { HasStacks cutters.now.slabs moves.now cutters.now.stacks.items cutters.now.places.items (length moves.now) }
+    requires stacks { AreStacksOf moves.now cutters.now }
     requires named { All (AppliesBelow (length moves.now)) edits.now }
-    ensures boxes { IfOk result (λ made. HasBoxes grid.now cutters.now.slabs depth moves.now made.0.boxes.hulls.items
-        made.0.boxes.boxes.items made.0.boxes.starts.items (length moves.now)) }
-    ensures groups { IfOk result (λ made. AreGroups made.0.boxes.hulls.items edits.now made.0.groups.items) }
-    ensures cylinders { IfOk result (λ made. HasCylinders grid.now cutters.now.slabs depth moves.now made.1.cylinders.items
-        (length moves.now)) }
-    ensures ready { IfOk result (λ made. HasReadyMoves cutters.now.slabs depth moves.now made.1.ready.items (length moves.now)) }
+    ensures entered { IfOk result (λ made. IsEnteredBy grid.now cutters.now.slabs depth moves.now edits.now made.0) }
+    ensures readied { IfOk result (λ made. IsReadiedFor grid.now cutters.now.slabs depth moves.now made.1) }
 {
     let front = move || -> Result<Entered, NoMemory>
-        requires { (depth ≤ 10)
-            × HasStacks cutters.now.slabs moves.now cutters.now.stacks.items cutters.now.places.items (length moves.now)
-            × All (AppliesBelow (length moves.now)) edits.now }
-        ensures { IfOk result (λ made. HasBoxes grid.entry.now cutters.entry.now.slabs depth moves.entry.now made.boxes.hulls.items
-            made.boxes.boxes.items made.boxes.starts.items (length moves.entry.now)
-            × AreGroups made.boxes.hulls.items edits.entry.now made.groups.items) }
+        requires { (depth ≤ 10) × AreStacksOf moves.now cutters.now × All (AppliesBelow (length moves.now)) edits.now }
+        ensures { IfOk result (IsEnteredBy grid.entry.now cutters.entry.now.slabs depth moves.entry.now edits.entry.now) }
     { entered_of(alloc, grid, depth, moves, cutters, edits) };
     let back = move || -> Result<Readied, NoMemory>
-        requires { (depth ≤ 10)
-            × HasStacks cutters.now.slabs moves.now cutters.now.stacks.items cutters.now.places.items (length moves.now) }
-        ensures { IfOk result (λ made. HasCylinders grid.entry.now cutters.entry.now.slabs depth moves.entry.now made.cylinders.items
-            (length moves.entry.now)
-            × HasReadyMoves cutters.entry.now.slabs depth moves.entry.now made.ready.items (length moves.entry.now)) }
+        requires { (depth ≤ 10) × AreStacksOf moves.now cutters.now }
+        ensures { IfOk result (IsReadiedFor grid.entry.now cutters.entry.now.slabs depth moves.entry.now) }
     { readied_of(alloc, grid, depth, moves, cutters) };
     let (entered, readied) = join(rt, front, back);
     let entered = entered?;

@@ -15,8 +15,8 @@ use Rattle.strip_plan.proofs.plan.Plan.left_alone.Goals as goal
 pub returns-clause-alone : goal.returns-clause-alone
 returns-clause-alone c =
     let plan = c.args.self.now in
-    let own = c.self.inside.boxes in
-    let has = subst (λ (p : PlanOf). HasBoxes p.grid p.slabs p.depth p.moves own.hulls.items own.boxes.items own.starts.items (length p.moves)) c.self.view_is c.self.invariant.5 in
+    let own = c.self.inside.entered.boxes in
+    let has = subst (λ (p : PlanOf). HasBoxes p.grid p.slabs p.depth p.moves own.hulls.items own.boxes.items own.starts.items (length p.moves)) c.self.view_is c.self.invariant.6.0 in
     let named = subst (λ (p : PlanOf). All (AppliesBelow (length p.moves)) p.edits) c.self.view_is c.self.invariant.3 in
     let family = c.row-family.result.0 in
     let i = c.row-family.result.1 in

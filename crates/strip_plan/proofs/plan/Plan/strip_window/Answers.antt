@@ -13,8 +13,8 @@ use Rattle.strip_plan.proofs.plan.Plan.strip_window.Goals as goal
 pub returns-then-window-clause-within : goal.returns-then-window-clause-within
 returns-then-window-clause-within c =
     let plan = c.args.self.now in
-    let own = c.self.inside.boxes in
-    let has = subst (λ (p : PlanOf). HasBoxes p.grid p.slabs p.depth p.moves own.hulls.items own.boxes.items own.starts.items (length p.moves)) c.self.view_is c.self.invariant.5 in
+    let own = c.self.inside.entered.boxes in
+    let has = subst (λ (p : PlanOf). HasBoxes p.grid p.slabs p.depth p.moves own.hulls.items own.boxes.items own.starts.items (length p.moves)) c.self.view_is c.self.invariant.6.0 in
     let family = c.row-family.result.0 in
     let i = c.row-family.result.1 in
     let row = subst (λ (g : GridSize). strip_at g c.args.strip ≡ strip_of g family i) (ap (λ (p : PlanOf). p.grid) c.self.view_is) c.row-family.ensures in
@@ -25,8 +25,8 @@ returns-then-window-clause-within c =
 pub returns-then-window-clause-holds : goal.returns-then-window-clause-holds
 returns-then-window-clause-holds c move named n ray l there is =
     let plan = c.args.self.now in
-    let own = c.self.inside.boxes in
-    let has = subst (λ (p : PlanOf). HasBoxes p.grid p.slabs p.depth p.moves own.hulls.items own.boxes.items own.starts.items (length p.moves)) c.self.view_is c.self.invariant.5 in
+    let own = c.self.inside.entered.boxes in
+    let has = subst (λ (p : PlanOf). HasBoxes p.grid p.slabs p.depth p.moves own.hulls.items own.boxes.items own.starts.items (length p.moves)) c.self.view_is c.self.invariant.6.0 in
     let family = c.row-family.result.0 in
     let i = c.row-family.result.1 in
     let row = subst (λ (g : GridSize). strip_at g c.args.strip ≡ strip_of g family i) (ap (λ (p : PlanOf). p.grid) c.self.view_is) c.row-family.ensures in
@@ -36,16 +36,16 @@ returns-then-window-clause-holds c move named n ray l there is =
 pub returns-then-start-end-clause-order : goal.returns-then-start-end-clause-order
 returns-then-start-end-clause-order c =
     let plan = c.args.self.now in
-    let own = c.self.inside.boxes in
-    let has = subst (λ (p : PlanOf). HasBoxes p.grid p.slabs p.depth p.moves own.hulls.items own.boxes.items own.starts.items (length p.moves)) c.self.view_is c.self.invariant.5 in
+    let own = c.self.inside.entered.boxes in
+    let has = subst (λ (p : PlanOf). HasBoxes p.grid p.slabs p.depth p.moves own.hulls.items own.boxes.items own.starts.items (length p.moves)) c.self.view_is c.self.invariant.6.0 in
     let fits = hull_fits plan own.hulls.items own.boxes.items own.starts.items c.args.number c.index.result.now has c.requires.number c.index.ensures in
     (c.in_strip-window.ensures.range plan.grid fits).order
 
 pub returns-then-start-end-clause-within : goal.returns-then-start-end-clause-within
 returns-then-start-end-clause-within c =
     let plan = c.args.self.now in
-    let own = c.self.inside.boxes in
-    let has = subst (λ (p : PlanOf). HasBoxes p.grid p.slabs p.depth p.moves own.hulls.items own.boxes.items own.starts.items (length p.moves)) c.self.view_is c.self.invariant.5 in
+    let own = c.self.inside.entered.boxes in
+    let has = subst (λ (p : PlanOf). HasBoxes p.grid p.slabs p.depth p.moves own.hulls.items own.boxes.items own.starts.items (length p.moves)) c.self.view_is c.self.invariant.6.0 in
     let family = c.row-family.result.0 in
     let i = c.row-family.result.1 in
     let row = subst (λ (g : GridSize). strip_at g c.args.strip ≡ strip_of g family i) (ap (λ (p : PlanOf). p.grid) c.self.view_is) c.row-family.ensures in
@@ -56,8 +56,8 @@ returns-then-start-end-clause-within c =
 pub returns-then-start-end-clause-holds : goal.returns-then-start-end-clause-holds
 returns-then-start-end-clause-holds c move named n ray l there is =
     let plan = c.args.self.now in
-    let own = c.self.inside.boxes in
-    let has = subst (λ (p : PlanOf). HasBoxes p.grid p.slabs p.depth p.moves own.hulls.items own.boxes.items own.starts.items (length p.moves)) c.self.view_is c.self.invariant.5 in
+    let own = c.self.inside.entered.boxes in
+    let has = subst (λ (p : PlanOf). HasBoxes p.grid p.slabs p.depth p.moves own.hulls.items own.boxes.items own.starts.items (length p.moves)) c.self.view_is c.self.invariant.6.0 in
     let family = c.row-family.result.0 in
     let i = c.row-family.result.1 in
     let row = subst (λ (g : GridSize). strip_at g c.args.strip ≡ strip_of g family i) (ap (λ (p : PlanOf). p.grid) c.self.view_is) c.row-family.ensures in
@@ -67,23 +67,23 @@ returns-then-start-end-clause-holds c move named n ray l there is =
 pub range_in_strip-requires : goal.range_in_strip-requires
 range_in_strip-requires c =
     let plan = c.args.self.now in
-    let own = c.self.inside.boxes in
-    let has = subst (λ (p : PlanOf). HasBoxes p.grid p.slabs p.depth p.moves own.hulls.items own.boxes.items own.starts.items (length p.moves)) c.self.view_is c.self.invariant.5 in
+    let own = c.self.inside.entered.boxes in
+    let has = subst (λ (p : PlanOf). HasBoxes p.grid p.slabs p.depth p.moves own.hulls.items own.boxes.items own.starts.items (length p.moves)) c.self.view_is c.self.invariant.6.0 in
     subst (λ (boxes : List IndexBox). c.index-end.result.now ≤ length boxes) (sym c.deref.ensures.value)
     (ends_within plan own.hulls.items own.boxes.items own.starts.items c.args.number c.index-end.result.now has c.requires.number c.index-end.ensures)
 
 pub returns-clause-order : goal.returns-clause-order
 returns-clause-order c =
     let plan = c.args.self.now in
-    let own = c.self.inside.boxes in
-    let has = subst (λ (p : PlanOf). HasBoxes p.grid p.slabs p.depth p.moves own.hulls.items own.boxes.items own.starts.items (length p.moves)) c.self.view_is c.self.invariant.5 in
+    let own = c.self.inside.entered.boxes in
+    let has = subst (λ (p : PlanOf). HasBoxes p.grid p.slabs p.depth p.moves own.hulls.items own.boxes.items own.starts.items (length p.moves)) c.self.view_is c.self.invariant.6.0 in
     (c.range_in_strip.ensures.range plan.grid (subst (AreBoxesOf plan.grid) (sym c.deref.ensures.value) has.boxes_fit)).order
 
 pub returns-clause-within : goal.returns-clause-within
 returns-clause-within c =
     let plan = c.args.self.now in
-    let own = c.self.inside.boxes in
-    let has = subst (λ (p : PlanOf). HasBoxes p.grid p.slabs p.depth p.moves own.hulls.items own.boxes.items own.starts.items (length p.moves)) c.self.view_is c.self.invariant.5 in
+    let own = c.self.inside.entered.boxes in
+    let has = subst (λ (p : PlanOf). HasBoxes p.grid p.slabs p.depth p.moves own.hulls.items own.boxes.items own.starts.items (length p.moves)) c.self.view_is c.self.invariant.6.0 in
     let family = c.row-family.result.0 in
     let i = c.row-family.result.1 in
     let row = subst (λ (g : GridSize). strip_at g c.args.strip ≡ strip_of g family i) (ap (λ (p : PlanOf). p.grid) c.self.view_is) c.row-family.ensures in
@@ -94,8 +94,8 @@ returns-clause-within c =
 pub returns-clause-holds : goal.returns-clause-holds
 returns-clause-holds c move named n ray l there is =
     let plan = c.args.self.now in
-    let own = c.self.inside.boxes in
-    let has = subst (λ (p : PlanOf). HasBoxes p.grid p.slabs p.depth p.moves own.hulls.items own.boxes.items own.starts.items (length p.moves)) c.self.view_is c.self.invariant.5 in
+    let own = c.self.inside.entered.boxes in
+    let has = subst (λ (p : PlanOf). HasBoxes p.grid p.slabs p.depth p.moves own.hulls.items own.boxes.items own.starts.items (length p.moves)) c.self.view_is c.self.invariant.6.0 in
     let family = c.row-family.result.0 in
     let i = c.row-family.result.1 in
     let row = subst (λ (g : GridSize). strip_at g c.args.strip ≡ strip_of g family i) (ap (λ (p : PlanOf). p.grid) c.self.view_is) c.row-family.ensures in
