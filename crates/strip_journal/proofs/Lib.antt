@@ -43,3 +43,4 @@ pub mod ToldNext
 pub mod Sent
 pub mod Unentered
 pub mod StoodBy
+pub mod Multiples

@@ -25,6 +25,14 @@ spread p = record {
   possible = p.possible * 2 ^ (p.first % 64) % 2 ^ 64;
 }
 
+-- the points of a change lie close together: masks of 32 bits give it
+pub record IsClose (change : WordChange) : Type 0 where
+  pub packed : PackedChange
+  pub first : packed.first < whole_mark
+  pub sure : packed.sure < 2 ^ 32
+  pub possible : packed.possible < 2 ^ 32
+  pub is : spread packed ≡ change
+
 -- a change by its masks, or, where it is marked, the one that is kept whole
 abbrev pub unpacked : List WordChange → PackedChange → WordChange
 unpacked whole p = if p.first == whole_mark then slice_index_or whole p.ray no_change else spread p

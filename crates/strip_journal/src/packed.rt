@@ -1,9 +1,8 @@
-ghost use Rattle.std.specs.Prelude.{◌≡◌, ◌-◌, ◌^◌, ◌<◌};
-ghost use Rattle.std.specs.Option.{IfSome};
-ghost use Rattle.strip_journal.specs.Packed.{spread, unpacked};
+ghost use Rattle.std.specs.Prelude.{◌≡◌, ℕ, ◌-◌, ◌%◌, ◌^◌, ◌<◌, ◌≤◌};
+ghost use Rattle.std.specs.Option.{IfNone, IfSome};
+ghost use Rattle.strip_journal.specs.Packed.{IsClose, spread, unpacked};
 
 use strip_marks::WordChange;
-use vf_spans::bits::lowest_bit;
 
 /// A change in less: most change points that lie close together. The masks count from the first of them.
 #[derive(Clone, Copy, Debug, PartialEq, Eq)]
@@ -29,30 +28,36 @@ const NO_CHANGE: WordChange = WordChange {
     possible: 0,
 };
 
+/// The bit from which the masks of a change count: that of its first point, or 32 where none is lower.
+fn first_bit(change: &WordChange) -> u32
+    ensures most { result ≤ 32 }
+    ensures sure { change.now.sure % 2 ^ result ≡ 0 }
+    ensures possible { change.now.possible % 2 ^ result ≡ 0 }
+    ensures last { (q : ℕ) → q ≤ 32 → change.now.sure % 2 ^ q ≡ 0 → change.now.possible % 2 ^ q ≡ 0 → q ≤ result }
+{
+    let sure = change.sure.trailing_zeros();
+    let possible = change.possible.trailing_zeros();
+    sure.min(possible).min(32)
+}
+
 impl PackedChange {
     /// A change in less, where its points lie close enough together.
     pub fn of_change(change: &WordChange) -> Option<PackedChange>
-        ensures { IfSome result (λ p. (p.first < 2 ^ 32 - 1) × (spread p ≡ change.now)) }
+        ensures packed { IfSome result (λ p. (p.first < 2 ^ 32 - 1) × (spread p ≡ change.now)) }
+        ensures none { IfNone result (IsClose change.now → ⊥) }
     {
-        let points = change.sure | change.possible;
-        if points == 0 || change.word >= MOST_WORDS {
+        if change.word >= MOST_WORDS {
             return None;
         }
-        let by = lowest_bit(points);
+        let by = first_bit(change);
         let sure = u32::try_from(change.sure >> by).ok()?;
         let possible = u32::try_from(change.possible >> by).ok()?;
-        let packed = PackedChange {
+        Some(PackedChange {
             ray: change.ray,
             first: change.word * 64 + by,
             sure,
             possible,
-        };
-        // What doesn't come back is kept whole.
-        if packed.first != WHOLE && packed.spread() == *change {
-            Some(packed)
-        } else {
-            None
-        }
+        })
     }
 
     /// The mark of the change at a place among those that are kept whole.
