@@ -34,6 +34,10 @@ pub zeros_none : (n : ℕ) → n < 2 ^ 64 → n % 2 ^ trailing_zeros w64 n ≡ 0
 zeros_none zero lt = zero-mod (2 ^ trailing_zeros w64 zero)
 zeros_none (suc n) lt = low_none (suc n) (trailing_zeros w64 (suc n)) (bit_at-trailing_zeros w64 (suc n) (omega arith) lt).2
 
+-- nor below fewer
+pub zeros_less : (n s : ℕ) → n < 2 ^ 64 → s ≤ trailing_zeros w64 n → n % 2 ^ s ≡ 0
+zeros_less n s few le = low_less n s (trailing_zeros w64 n) le (zeros_none n few)
+
 -- nor more than these
 pub zeros_most : (n q : ℕ) → n < 2 ^ 64 → q ≤ 32 → n % 2 ^ q ≡ 0 → q ≤ trailing_zeros w64 n
 zeros_most zero q lt le none = let all = trailing_of_zero 64 in omega (arith, le, all)

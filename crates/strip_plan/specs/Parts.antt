@@ -25,4 +25,5 @@ IsEnteredBy grid slabs depth moves edits entered =
 -- each move has its cylinder, and what is reckoned of it for its marks
 abbrev pub IsReadiedFor : GridSize → ℕ → ℕ → List JobMove → Readied → Type 0
 IsReadiedFor grid slabs depth moves readied =
-    HasCylinders grid slabs depth moves readied.cylinders.items (length moves) × HasReadyMoves slabs depth moves readied.ready.items (length moves)
+    HasCylinders grid slabs depth moves readied.cylinders.items (length moves)
+    × HasReadyMoves slabs depth moves readied.ready.items (length moves)
