@@ -87,8 +87,11 @@ impl Settled {
         ensures all { (l : ℕ) → in_range l window ≡ true → (in_range l result ≡ true) ⊎ (in_range l self ≡ true) }
     {
         let (lo, hi) = window;
-        if self.from <= lo {
-            (lo.max(self.to).min(hi), hi)
+        // Of most rays that a move's window has, all of it is settled.
+        if self.from <= lo && hi <= self.to {
+            (hi, hi)
+        } else if self.from <= lo {
+            (lo.max(self.to), hi)
         } else if hi <= self.to {
             (lo, hi.min(self.from))
         } else {

@@ -180,6 +180,8 @@ impl WordRay {
     }
 
     /// The words of the bodies, where no move was sure or possible.
+    // Apart from `word`, which is then small enough to be written into its callers.
+    #[inline(never)]
     fn unmarked(&self, n: u32) -> WordSets
         requires within { n < words_below (length self.now.sets.stock) }
         requires unmarked { IsUnmarked self.now.sets n }

@@ -11,7 +11,7 @@ ghost use Rattle.strip_journal.specs.Steps.{CanStand, FitsEntry, HasRoom, HasSam
 
 use crate::entry::{Entry, Hits};
 use crate::journal::Journal;
-use crate::rays::turn_all;
+use crate::rays::give_all;
 use std::mem;
 use strip_marks::{Marked, mark_strip};
 use strip_plan::Plan;
@@ -72,9 +72,9 @@ impl Journal {
         let (removed, possible) = self.totals_ahead(self.entries.len());
         let from = self.changes.len() as u32;
         self.changes.append(changes.as_slice());
-        changes.clear();
         let to = self.changes.len() as u32;
-        turn_all(&mut self.rays, &self.changes.part(from, to), false);
+        give_all(&mut self.rays, changes.as_slice());
+        changes.clear();
         let entry = Entry {
             edit,
             from,

@@ -1,4 +1,4 @@
-ghost use Rattle.std.specs.Prelude.{◌≡◌, ◌∷◌, [], All, slice_set};
+ghost use Rattle.std.specs.Prelude.{◌≡◌, ◌∷◌, [], All, false, slice_set};
 ghost use Rattle.ray_words.specs.Rows.{kept_at};
 ghost use Rattle.strip_marks.specs.Marks.{IsChangeOn};
 ghost use Rattle.strip_journal.specs.Steps.{AreRaysTurned, IsRayTurned};
@@ -18,6 +18,16 @@ fn turn_ray(rays: &mut RayRow, change: &WordChange, is_undo: bool)
         rays.take(change.ray, change.word, &change.delta());
     } else {
         rays.give(change.ray, change.word, &change.delta());
+    }
+}
+
+/// Adds the points of changes that aren't packed yet. It takes no memory.
+pub fn give_all(rays: &mut RayRow, changes: &[WordChange])
+    requires { All (IsChangeOn rays.old) changes.now }
+    ensures { AreRaysTurned rays.old rays.new changes.now false }
+{
+    for change in changes {
+        turn_ray(rays, change, false);
     }
 }
 

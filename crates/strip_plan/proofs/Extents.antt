@@ -1,7 +1,6 @@
 -- Where the points of a grid lie along each axis.
 use Rattle.std.proofs.Common.{◌≡◌, ◌∙◌, ℕ, ◌-◌, ◌*◌, ◌<◌, ◌≤◌, List, ℤ, pos, ◌+ℤ◌, ◌-ℤ◌, ◌≤ℤ◌, unsigned_abs, arith, ap, sym, subst}
 use Rattle.std.proofs.lemmas.Int.{ints}
-use Rattle.std.proofs.Math.Nat.{mul-le-mul}
 use Rattle.space.specs.Ranges.{IsBetween}
 use Rattle.space.specs.Vectors.{at}
 use Rattle.ray_grid.specs.Grids.{GridSize}

@@ -11,7 +11,7 @@ ghost use Rattle.strip_plan.specs.Windows.{HoldsEntered, HoldsMet, IsAlongStrip}
 use crate::cutters::{Cutters, cutters_of};
 use crate::passing::count_alone;
 use crate::plan_move::PlanMove;
-use crate::reckoned::{Entered, Readied, entered_of, readied_of, reckoned_by_two};
+use crate::reckoned::{Entered, Readied, entered_of, readied_of, reckoned_by};
 use crate::strip_range::StripRange;
 use crate::windows::{range_in_strip, row};
 use edit_plan::{Edit, Edits};
@@ -78,7 +78,7 @@ impl Plan {
         Ok(Plan::of_parts(grid, depth, moves, edits, cutters, entered, readied))
     }
 
-    /// The same plan, made by so many workers: two threads have a part of it each where there are two or more.
+    /// The same plan, made by so many workers: two threads have a part of it each where there are two, and three where there are more.
     pub fn by_workers<R: Threads + Sync>(
         rt: &R,
         alloc: Global,
@@ -101,7 +101,7 @@ impl Plan {
             return Plan::new(alloc, grid, slabs, depth, moves, edits);
         }
         let cutters = cutters_of(alloc, &moves, slabs)?;
-        let (entered, readied) = reckoned_by_two(
+        let (entered, readied) = reckoned_by(
             rt,
             alloc,
             &grid,
@@ -109,6 +109,7 @@ impl Plan {
             &moves,
             &cutters,
             edits.as_slice(),
+            workers,
         )?;
         Ok(Plan::of_parts(grid, depth, moves, edits, cutters, entered, readied))
     }

@@ -1,6 +1,9 @@
-ghost use Rattle.std.specs.Prelude.{◌≤◌, All, IfOk, length};
+ghost use Rattle.std.specs.Prelude.{ℕ, ◌≤◌, All, IfOk, length};
+ghost use Rattle.std.specs.Thread.{IsSync};
 ghost use Rattle.edit_plan.specs.Edits.{AppliesBelow};
+ghost use Rattle.strip_plan.specs.Cylinders.{HasCylinders};
 ghost use Rattle.strip_plan.specs.Parts.{AreStacksOf, IsEnteredBy, IsReadiedFor};
+ghost use Rattle.strip_plan.specs.ReadyMoves.{HasReadyMoves};
 
 use crate::boxes::{Boxes, boxes_of};
 use crate::cutters::Cutters;
@@ -67,8 +70,57 @@ pub(crate) fn readied_of(
     Ok(Readied { cylinders, ready })
 }
 
-/// Both at once, the first in a thread of its own where one can be made: neither waits for the other. Fails only for want of memory.
-pub(crate) fn reckoned_by_two<R: Threads + Sync>(
+/// The cylinders, and what is reckoned of each move, both at once: the cylinders in a thread of their own where one can be made.
+fn readied_by_two<R: Threads + Sync>(
+    rt: &R,
+    alloc: Global,
+    grid: &Grid,
+    depth: u32,
+    moves: &[PlanMove],
+    cutters: &Cutters,
+) -> Result<Readied, NoMemory>
+    requires shallow { depth ≤ 10 }
+    requires stacks { AreStacksOf moves.now cutters.now }
+    ensures { IfOk result (IsReadiedFor grid.now cutters.now.slabs depth moves.now) }
+{
+    let front = move || -> Result<Vec<BoundingCylinder>, NoMemory>
+        requires { AreStacksOf moves.now cutters.now }
+        ensures { (depth : ℕ) → IfOk result (λ made. HasCylinders grid.entry.now cutters.entry.now.slabs depth moves.entry.now made.items
+            (length moves.entry.now)) }
+    { cylinders_of(alloc, grid, moves, cutters) };
+    let back = move || -> Result<Vec<ReadyMove>, NoMemory>
+        requires { (depth ≤ 10) × AreStacksOf moves.now cutters.now }
+        ensures { IfOk result (λ made. HasReadyMoves cutters.entry.now.slabs depth moves.entry.now made.items (length moves.entry.now)) }
+    { ready_moves_of(alloc, grid, depth, moves, cutters) };
+    let (cylinders, ready) = join(rt, front, back);
+    let cylinders = cylinders?;
+    let ready = ready?;
+    Ok(Readied { cylinders, ready })
+}
+
+/// The same by so many workers: from three on, two threads have a part of it each.
+fn readied_by<R: Threads + Sync>(
+    rt: &R,
+    alloc: Global,
+    grid: &Grid,
+    depth: u32,
+    moves: &[PlanMove],
+    cutters: &Cutters,
+    workers: u32,
+) -> Result<Readied, NoMemory>
+    requires shallow { depth ≤ 10 }
+    requires stacks { AreStacksOf moves.now cutters.now }
+    ensures { IfOk result (IsReadiedFor grid.now cutters.now.slabs depth moves.now) }
+{
+    if workers < 3 {
+        return readied_of(alloc, grid, depth, moves, cutters);
+    }
+    readied_by_two(rt, alloc, grid, depth, moves, cutters)
+}
+
+/// All of it by so many workers, two or more: which strips moves enter in a thread of its own where one can be made, and the rest beside
+/// it, in two threads from three workers on. No part waits for another. Fails only for want of memory.
+pub(crate) fn reckoned_by<R: Threads + Sync>(
     rt: &R,
     alloc: Global,
     grid: &Grid,
@@ -76,6 +128,7 @@ pub(crate) fn reckoned_by_two<R: Threads + Sync>(
     moves: &[PlanMove],
     cutters: &Cutters,
     edits: &[Edit],
+    workers: u32,
 ) -> Result<(Entered, Readied), NoMemory>
     requires shallow { depth ≤ 10 }
     requires stacks { AreStacksOf moves.now cutters.now }
@@ -88,9 +141,9 @@ pub(crate) fn reckoned_by_two<R: Threads + Sync>(
         ensures { IfOk result (IsEnteredBy grid.entry.now cutters.entry.now.slabs depth moves.entry.now edits.entry.now) }
     { entered_of(alloc, grid, depth, moves, cutters, edits) };
     let back = move || -> Result<Readied, NoMemory>
-        requires { (depth ≤ 10) × AreStacksOf moves.now cutters.now }
+        requires { IsSync R.row × (depth ≤ 10) × AreStacksOf moves.now cutters.now }
         ensures { IfOk result (IsReadiedFor grid.entry.now cutters.entry.now.slabs depth moves.entry.now) }
-    { readied_of(alloc, grid, depth, moves, cutters) };
+    { readied_by(rt, alloc, grid, depth, moves, cutters, workers) };
     let (entered, readied) = join(rt, front, back);
     let entered = entered?;
     let readied = readied?;

@@ -1,5 +1,4 @@
-use Rattle.std.proofs.Common.{rules, ◌^◌, ◌<◌, ◌≤◌}
-use Rattle.std.specs.Int.{trailing_zeros, w64}
+use Rattle.std.proofs.Common.{rules, ◌^◌, ◌<◌}
 use Rattle.strip_journal.proofs.Multiples.{zeros_less, zeros_most}
 use Rattle.strip_journal.proofs.packed.first_bit.Goals as goal
 
