@@ -36,11 +36,11 @@ narrow_between s t y l x m from to first last =
     (grows_back s t l (x - l) (subst (λ (z : ℤ). pos 0 ≤ℤ (c -ℤ slope z)) (sym (on_to l x from)) back))) first)
     (sign (growth_at s t (pos x)))
 
-at_least_between : (h t y : ℤ) (l x m : ℕ) → l ≤ x → x ≤ m → y ≤ℤ (h +ℤ pos l *ℤ t) → y ≤ℤ (h +ℤ pos m *ℤ t) → y ≤ℤ (h +ℤ pos x *ℤ t)
+pub at_least_between : (h t y : ℤ) (l x m : ℕ) → l ≤ x → x ≤ m → y ≤ℤ (h +ℤ pos l *ℤ t) → y ≤ℤ (h +ℤ pos m *ℤ t) → y ≤ℤ (h +ℤ pos x *ℤ t)
 at_least_between h t y l x m from to first last =
     let more = more_between h t (y -ℤ pos 1) l x m from to (omega (arith, ints, first)) (omega (arith, ints, last)) in omega (arith, ints, more)
 
-at_most_between : (h t y : ℤ) (l x m : ℕ) → l ≤ x → x ≤ m → (h +ℤ pos l *ℤ t) ≤ℤ y → (h +ℤ pos m *ℤ t) ≤ℤ y → (h +ℤ pos x *ℤ t) ≤ℤ y
+pub at_most_between : (h t y : ℤ) (l x m : ℕ) → l ≤ x → x ≤ m → (h +ℤ pos l *ℤ t) ≤ℤ y → (h +ℤ pos m *ℤ t) ≤ℤ y → (h +ℤ pos x *ℤ t) ≤ℤ y
 at_most_between h t y l x m from to first last =
     let less = less_between h t (y +ℤ pos 1) l x m from to (omega (arith, ints, first)) (omega (arith, ints, last)) in omega (arith, ints, less)
 

@@ -1,13 +1,12 @@
 -- The square of a moment in machine words, from a point of a ray to the next or to the one before.
-use Rattle.std.proofs.Common.{◌≡◌, Bool, ℕ, ◌+◌, ◌-◌, ◌*◌, ◌<◌, ◌≤◌, ℤ, pos, ◌+ℤ◌, ◌-ℤ◌, ◌*ℤ◌, FitsSigned, int_le, unsigned_abs, arith, ap, ap₂, refl, subst, sym, ◌∙◌}
+use Rattle.std.proofs.Common.{◌≡◌, ℕ, ◌+◌, ◌-◌, ◌*◌, ◌<◌, ◌≤◌, ℤ, pos, ◌+ℤ◌, ◌-ℤ◌, ◌*ℤ◌, FitsSigned, unsigned_abs, arith, ap, ap₂, refl, subst, sym, ◌∙◌}
 use Rattle.std.proofs.lemmas.Int.{to_z-of_z}
 use mir.Syntax.{w128}
 use Rattle.space.proofs.Naturals.{abs_add, abs_mul, abs_sub}
-use Rattle.near_points.specs.declared.hold.Hold.{Hold}
 use Rattle.near_points.specs.declared.stance.Stance.{Stance}
 use Rattle.near_points.specs.declared.step.Step.{Step}
 use Rattle.near_points.specs.Limits.{moment_limit}
-use Rattle.near_points.specs.Lines.{FitsAfter, IsAfter, is_narrow_after, width_at, width_of}
+use Rattle.near_points.specs.Lines.{FitsAfter, IsAfter, width_at, width_of}
 use Rattle.near_points.proofs.Bits.{IsReckoned, difference_passed, reckoned, sum_passed, wide_by}
 use Rattle.near_points.proofs.Growing.{back_at, back_fits, back_next, growth_at, growth_fits, growth_next, index_before, next_index, width_back, width_fits, width_next}
 use Rattle.near_points.proofs.Leaving.{width_after}
@@ -46,11 +45,6 @@ width_kept w h = to_z-of_z w128 w (wide_by width_limit w (omega arith) h)
 pub width_begins : (r s : Stance) (t : Step) (l w : ℤ) → IsAfter r s t l
     → record { value : w ≡ width_of r; small : unsigned_abs w ≤ width_limit } → as_word w ≡ width_at s t l
 width_begins r s t l w is of = width_kept w of.small ∙ of.value ∙ width_after r s t l is
-
--- what the code finds of a square is so of the point that has it
-pub narrow_by : (hold : Hold) (s : Stance) (t : Step) (l w : ℤ) (r : Bool) → r ≡ int_le w hold.square → w ≡ width_at s t l
-    → r ≡ is_narrow_after hold s t l
-narrow_by hold s t l w r found e = found ∙ ap (λ z. int_le z hold.square) e
 
 -- a sum that fits, and what it is
 pub record AddsUp (x y z : ℤ) : Type 0 where

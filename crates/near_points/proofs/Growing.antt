@@ -62,7 +62,7 @@ grown a p q b d n =
     ring (a ∷ p ∷ q ∷ b ∷ d ∷ n ∷ []) (width_term A (add P (mul N B)) (add Q (mul N D)))
     (add (add (width_term A P Q) (mul N (growth_term P Q B D))) (mul (mul N (sub N (num (pos 1)))) (add (square B) (square D)))) refl
 
-product_some : (x y : ℤ) → pos 0 ≤ℤ x → pos 0 ≤ℤ y → pos 0 ≤ℤ (x *ℤ y)
+pub product_some : (x y : ℤ) → pos 0 ≤ℤ x → pos 0 ≤ℤ y → pos 0 ≤ℤ (x *ℤ y)
 product_some (pos m) (pos n) h k = omega (arith, ints)
 product_some (negsuc m) y h k = absurd (omega (arith, ints, h))
 product_some (pos m) (negsuc n) h k = absurd (omega (arith, ints, k))

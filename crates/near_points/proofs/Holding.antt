@@ -11,7 +11,7 @@ use Rattle.near_points.specs.declared.hold.Hold.{Hold}
 use Rattle.near_points.specs.declared.stance.Stance.{Stance}
 use Rattle.near_points.specs.declared.step.Step.{Step}
 use Rattle.near_points.specs.Lines.{height_at, is_held_after, side_at, width_at}
-use Rattle.near_points.specs.Trimmed.{IsLeftOut, is_within_after}
+use Rattle.near_points.specs.Trimmed.{IsLeftOut, is_within}
 use Rattle.near_points.specs.Rays.{IsHeldAt, IsKeptAt, NearRayOf}
 use Rattle.near_points.specs.Ready.{IsReadyRay, offset_of}
 use Rattle.near_points.proofs.Told.{held_by_parts, held_parts}
@@ -49,7 +49,7 @@ not_left_out first step hold r l ready within kept out =
     let about = at_most_by _ _ (width_at first step (pos l)) (x.moment *ℤ x.moment) (on.about below) (sym (ready.widths l within)) refl in
     let left = least_by side x.across _ _ (on.across below) refl (ready.sides l within) in
     let right = most_by side x.across _ _ (on.across below) refl (ready.sides l within) in
-    let yes : is_within_after x first step (pos l) ≡ true = within_by_parts x first step (pos l) about left right in
+    let yes : is_within x side (width_at first step (pos l)) ≡ true = within_by_parts x side (width_at first step (pos l)) about left right in
     let no = out.beyond in cc
 
 pub point_holds : (first : Stance) (step : Step) (hold : Hold) (r : NearRayOf) (l : ℕ) → IsReadyRay first step hold r → l < points_of r.grid r.ray.family → IsHeldAt r l → is_held_after hold first step (pos l) ≡ true

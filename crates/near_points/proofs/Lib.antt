@@ -4,6 +4,8 @@ pub mod Walking
 pub mod Trimming
 pub mod Leaving
 pub mod Between
+pub mod Widened
+pub mod Passing
 pub mod Bits
 pub mod Moving
 pub mod Pairs

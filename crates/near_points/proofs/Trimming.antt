@@ -6,13 +6,9 @@ use mir.Syntax.{w64}
 use borrow.Author.Tests.{leb-true, ltb-true}
 use Rattle.vf_spans.specs.Members.{in_range}
 use Rattle.sweep_boxes.specs.declared.level.Level.{Level}
-use Rattle.near_points.specs.declared.stance.Stance.{Stance}
-use Rattle.near_points.specs.declared.step.Step.{Step}
 use Rattle.space.proofs.Tests.{decides_le}
-use Rattle.near_points.specs.Lines.{FitsAfter, side_at, width_at}
-use Rattle.near_points.specs.Trimmed.{is_within_after}
+use Rattle.near_points.specs.Trimmed.{is_within}
 use Rattle.near_points.proofs.Bits.{opposite_reckoned}
-use Rattle.near_points.proofs.Moving.{step_moves, sum_of}
 use Rattle.near_points.proofs.Told.{above_false, first_false, second_false}
 
 -- no index lies in a range that ends where it begins, or before
@@ -36,15 +32,15 @@ not_false : (x : Bool) → x ≡ false → true ≡ not x
 not_false x h = ap not (sym h)
 
 -- the test of a level at a point that is too far to a side for it, or else by the square of the moment
-pub beyond_left : (level : Level) (s : Stance) (t : Step) (l : ℤ) → side_at s t l <ℤ (pos 0 -ℤ level.across) → true ≡ not (is_within_after level s t l)
-beyond_left level s t l h =
-    let w = int_le (width_at s t l) (level.moment *ℤ level.moment) in let left = int_le (pos 0 -ℤ level.across) (side_at s t l) in let right = int_le (side_at s t l) level.across in
-    not_false (is_within_after level s t l) (second_false w (left && right) (first_false left right (above_false (pos 0 -ℤ level.across) (side_at s t l) h)))
+pub beyond_left : (level : Level) (side width : ℤ) → side <ℤ (pos 0 -ℤ level.across) → true ≡ not (is_within level side width)
+beyond_left level side width h =
+    let w = int_le width (level.moment *ℤ level.moment) in let left = int_le (pos 0 -ℤ level.across) side in let right = int_le side level.across in
+    not_false (is_within level side width) (second_false w (left && right) (first_false left right (above_false (pos 0 -ℤ level.across) side h)))
 
-pub beyond_right : (level : Level) (s : Stance) (t : Step) (l : ℤ) → level.across <ℤ side_at s t l → true ≡ not (is_within_after level s t l)
-beyond_right level s t l h =
-    let w = int_le (width_at s t l) (level.moment *ℤ level.moment) in let left = int_le (pos 0 -ℤ level.across) (side_at s t l) in let right = int_le (side_at s t l) level.across in
-    not_false (is_within_after level s t l) (second_false w (left && right) (second_false left right (above_false (side_at s t l) level.across h)))
+pub beyond_right : (level : Level) (side width : ℤ) → level.across <ℤ side → true ≡ not (is_within level side width)
+beyond_right level side width h =
+    let w = int_le width (level.moment *ℤ level.moment) in let left = int_le (pos 0 -ℤ level.across) side in let right = int_le side level.across in
+    not_false (is_within level side width) (second_false w (left && right) (second_false left right (above_false side level.across h)))
 
 yes_right : (x y : Bool) → y ≡ true → x ≡ (x && y)
 yes_right true y h = sym h
@@ -56,20 +52,20 @@ yes_both x y h k = ap (λ z. z && y) h ∙ k
 turned_round : (x y : ℤ) → int_lt x y ≡ not (int_le y x)
 turned_round x y = grind (arith, ints)
 
-pub beyond_about : (level : Level) (s : Stance) (t : Step) (l : ℤ) → (pos 0 -ℤ level.across) ≤ℤ side_at s t l → side_at s t l ≤ℤ level.across
-    → int_lt (level.moment *ℤ level.moment) (width_at s t l) ≡ not (is_within_after level s t l)
-beyond_about level s t l from to =
-    let w = int_le (width_at s t l) (level.moment *ℤ level.moment) in let left = int_le (pos 0 -ℤ level.across) (side_at s t l) in let right = int_le (side_at s t l) level.across in
-    turned_round (level.moment *ℤ level.moment) (width_at s t l)
-    ∙ ap not (yes_right w (left && right) (yes_both left right ((decides_le (pos 0 -ℤ level.across) (side_at s t l)).1 from) ((decides_le (side_at s t l) level.across).1 to)))
+pub beyond_about : (level : Level) (side width : ℤ) → (pos 0 -ℤ level.across) ≤ℤ side → side ≤ℤ level.across
+    → int_lt (level.moment *ℤ level.moment) width ≡ not (is_within level side width)
+beyond_about level side width from to =
+    let w = int_le width (level.moment *ℤ level.moment) in let left = int_le (pos 0 -ℤ level.across) side in let right = int_le side level.across in
+    turned_round (level.moment *ℤ level.moment) width
+    ∙ ap not (yes_right w (left && right) (yes_both left right ((decides_le (pos 0 -ℤ level.across) side).1 from) ((decides_le side level.across).1 to)))
 
-pub within_by_parts : (level : Level) (s : Stance) (t : Step) (l : ℤ) → width_at s t l ≤ℤ (level.moment *ℤ level.moment) → (pos 0 -ℤ level.across) ≤ℤ side_at s t l
-    → side_at s t l ≤ℤ level.across → is_within_after level s t l ≡ true
-within_by_parts level s t l about from to =
-    yes_both (int_le (width_at s t l) (level.moment *ℤ level.moment)) (int_le (pos 0 -ℤ level.across) (side_at s t l) && int_le (side_at s t l) level.across)
-    ((decides_le (width_at s t l) (level.moment *ℤ level.moment)).1 about)
-    (yes_both (int_le (pos 0 -ℤ level.across) (side_at s t l)) (int_le (side_at s t l) level.across)
-    ((decides_le (pos 0 -ℤ level.across) (side_at s t l)).1 from) ((decides_le (side_at s t l) level.across).1 to))
+pub within_by_parts : (level : Level) (side width : ℤ) → width ≤ℤ (level.moment *ℤ level.moment) → (pos 0 -ℤ level.across) ≤ℤ side
+    → side ≤ℤ level.across → is_within level side width ≡ true
+within_by_parts level side width about from to =
+    yes_both (int_le width (level.moment *ℤ level.moment)) (int_le (pos 0 -ℤ level.across) side && int_le side level.across)
+    ((decides_le width (level.moment *ℤ level.moment)).1 about)
+    (yes_both (int_le (pos 0 -ℤ level.across) side) (int_le side level.across)
+    ((decides_le (pos 0 -ℤ level.across) side).1 from) ((decides_le side level.across).1 to))
 
 -- tests by what they say
 pub not_less : (x y : ℤ) → int_lt x y ≡ false → y ≤ℤ x
@@ -79,26 +75,19 @@ pub not_yes : (w r : Bool) → r ≡ not w → r ≡ true → w ≡ false
 not_yes true r e t = sym t ∙ e
 not_yes false r e t = refl
 
--- an index of a range lies in a wider one
-pub in_wider : (x l m a b : ℕ) → a ≤ l → m ≤ b → in_range x (l, m) ≡ true → in_range x (a, b) ≡ true
-in_wider x l m a b from to h =
-    let parts = and_parts (leb l x) (ltb x m) h in
-    ap₂ (λ u v. u && v) (le-leb a x (omega (arith, from, leb-true l x parts.0))) (lt-ltb x b (omega (arith, to, ltb-true x m parts.1)))
-
 pub in_range_ends : (x l m : ℕ) → in_range x (l, m) ≡ true → (l ≤ x) × (x < m)
 in_range_ends x l m h = let parts = and_parts (leb l x) (ltb x m) h in (leb-true l x parts.0, ltb-true x m parts.1)
 
 pub in_range_by : (x l m : ℕ) → l ≤ x → x < m → in_range x (l, m) ≡ true
 in_range_by x l m from to = ap₂ (λ u v. u && v) (le-leb l x from) (lt-ltb x m to)
 
--- what the code finds of the side of a point, in machine words, is so of it
-pub left_told : (level : Level) (s : Stance) (t : Step) (l r : ℤ) → FitsAfter s t l → FitsSigned w64 level.across
-    → r ≡ sum_of s.side t.side l
-    → int_lt (to_z w64 (of_z w64 r)) (to_z w64 (of_z w64 (pos 0 -ℤ to_z w64 (of_z w64 level.across))))
-    ≡ int_lt (side_at s t l) (pos 0 -ℤ level.across)
-left_told level s t l r fits across is =
-    ap₂ int_lt ((step_moves s t l fits).side.value r is) (opposite_reckoned level.across across level.across_some).value
+-- what the code finds of a side, in machine words, is so of it
+pub left_told : (level : Level) (side : ℤ) → FitsSigned w64 side → FitsSigned w64 level.across
+    → int_lt (to_z w64 (of_z w64 side)) (to_z w64 (of_z w64 (pos 0 -ℤ to_z w64 (of_z w64 level.across))))
+    ≡ int_lt side (pos 0 -ℤ level.across)
+left_told level side fits across =
+    ap₂ int_lt (to_z-of_z w64 side fits) (opposite_reckoned level.across across level.across_some).value
 
-pub right_told : (level : Level) (s : Stance) (t : Step) (l r : ℤ) → FitsAfter s t l → FitsSigned w64 level.across
-    → r ≡ sum_of s.side t.side l → int_lt (to_z w64 (of_z w64 level.across)) (to_z w64 (of_z w64 r)) ≡ int_lt level.across (side_at s t l)
-right_told level s t l r fits across is = ap₂ int_lt (to_z-of_z w64 level.across across) ((step_moves s t l fits).side.value r is)
+pub right_told : (level : Level) (side : ℤ) → FitsSigned w64 side → FitsSigned w64 level.across
+    → int_lt (to_z w64 (of_z w64 level.across)) (to_z w64 (of_z w64 side)) ≡ int_lt level.across side
+right_told level side fits across = ap₂ int_lt (to_z-of_z w64 level.across across) (to_z-of_z w64 side fits)

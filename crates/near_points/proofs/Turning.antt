@@ -1,7 +1,6 @@
 -- The points of the rays of a strip against a cylinder: from ray to ray and from point to point their stances grow evenly.
 use Rattle.std.proofs.Common.{◌≡◌, ℕ, ◌*◌, ◌^◌, ◌≤◌, ◌<◌, List, [], ◌∷◌, ℤ, pos, ◌+ℤ◌, ◌*ℤ◌, ◌-ℤ◌, ◌≤ℤ◌, unsigned_abs, arith, refl, sym, ap, ap₂, subst, ◌∙◌}
 use Rattle.std.proofs.lemmas.Int.{ints}
-use Rattle.std.proofs.Math.Nat.{mul-le-mul}
 use borrow.Author.Differences.{abs_is as size_is}
 use Rattle.space.specs.Ranges.{IsPoint, IsWithin, metre}
 use Rattle.space.specs.Vectors.{at, dot}

@@ -12,6 +12,6 @@ one_behind P at m after here x from to = ⊎_elim (λ (e : x ≡ at). ap P e ∙
 pub each_ahead : (P : ℕ → Type 0) (l at : ℕ) → ((x : ℕ) → l ≤ x → x < at → P x) → P at → (x : ℕ) → l ≤ x → x < at + 1 → P x
 each_ahead P l at before here x from to = ⊎_elim (λ (e : x ≡ at). subst P (sym e) here) (λ (ne : x ≢ at). before x from (omega (arith, ne))) (cases_eq x at)
 
-pub each_behind : (P : ℕ → Type 0) (at m : ℕ) → ((x : ℕ) → at ≤ x → x < m → P x) → P (at - 1) → (x : ℕ) → at - 1 ≤ x → x < m → P x
-each_behind P at m after here x from to =
-    ⊎_elim (λ (e : x ≡ at - 1). subst P (sym e) here) (λ (ne : x ≢ at - 1). after x (omega (arith, ne)) to) (cases_eq x (at - 1))
+pub one_more_behind : (P : ℕ → Type 0) (at m : ℕ) → ((x : ℕ) → at < x → x ≤ m → P x) → P at → (x : ℕ) → at - 1 < x → x ≤ m → P x
+one_more_behind P at m after here x from to =
+    ⊎_elim (λ (e : x ≡ at). subst P (sym e) here) (λ (ne : x ≢ at). after x (omega (arith, ne)) to) (cases_eq x at)

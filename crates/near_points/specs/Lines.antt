@@ -1,5 +1,5 @@
 -- The stances of the points of a ray, by that of its first point and by what a step adds, at the point l steps on.
-use Rattle.std.specs.Prelude.{◌≡◌, ◌≤◌, ℤ, pos, ◌+ℤ◌, ◌-ℤ◌, ◌*ℤ◌, ◌<ℤ◌, ◌⊎◌, ◌&&◌, Bool, int_le, unsigned_abs}
+use Rattle.std.specs.Prelude.{◌≡◌, ◌≤◌, ℤ, pos, ◌+ℤ◌, ◌-ℤ◌, ◌*ℤ◌, ◌<ℤ◌, ◌≤ℤ◌, ◌⊎◌, ◌&&◌, Bool, int_le, unsigned_abs}
 use Rattle.near_points.specs.declared.hold.Hold.{Hold}
 use Rattle.near_points.specs.declared.stance.Stance.{Stance}
 use Rattle.near_points.specs.declared.step.Step.{Step}
@@ -82,3 +82,7 @@ pub record FitsMoved (s t : Stance) (n : ℤ) : Type 0 where
   pub third : unsigned_abs (s.third +ℤ n *ℤ t.third) ≤ moment_limit
   pub side : unsigned_abs (s.side +ℤ n *ℤ t.side) ≤ tilt_limit
   pub height : unsigned_abs (s.height +ℤ n *ℤ t.height) ≤ moment_limit
+
+-- what lies between two numbers is at least so far from zero
+abbrev pub IsLeastSize : ℤ → ℤ → ℤ → Type 0
+IsLeastSize a b r = (pos 0 ≤ℤ r) × ((r ≡ pos 0) ⊎ ((r ≤ℤ a) × (r ≤ℤ b)) ⊎ ((a ≤ℤ (pos 0 -ℤ r)) × (b ≤ℤ (pos 0 -ℤ r))))

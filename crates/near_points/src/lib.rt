@@ -8,5 +8,7 @@ mod stance;
 mod step;
 mod strip;
 mod trim;
+mod walk;
+mod wide;
 
 pub use strip::NearStrip;

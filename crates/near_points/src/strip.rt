@@ -4,10 +4,10 @@ ghost use Rattle.vf_spans.specs.Words.{has_bit};
 
 use crate::hold::Hold;
 use crate::offset::{offset_from, scaled, turned, way_across};
-use crate::scan::{are_all_beyond, held_between};
+use crate::scan::are_all_beyond;
 use crate::stance::Stance;
 use crate::step::Step;
-use crate::trim::trimmed;
+use crate::walk::kept_between;
 use ray_grid::{Family, Grid, Ray};
 use std::marker::Model;
 use sweep_boxes::BoundingCylinder;
@@ -130,8 +130,8 @@ impl<'a> NearStrip<'a> {
         let start = self.start.moved(&self.across, j);
         let l = first + lowest_bit(wanted);
         let m = first + highest_bit(wanted);
-        let held = held_between(&start, &self.step, &self.hold, l, m);
-        let kept = trimmed(&start, &self.step, &self.cylinder.levels, held);
+        let levels = &self.cylinder.levels;
+        let kept = kept_between(&start, &self.step, &self.hold, levels, l, m);
         bits_between(first, kept) & wanted
     }
 }

@@ -6,9 +6,9 @@ use Rattle.vf_spans.specs.Words.{has_bit}
 use Rattle.vf_spans.proofs.WordBits.{has_bit-and}
 use Rattle.vf_spans.proofs.HighestBit.{at_least, at_most}
 use Rattle.near_points.specs.Rays.{NearStripOf, near_ray_at}
+use Rattle.near_points.specs.Lines.{is_held_after}
 use Rattle.near_points.specs.Trimmed.{IsLeftOut}
 use Rattle.near_points.proofs.Holding.{holds_point, not_left_out, point_holds}
-use Rattle.near_points.proofs.Trimming.{in_wider}
 use Rattle.near_points.proofs.Told.{both_true}
 use Rattle.near_points.proofs.Turning.{first_fits_on, ready_on}
 use Rattle.near_points.proofs.strip.NearStrip.near_some.Goals as goal
@@ -31,39 +31,35 @@ overflow_add-m c =
     let within = c.requires.on_ray hi.result hi.ensures.within hi.ensures.set in
     omega (arith, within, few)
 
-pub held_between-held-requires-clause-few : goal.held_between-held-requires-clause-few
-held_between-held-requires-clause-few c =
+pub kept_between-kept-requires-clause-few : goal.kept_between-kept-requires-clause-few
+kept_between-kept-requires-clause-few c =
     let i = c.self.inside in let hi = c.highest_bit in
     let few = (ready_on i.start i.across c.moved-start.result i.step i.hold _ c.args.self.now c.args.j c.self.view_is c.self.invariant c.requires.node c.moved-start.ensures).few in
     let within = c.requires.on_ray hi.result hi.ensures.within hi.ensures.set in
     omega (arith, within, few)
 
-pub held_between-held-requires-clause-fits : goal.held_between-held-requires-clause-fits
-held_between-held-requires-clause-fits c = λ x from to.
+pub kept_between-kept-requires-clause-fits : goal.kept_between-kept-requires-clause-fits
+kept_between-kept-requires-clause-fits c = λ x from to.
     let i = c.self.inside in let hi = c.highest_bit in
     let ready = ready_on i.start i.across c.moved-start.result i.step i.hold _ c.args.self.now c.args.j c.self.view_is c.self.invariant c.requires.node c.moved-start.ensures in
     let within = c.requires.on_ray hi.result hi.ensures.within hi.ensures.set in
     ready.fits x (omega (arith, within, to))
 
-pub trimmed-kept-requires-clause-fits : goal.trimmed-kept-requires-clause-fits
-trimmed-kept-requires-clause-fits c = λ x from to.
-    let i = c.self.inside in let hi = c.highest_bit in
-    let ready = ready_on i.start i.across c.moved-start.result i.step i.hold _ c.args.self.now c.args.j c.self.view_is c.self.invariant c.requires.node c.moved-start.ensures in
-    let within = c.requires.on_ray hi.result hi.ensures.within hi.ensures.set in
-    ready.fits x (omega (arith, within, to, c.held_between-held.ensures.to))
-
 pub returns-clause-kept : goal.returns-clause-kept
 returns-clause-kept c = λ b below kept.
     let i = c.self.inside in let w = c.args.wanted in let r = near_ray_at c.args.self.now c.args.j in let first = c.moved-start.result in let x = c.args.first + b in
     let ready = ready_on i.start i.across first i.step i.hold _ c.args.self.now c.args.j c.self.view_is c.self.invariant c.requires.node c.moved-start.ensures in
-    let held = c.held_between-held in let range = c.trimmed-kept in let on = c.requires.on_ray b below kept.0 in
+    let range = c.kept_between-kept in let on = c.requires.on_ray b below kept.0 in
     let low = at_least w c.lowest_bit.result b c.lowest_bit.ensures.lowest kept.0 in let high = at_most w c.highest_bit.result b c.highest_bit.ensures.highest kept.0 in
-    let inside : in_range x held.result ≡ true = held.ensures.held x (omega (arith, low)) (omega (arith, high)) ∙ point_holds first i.step i.hold r x ready on kept.1.widest in
+    let held = point_holds first i.step i.hold r x ready on kept.1.widest in
     let levels : i.cylinder.now.levels ≡ r.cylinder.levels = ap (λ (z : NearStripOf). z.cylinder.levels) c.self.view_is in
     let stays : in_range x range.result ≡ true =
     ⊎_elim (λ (yes : in_range x range.result ≡ true). yes)
     (λ (no : in_range x range.result ≡ false).
-    absurd (not_left_out first i.step i.hold r x ready on kept.1 (subst (λ (z : List Level). IsLeftOut z first i.step (pos x)) levels (range.ensures.out x inside no))))
+    ⊎_elim (λ (un : is_held_after i.hold first i.step (pos x) ≡ false). absurd (cc))
+    (λ (out : IsLeftOut i.cylinder.now.levels first i.step (pos x)).
+    absurd (not_left_out first i.step i.hold r x ready on kept.1 (subst (λ (z : List Level). IsLeftOut z first i.step (pos x)) levels out)))
+    (range.ensures.out x (omega (arith, low)) (omega (arith, high)) no))
     (cases_Bool (in_range x range.result)) in
     has_bit-and c.bits_between.result w b ∙ both_true (has_bit c.bits_between.result b) (has_bit w b) (c.bits_between.ensures b below ∙ stays) kept.0
 
@@ -71,9 +67,11 @@ pub returns-clause-held : goal.returns-clause-held
 returns-clause-held c = λ b below set.
     let i = c.self.inside in let w = c.args.wanted in let r = near_ray_at c.args.self.now c.args.j in let first = c.moved-start.result in let x = c.args.first + b in
     let ready = ready_on i.start i.across first i.step i.hold _ c.args.self.now c.args.j c.self.view_is c.self.invariant c.requires.node c.moved-start.ensures in
-    let held = c.held_between-held in let range = c.trimmed-kept in
+    let range = c.kept_between-kept in
     let both = and_parts (has_bit c.bits_between.result b) (has_bit w b) (sym (has_bit-and c.bits_between.result w b) ∙ set) in
     let low = at_least w c.lowest_bit.result b c.lowest_bit.ensures.lowest both.1 in let high = at_most w c.highest_bit.result b c.highest_bit.ensures.highest both.1 in
-    let inside : in_range x held.result ≡ true =
-    in_wider x range.result.0 range.result.1 held.result.0 held.result.1 range.ensures.from range.ensures.to (sym (c.bits_between.ensures b below) ∙ both.0) in
-    (both.1, holds_point first i.step i.hold r x ready (c.requires.on_ray b below both.1) (sym (held.ensures.held x (omega (arith, low)) (omega (arith, high))) ∙ inside))
+    let inside : in_range x range.result ≡ true = sym (c.bits_between.ensures b below) ∙ both.0 in (
+      both.1,
+      holds_point first i.step i.hold r x ready (c.requires.on_ray b below both.1)
+          (range.ensures.held x (omega (arith, low)) (omega (arith, high)) inside),
+    )

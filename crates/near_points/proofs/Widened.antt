@@ -1,0 +1,67 @@
+-- The moments between two points are too long where the nearest that both allow is.
+use Rattle.std.proofs.Common.{◌≡◌, inl, inr, [], ◌∷◌, Bool, true, false, not, ℕ, ◌≤◌, ℤ, pos, ◌+ℤ◌, ◌-ℤ◌, ◌*ℤ◌, ◌≤ℤ◌, ◌<ℤ◌, arith, refl, sym, ap, ap₂, subst, ◌∙◌}
+use Rattle.std.proofs.lemmas.Int.{ints}
+use Rattle.space.proofs.Naturals.{square_not_negative}
+use Rattle.space.proofs.Solver.{var, num, add, mul, ring}
+use Rattle.space.proofs.Terms.{sub, square}
+use Rattle.near_points.specs.declared.hold.Hold.{Hold}
+use Rattle.near_points.specs.declared.stance.Stance.{Stance}
+use Rattle.near_points.specs.declared.step.Step.{Step}
+use Rattle.near_points.specs.Lines.{IsLeastSize, is_narrow_after, second_at, third_at, width_at}
+use Rattle.near_points.proofs.Between.{at_least_between, at_most_between}
+use Rattle.near_points.proofs.Growing.{product_some}
+use Rattle.near_points.proofs.Told.{above_false}
+
+no_less : (d a b : ℤ) → d ≡ b -ℤ a → pos 0 ≤ℤ d → a ≤ℤ b
+no_less d a b e h = omega (arith, ints, e, h)
+
+squares_differ : (r y : ℤ) → (y -ℤ r) *ℤ (y +ℤ r) ≡ (y *ℤ y) -ℤ (r *ℤ r)
+squares_differ r y =
+    let R = var 0 in let Y = var 1 in
+    ring (r ∷ y ∷ []) (mul (sub Y R) (add Y R)) (sub (square Y) (square R)) refl
+
+-- a number that is no nearer to zero has no smaller square
+square_above : (r y : ℤ) → pos 0 ≤ℤ r → r ≤ℤ y → (r *ℤ r) ≤ℤ (y *ℤ y)
+square_above r y some h =
+    no_less ((y -ℤ r) *ℤ (y +ℤ r)) (r *ℤ r) (y *ℤ y) (squares_differ r y)
+    (product_some (y -ℤ r) (y +ℤ r) (omega (arith, ints, some, h)) (omega (arith, ints, some, h)))
+
+opposite_square : (y : ℤ) → (pos 0 -ℤ y) *ℤ (pos 0 -ℤ y) ≡ y *ℤ y
+opposite_square y = let Y = var 0 in ring (y ∷ []) (square (sub (num (pos 0)) Y)) (square Y) refl
+
+square_below : (r y : ℤ) → pos 0 ≤ℤ r → y ≤ℤ (pos 0 -ℤ r) → (r *ℤ r) ≤ℤ (y *ℤ y)
+square_below r y some h =
+    subst (λ (z : ℤ). (r *ℤ r) ≤ℤ z) (opposite_square y) (square_above r (pos 0 -ℤ y) some (omega (arith, ints, some, h)))
+
+-- of what is linear the square between two points
+square_between : (h t r : ℤ) (l x m : ℕ) → l ≤ x → x ≤ m → IsLeastSize (h +ℤ pos l *ℤ t) (h +ℤ pos m *ℤ t) r
+    → (r *ℤ r) ≤ℤ ((h +ℤ pos x *ℤ t) *ℤ (h +ℤ pos x *ℤ t))
+square_between h t r l x m from to (some, inl none) =
+    subst (λ (z : ℤ). (z *ℤ z) ≤ℤ ((h +ℤ pos x *ℤ t) *ℤ (h +ℤ pos x *ℤ t))) (sym none) (square_not_negative (h +ℤ pos x *ℤ t))
+square_between h t r l x m from to (some, inr (inl above)) =
+    square_above r (h +ℤ pos x *ℤ t) some (at_least_between h t r l x m from to above.0 above.1)
+square_between h t r l x m from to (some, inr (inr below)) =
+    square_below r (h +ℤ pos x *ℤ t) some (at_most_between h t (pos 0 -ℤ r) l x m from to below.0 below.1)
+
+more_than : (s a p q x y : ℤ) → s <ℤ ((a +ℤ p) +ℤ q) → p ≤ℤ x → q ≤ℤ y → s <ℤ ((a +ℤ x) +ℤ y)
+more_than s a p q x y h k l = omega (arith, ints, h, k, l)
+
+pub wide_between : (hold : Hold) (s : Stance) (t : Step) (second third : ℤ) (l x m : ℕ) → l ≤ x → x ≤ m
+    → IsLeastSize (second_at s t (pos l)) (second_at s t (pos m)) second → IsLeastSize (third_at s t (pos l)) (third_at s t (pos m)) third
+    → hold.square <ℤ ((s.along *ℤ s.along +ℤ second *ℤ second) +ℤ third *ℤ third) → is_narrow_after hold s t (pos x) ≡ false
+wide_between hold s t second third l x m from to p q wide =
+    above_false (width_at s t (pos x)) hold.square
+    (more_than hold.square (s.along *ℤ s.along) (second *ℤ second) (third *ℤ third) (second_at s t (pos x) *ℤ second_at s t (pos x))
+    (third_at s t (pos x) *ℤ third_at s t (pos x)) wide (square_between s.second t.second second l x m from to p)
+    (square_between s.third t.third third l x m from to q))
+
+-- what the code finds, in machine words
+pub least_by : (a b x y r : ℤ) → a ≡ x → b ≡ y → IsLeastSize a b r → IsLeastSize x y r
+least_by a b x y r ea eb h = subst (λ (z : ℤ). IsLeastSize x z r) eb (subst (λ (z : ℤ). IsLeastSize z b r) ea h)
+
+pub squares_by : (a b c x y z : ℤ) → a ≡ x → b ≡ y → c ≡ z → (a *ℤ a +ℤ b *ℤ b) +ℤ c *ℤ c ≡ (x *ℤ x +ℤ y *ℤ y) +ℤ z *ℤ z
+squares_by a b c x y z ea eb ec = ap₂ (λ p q. (p *ℤ p +ℤ q *ℤ q) +ℤ c *ℤ c) ea eb ∙ ap (λ p. (x *ℤ x +ℤ y *ℤ y) +ℤ p *ℤ p) ec
+
+pub not_so : (b : Bool) → not b ≡ true → b ≡ false
+not_so true h = sym h
+not_so false h = refl

@@ -1,0 +1,45 @@
+ghost use Rattle.std.specs.Prelude.{◌≡◌, ℕ, ◌≤◌, pos, false, unsigned_abs, IsTrue};
+ghost use Rattle.near_points.specs.Limits.{moment_limit};
+ghost use Rattle.near_points.specs.Lines.{FitsAfter, IsLeastSize, is_narrow_after};
+
+use crate::hold::Hold;
+use crate::stance::Stance;
+use crate::step::Step;
+
+/// How far from zero whatever lies between two numbers is at the least: not at all where zero does.
+#[inline]
+fn least_size(a: i64, b: i64) -> i64
+    requires a { unsigned_abs a ≤ moment_limit }
+    requires b { unsigned_abs b ≤ moment_limit }
+    ensures least { IsLeastSize a b result }
+    ensures small { unsigned_abs result ≤ moment_limit }
+{
+    let (low, high) = if a < b { (a, b) } else { (b, a) };
+    if 0 < low {
+        low
+    } else if high < 0 {
+        -high
+    } else {
+        0
+    }
+}
+
+/// Whether the moments of all points from one to another are too long, by those of the two alone: each component of a moment is linear in
+/// the index.
+#[inline]
+pub fn are_all_wide(first: &Stance, step: &Step, hold: &Hold, l: u32, m: u32) -> bool
+    requires from { FitsAfter first.now step.now (pos l) }
+    requires to { FitsAfter first.now step.now (pos m) }
+    ensures { IsTrue result → (x : ℕ) → l ≤ x → x ≤ m → is_narrow_after hold.now first.now step.now (pos x) ≡ false }
+{
+    let low = step.after(first, l);
+    let high = step.after(first, m);
+    let nearest = Stance {
+        along: first.along,
+        second: least_size(low.second, high.second),
+        third: least_size(low.third, high.third),
+        side: 0,
+        height: 0,
+    };
+    !hold.has_width(nearest.width())
+}
