@@ -65,3 +65,15 @@ squares_by a b c x y z ea eb ec = ap₂ (λ p q. (p *ℤ p +ℤ q *ℤ q) +ℤ c
 pub not_so : (b : Bool) → not b ≡ true → b ≡ false
 not_so true h = sym h
 not_so false h = refl
+
+sum_most : (a p q x y s : ℤ) → ((a +ℤ x) +ℤ y) ≤ℤ s → p ≤ℤ x → q ≤ℤ y → ((a +ℤ p) +ℤ q) ≤ℤ s
+sum_most a p q x y s h k l = omega (arith, ints, h, k, l)
+
+pub near_between : (a p q x y s : ℤ) → ((a *ℤ a +ℤ x *ℤ x) +ℤ y *ℤ y) ≤ℤ s → pos 0 ≤ℤ p → p ≤ℤ x → pos 0 ≤ℤ q → q ≤ℤ y
+    → ((a *ℤ a +ℤ p *ℤ p) +ℤ q *ℤ q) ≤ℤ s
+near_between a p q x y s h some k other l =
+    sum_most (a *ℤ a) (p *ℤ p) (q *ℤ q) (x *ℤ x) (y *ℤ y) s h (square_above p x some k) (square_above q y other l)
+
+pub not_not : (b : Bool) → not b ≡ false → b ≡ true
+not_not true h = refl
+not_not false h = sym h

@@ -1,6 +1,6 @@
-ghost use Rattle.std.specs.Prelude.{◌≡◌, ℕ, ◌≤◌, pos, false, unsigned_abs, IsTrue};
+ghost use Rattle.std.specs.Prelude.{◌≡◌, ℕ, ℤ, ◌≤◌, ◌+ℤ◌, ◌*ℤ◌, ◌≤ℤ◌, pos, false, unsigned_abs, IsTrue};
 ghost use Rattle.near_points.specs.Limits.{moment_limit};
-ghost use Rattle.near_points.specs.Lines.{FitsAfter, IsLeastSize, is_narrow_after};
+ghost use Rattle.near_points.specs.Lines.{FitsAfter, IsLeastSize, is_narrow_after, second_at, third_at};
 
 use crate::hold::Hold;
 use crate::stance::Stance;
@@ -12,6 +12,7 @@ fn least_size(a: i64, b: i64) -> i64
     requires a { unsigned_abs a ≤ moment_limit }
     requires b { unsigned_abs b ≤ moment_limit }
     ensures least { IsLeastSize a b result }
+    ensures most { (r : ℤ) → IsLeastSize a b r → r ≤ℤ result }
     ensures small { unsigned_abs result ≤ moment_limit }
 {
     let (low, high) = if a < b { (a, b) } else { (b, a) };
@@ -30,7 +31,12 @@ fn least_size(a: i64, b: i64) -> i64
 pub fn are_all_wide(first: &Stance, step: &Step, hold: &Hold, l: u32, m: u32) -> bool
     requires from { FitsAfter first.now step.now (pos l) }
     requires to { FitsAfter first.now step.now (pos m) }
-    ensures { IsTrue result → (x : ℕ) → l ≤ x → x ≤ m → is_narrow_after hold.now first.now step.now (pos x) ≡ false }
+    ensures wide { IsTrue result → (x : ℕ) → l ≤ x → x ≤ m → is_narrow_after hold.now first.now step.now (pos x) ≡ false }
+    // Where it says no, the moments that the two allow aren't too long.
+    ensures near { result ≡ false → (second third : ℤ)
+        → IsLeastSize (second_at first.now step.now (pos l)) (second_at first.now step.now (pos m)) second
+        → IsLeastSize (third_at first.now step.now (pos l)) (third_at first.now step.now (pos m)) third
+        → ((first.now.along *ℤ first.now.along +ℤ second *ℤ second) +ℤ third *ℤ third) ≤ℤ hold.now.square }
 {
     let low = step.after(first, l);
     let high = step.after(first, m);

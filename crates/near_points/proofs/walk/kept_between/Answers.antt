@@ -12,6 +12,17 @@ are_all_beyond-requires-clause-from c = c.requires.fits c.args.l (omega arith) c
 pub are_all_beyond-requires-clause-to : goal.are_all_beyond-requires-clause-to
 are_all_beyond-requires-clause-to c = c.requires.fits c.args.m c.requires.order (omega arith)
 
+pub returns-then-top-from-clause-out : goal.returns-then-top-from-clause-out
+returns-then-top-from-clause-out c = λ x first last no.
+    let hold = c.args.hold.now in let levels = c.args.levels.now in let s = c.args.first.now in let t = c.args.step.now in
+    let bottom = c.first_amid-bottom in let top = c.last_amid-top in let from = c.first_kept-from in
+    ⊎_elim (λ (low : x < bottom.result). inl (unheld_beyond hold s t (pos x) (bottom.ensures.ahead x first low)))
+    (λ (on : bottom.result ≤ x).
+    ⊎_elim (λ (high : top.result < x). inl (unheld_beyond hold s t (pos x) (top.ensures.behind x high last)))
+    (λ (within : x ≤ top.result).
+    unheld_or_out hold levels s t (pos x) (from.ensures.ahead x on within (omega (arith, within, c.if-top-from.true))))
+    (cases_lt top.result x)) (cases_lt x bottom.result)
+
 pub returns-clause-held : goal.returns-clause-held
 returns-clause-held c = λ x first last yes.
     let bottom = c.first_amid-bottom in let top = c.last_amid-top in let from = c.first_kept-from in let to = c.last_kept-to in
