@@ -1,9 +1,9 @@
--- What is reckoned of moves for their marks, one move more at a time.
-use Rattle.std.proofs.Common.{◌≡◌, ◌∙◌, ℕ, ◌+◌, ◌<◌, List, [], ◌∷◌, ◌++◌, ⊎_elim, length, get_or, arith, ap, refl, subst, sym}
+-- What is reckoned of moves for their marks: one move more at a time, and two lists together.
+use Rattle.std.proofs.Common.{◌≡◌, ◌∙◌, ℕ, ◌+◌, ◌-◌, ◌<◌, ◌≤◌, List, [], ◌∷◌, ◌++◌, Some, ⊎_elim, length, slice_get, get_or, arith, ap, refl, subst, sym}
 use Rattle.std.proofs.lemmas.Bool.{cases_lt}
 use Rattle.std.proofs.lemmas.List.{get_or_append_left, length-append}
-use Rattle.std.proofs.lemmas.Option.{get_or_from_slice_get, slice_get_read}
-use Rattle.std.proofs.Math.Seq.{get_or-append_seam}
+use Rattle.std.proofs.lemmas.Option.{get_or_from_slice_get, slice_get_read, slice_get_within}
+use Rattle.std.proofs.Math.Seq.{get_or-append_right, get_or-append_seam}
 use Rattle.space.specs.Motion.{Motion}
 use Rattle.cutter_slabs.specs.Stacks.{StacksOf}
 use Rattle.wanted_marks.specs.declared.ready_move.ReadyMove.{ReadyMove}
@@ -14,39 +14,79 @@ use Rattle.strip_plan.specs.Cutters.{HasStacks}
 use Rattle.strip_plan.specs.ReadyMoves.{HasReadyMoves}
 use Rattle.strip_plan.proofs.Marked.{stacks_are}
 
-pub no_ready_moves : (slabs depth : ℕ) (moves : List JobMove) → HasReadyMoves slabs depth moves [] 0
-no_ready_moves slabs depth moves = record { many = refl; each = λ n move d lt at. absurd (omega (arith, lt)) }
+pub no_ready_moves : (slabs depth : ℕ) (moves : List JobMove) (from : ℕ) → HasReadyMoves slabs depth moves from from []
+no_ready_moves slabs depth moves from = record { many = omega arith; each = λ n move d lt at. absurd (omega (arith, lt)) }
 
 -- one move more
-pub more_ready_moves : (slabs depth : ℕ) (moves : List JobMove) (ready : List ReadyMove) (count : ℕ) (next : JobMove) (own : ReadyMove)
-    → HasReadyMoves slabs depth moves ready count → next ≡ get_or moves count next
+pub more_ready_moves : (slabs depth : ℕ) (moves : List JobMove) (from to : ℕ) (ready : List ReadyMove) (next : JobMove) (own : ReadyMove)
+    → HasReadyMoves slabs depth moves from to ready → next ≡ get_or moves to next
     → IsReadyMove own record { cutter = next.cutter; slabs = slabs; motion = next.motion; depth = depth }
-    → HasReadyMoves slabs depth moves (ready ++ own ∷ []) (count + 1)
-more_ready_moves slabs depth moves ready count next own has read is =
+    → HasReadyMoves slabs depth moves from (to + 1) (ready ++ own ∷ [])
+more_ready_moves slabs depth moves from to ready next own has read is =
     let many = has.many in
+    let longer = length-append ready (own ∷ []) in
     let of = λ (m : JobMove) (r : ReadyMove). IsReadyMove r record { cutter = m.cutter; slabs = slabs; motion = m.motion; depth = depth } in
     record {
-      many = omega (arith, length-append ready (own ∷ []), many);
+      many = omega (arith, longer, many);
       each = λ n move d lt at.
           ⊎_elim
-          (λ less. subst (λ (r : ReadyMove). of move r) (sym (get_or_append_left ready (own ∷ []) d n (omega (arith, less, many)))) (has.each n move d less at))
+          (λ less. subst (λ (r : ReadyMove). of move r) (sym (get_or_append_left ready (own ∷ []) d n less)) (has.each n move d less at))
           (λ most.
-          let e : n ≡ count = omega (arith, lt, most) in
-          let same : next ≡ move = read ∙ ap (λ i. get_or moves i next) (sym e) ∙ get_or_from_slice_get moves n move next at in
-          let there : get_or (ready ++ own ∷ []) n d ≡ own =
-          ap (λ k. get_or (ready ++ own ∷ []) k d) (let q : n ≡ length ready = omega (arith, e, many) in q) ∙ get_or-append_seam ready own [] d in
+          let e : n ≡ length ready = omega (arith, lt, longer, most) in
+          let same : next ≡ move = read ∙ ap (λ i. get_or moves i next) (let q : to ≡ from + n = omega (arith, e, many) in q) ∙ get_or_from_slice_get moves (from + n) move next at in
+          let there : get_or (ready ++ own ∷ []) n d ≡ own = ap (λ k. get_or (ready ++ own ∷ []) k d) e ∙ get_or-append_seam ready own [] d in
           subst (λ (r : ReadyMove). of move r) (sym there) (subst (λ (m : JobMove). of m own) same is))
-          (cases_lt n count);
+          (cases_lt n (length ready));
     }
+
+-- what is reckoned of moves, and behind it what is reckoned of the next ones
+pub both_ready_moves : (slabs depth : ℕ) (moves : List JobMove) (from half to : ℕ) (early late : List ReadyMove)
+    → HasReadyMoves slabs depth moves from half early → HasReadyMoves slabs depth moves half to late → HasReadyMoves slabs depth moves from to (early ++ late)
+both_ready_moves slabs depth moves from half to early late first rest =
+    let until = first.many in
+    let many = rest.many in
+    let both = length-append early late in
+    let of = λ (m : JobMove) (r : ReadyMove). IsReadyMove r record { cutter = m.cutter; slabs = slabs; motion = m.motion; depth = depth } in
+    record {
+      many = omega (arith, both, until, many);
+      each = λ n move d lt at.
+          ⊎_elim
+          (λ less. subst (λ (r : ReadyMove). of move r) (sym (get_or_append_left early late d n less)) (first.each n move d less at))
+          (λ most.
+          let k : ℕ = n - length early in
+          let e : from + n ≡ half + k = omega (arith, until, most) in
+          subst (λ (r : ReadyMove). of move r) (sym (get_or-append_right early late n d most))
+          (rest.each k move d (omega (arith, lt, both, most)) (ap (λ i. slice_get moves i) (sym e) ∙ at)))
+          (cases_lt n (length early));
+    }
+
+-- what is reckoned of moves, and nothing behind it
+pub all_ready_moves : (slabs depth : ℕ) (moves : List JobMove) (from to : ℕ) (early late : List ReadyMove)
+    → HasReadyMoves slabs depth moves from to early → late ≡ [] → HasReadyMoves slabs depth moves from to (early ++ late)
+all_ready_moves slabs depth moves from to early late has none =
+    both_ready_moves slabs depth moves from to to early late has (subst (HasReadyMoves slabs depth moves to to) (sym none) (no_ready_moves slabs depth moves to))
+
+-- what stands in the first list, and in the other
+pub early_read : (early late : List ReadyMove) (number : ℕ) (own : ReadyMove) → number < length early → own ≡ get_or early number own → slice_get (early ++ late) number ≡ Some own
+early_read early late number own lt read =
+    slice_get_read (early ++ late) (length (early ++ late)) number own refl (omega (arith, lt, length-append early late)) (read ∙ sym (get_or_append_left early late own number lt))
+
+pub late_read : (early late : List ReadyMove) (number : ℕ) (own : ReadyMove) → length early ≤ number → number < length (early ++ late) → own ≡ get_or late (number - length early) own
+    → slice_get (early ++ late) number ≡ Some own
+late_read early late number own ge lt read =
+    slice_get_read (early ++ late) (length (early ++ late)) number own refl lt (read ∙ sym (get_or-append_right early late number own ge))
 
 -- what is reckoned of a move of a plan is of its motion and of the stacks at its place
 pub ready_is : (moves : List JobMove) (slabs depth : ℕ) (stacks : List StacksOf) (places : List ℕ) (ready : List ReadyMove) (number place : ℕ) (next : JobMove) (found : StacksOf)
-    (motion : Motion) (own : ReadyMove) → HasStacks slabs moves stacks places (length moves) → HasReadyMoves slabs depth moves ready (length moves) → number < length moves
+    (motion : Motion) (own : ReadyMove) → HasStacks slabs moves stacks places (length moves) → HasReadyMoves slabs depth moves 0 (length moves) ready → number < length moves
     → place ≡ get_or places number place → found ≡ get_or stacks place found → next ≡ get_or moves number next → motion ≡ next.motion
-    → own ≡ get_or ready number own → IsReadyMove own (move_of found motion depth)
+    → slice_get ready number ≡ Some own → IsReadyMove own (move_of found motion depth)
 ready_is moves slabs depth stacks places ready number place next found motion own has has_ready lt read_place read_found read_next moved read_own =
-    let is = has_ready.each number next own lt (slice_get_read moves (length moves) number next refl lt read_next) in
-    let by_own = subst (λ (r : ReadyMove). IsReadyMove r record { cutter = next.cutter; slabs = slabs; motion = next.motion; depth = depth }) (sym read_own) is in
+    let at : slice_get moves (0 + number) ≡ Some next =
+    ap (λ i. slice_get moves i) (let q : 0 + number ≡ number = omega arith in q) ∙ slice_get_read moves (length moves) number next refl lt read_next in
+    let is = has_ready.each number next own (slice_get_within ready number own read_own) at in
+    let by_own = subst (λ (r : ReadyMove). IsReadyMove r record { cutter = next.cutter; slabs = slabs; motion = next.motion; depth = depth })
+    (get_or_from_slice_get ready number own own read_own) is in
     let by_stacks = subst (λ (s : StacksOf). IsReadyMove own (move_of s next.motion depth))
     (sym (stacks_are moves slabs stacks places number place next found has lt read_place read_found read_next)) by_own in
     subst (λ (m : Motion). IsReadyMove own (move_of found m depth)) (sym moved) by_stacks

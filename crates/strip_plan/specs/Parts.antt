@@ -1,5 +1,5 @@
 -- What a plan keeps besides its moves and edits.
-use Rattle.std.specs.Prelude.{ℕ, List, length}
+use Rattle.std.specs.Prelude.{ℕ, List, ◌++◌, length}
 use Rattle.ray_grid.specs.Grids.{GridSize}
 use Rattle.edit_plan.specs.declared.edit.Edit.{Edit}
 use Rattle.job_model.specs.Tasks.{JobMove}
@@ -22,8 +22,8 @@ IsEnteredBy grid slabs depth moves edits entered =
     HasBoxes grid slabs depth moves entered.boxes.hulls.items entered.boxes.boxes.items entered.boxes.starts.items (length moves)
     × AreGroups entered.boxes.hulls.items edits entered.groups.items
 
--- each move has its cylinder, and what is reckoned of it for its marks
+-- each move has its cylinder, and what is reckoned of it for its marks: that of the first moves in one list, and that of the rest in another
 abbrev pub IsReadiedFor : GridSize → ℕ → ℕ → List JobMove → Readied → Type 0
 IsReadiedFor grid slabs depth moves readied =
     HasCylinders grid slabs depth moves readied.cylinders.items (length moves)
-    × HasReadyMoves slabs depth moves readied.ready.items (length moves)
+    × HasReadyMoves slabs depth moves 0 (length moves) (readied.early.items ++ readied.late.items)

@@ -1,11 +1,11 @@
 -- What is reckoned of each move for its marks.
-use Rattle.std.specs.Prelude.{◌≡◌, ℕ, ◌<◌, List, Some, length, slice_get, slice_index_or}
+use Rattle.std.specs.Prelude.{◌≡◌, ℕ, ◌+◌, ◌<◌, List, Some, length, slice_get, slice_index_or}
 use Rattle.wanted_marks.specs.declared.ready_move.ReadyMove.{ReadyMove}
 use Rattle.wanted_marks.specs.Ready.{IsReadyMove}
 use Rattle.job_model.specs.Tasks.{JobMove}
 
--- for each of the first so many moves it is there
-pub record HasReadyMoves (slabs depth : ℕ) (moves : List JobMove) (ready : List ReadyMove) (count : ℕ) : Type 0 where
-  pub many : length ready ≡ count
-  pub each : (n : ℕ) (move : JobMove) (d : ReadyMove) → n < count → slice_get moves n ≡ Some move
+-- for each of the moves from one number to another it is there, in their order; the second is excluded
+pub record HasReadyMoves (slabs depth : ℕ) (moves : List JobMove) (from to : ℕ) (ready : List ReadyMove) : Type 0 where
+  pub many : from + length ready ≡ to
+  pub each : (n : ℕ) (move : JobMove) (d : ReadyMove) → n < length ready → slice_get moves (from + n) ≡ Some move
       → IsReadyMove (slice_index_or ready n d) record { cutter = move.cutter; slabs = slabs; motion = move.motion; depth = depth }

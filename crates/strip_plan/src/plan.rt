@@ -78,7 +78,7 @@ impl Plan {
         Ok(Plan::of_parts(grid, depth, moves, edits, cutters, entered, readied))
     }
 
-    /// The same plan, made by so many workers: two threads have a part of it each where there are two, and three where there are more.
+    /// The same plan, made by so many workers: so many threads have a part of it each, but at most four.
     pub fn by_workers<R: Threads + Sync>(
         rt: &R,
         alloc: Global,
@@ -207,7 +207,7 @@ impl Plan {
             &self.moves[number as usize].sweep,
             &self.cutters.stacks[place],
             self.depth,
-            &self.readied.ready[number as usize],
+            self.readied.ready(number as usize),
         )
     }
 

@@ -9,20 +9,25 @@ use std::alloc::Global;
 use vf_io::NoMemory;
 use wanted_marks::ReadyMove;
 
-/// What is reckoned of each move for its marks, once for all strips that it enters. Fails only for want of memory.
+/// What is reckoned of each move from one number to another for its marks, once for all strips that it enters. The second is excluded.
+/// Fails only for want of memory.
 pub(crate) fn ready_moves_of(
     alloc: Global,
     grid: &Grid,
     depth: u32,
     moves: &[PlanMove],
     cutters: &Cutters,
+    from: usize,
+    to: usize,
 ) -> Result<Vec<ReadyMove>, NoMemory>
     requires shallow { depth ≤ 10 }
     requires stacks { AreStacksOf moves.now cutters.now }
-    ensures { IfOk result (λ made. HasReadyMoves cutters.now.slabs depth moves.now made.items (length moves.now)) }
+    requires order { from ≤ to }
+    requires within { to ≤ length moves.now }
+    ensures { IfOk result (λ made. HasReadyMoves cutters.now.slabs depth moves.now from to made.items) }
 {
-    let mut ready = Vec::with_capacity(alloc, moves.len())?;
-    for n in 0..moves.len() {
+    let mut ready = Vec::with_capacity(alloc, to - from)?;
+    for n in from..to {
         let next = &moves[n];
         let place = cutters.places[n];
         ready.push(ReadyMove::new(&next.sweep, &cutters.stacks[place], depth, grid))?;

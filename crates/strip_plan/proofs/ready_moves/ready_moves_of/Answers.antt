@@ -1,4 +1,4 @@
-use Rattle.std.proofs.Common.{◌≡◌, ◌<◌, ap, length, rules, subst}
+use Rattle.std.proofs.Common.{◌≡◌, ℕ, ◌<◌, ap, length, rules, subst}
 use Rattle.space.specs.Motion.{Motion}
 use Rattle.cutter_slabs.specs.Stacks.{StacksOf}
 use Rattle.wanted_marks.specs.Rays.{move_of}
@@ -21,13 +21,13 @@ loop-n-preserved c =
     let by_stacks = subst (λ (s : StacksOf). IsReadyMove c.new.result (move_of s c.next.inside.sweep depth)) own c.new.ensures in
     let is = subst (λ (m : Motion). IsReadyMove c.new.result record { cutter = next.cutter; slabs = slabs; motion = m; depth = depth })
     (ap (λ (m : JobMove). m.motion) c.next.view_is) by_stacks in
-    let more = more_ready_moves slabs depth moves c.loop-n.ready.items c.loop-n.n next c.new.result c.loop-n.invariant c.index-moves-n.is is in
+    let more = more_ready_moves slabs depth moves c.args.from c.loop-n.n c.loop-n.ready.items next c.new.result c.loop-n.invariant c.index-moves-n.is is in
     rw c.in_ok-push.ensures.items more
 
 pub returns : goal.returns
 returns c =
-    let all : c.loop-n.n ≡ length c.args.moves.now = search rules in
-    subst (HasReadyMoves c.args.cutters.now.slabs c.args.depth c.args.moves.now c.loop-n.ready.items) all c.loop-n.invariant
+    let all : c.loop-n.n ≡ c.args.to = search rules in
+    subst (λ (n : ℕ). HasReadyMoves c.args.cutters.now.slabs c.args.depth c.args.moves.now c.args.from n c.loop-n.ready.items) all c.loop-n.invariant
 
 pub index-requires : goal.index-requires
 index-requires c =

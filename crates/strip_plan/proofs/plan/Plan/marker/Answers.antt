@@ -1,4 +1,4 @@
-use Rattle.std.proofs.Common.{◌∙◌, ◌<◌, ap, length, rules}
+use Rattle.std.proofs.Common.{◌∙◌, ◌<◌, ◌++◌, ap, length, rules}
 use Rattle.job_model.specs.Tasks.{JobMove, PlanOf}
 use Rattle.strip_plan.proofs.Marked.{marker_is, stacks_within}
 use Rattle.strip_plan.proofs.Readied.{ready_is}
@@ -22,6 +22,6 @@ index-requires-2 c =
 pub of_ready-requires : goal.of_ready-requires
 of_ready-requires c =
     let s = c.self.inside in
-    ready_is s.moves.items s.cutters.slabs s.depth s.cutters.stacks.items s.cutters.places.items s.readied.ready.items c.args.number c.index-place.result.now c.index.result.now c.index-2.result.now
-    c.behind-self.inside.sweep c.index-3.result.now c.self.invariant.5 c.self.invariant.7.1 (search rules) c.index-place.ensures c.index-2.ensures c.index.ensures
-    (ap (λ (m : JobMove). m.motion) c.behind-self.view_is) c.index-3.ensures
+    ready_is s.moves.items s.cutters.slabs s.depth s.cutters.stacks.items s.cutters.places.items (s.readied.early.items ++ s.readied.late.items) c.args.number c.index-place.result.now
+    c.index.result.now c.index-2.result.now c.behind-self.inside.sweep c.ready.result.now c.self.invariant.5 c.self.invariant.7.1 (search rules) c.index-place.ensures c.index-2.ensures
+    c.index.ensures (ap (λ (m : JobMove). m.motion) c.behind-self.view_is) c.ready.ensures

@@ -1,5 +1,5 @@
 use Rattle.std.proofs.Common.{rules}
-use Rattle.strip_plan.proofs.reckoned.readied_by_two.Goals as goal
+use Rattle.strip_plan.proofs.reckoned.readied_at_once.Goals as goal
 
 -- the cylinders are those of every depth, so of the plan's
 pub returns : goal.returns
