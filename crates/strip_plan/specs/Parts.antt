@@ -1,8 +1,10 @@
 -- What a plan keeps besides its moves and edits.
 use Rattle.std.specs.Prelude.{ℕ, List, ◌++◌, length}
+use Rattle.std.specs.Global.{Vec}
 use Rattle.ray_grid.specs.Grids.{GridSize}
 use Rattle.edit_plan.specs.declared.edit.Edit.{Edit}
 use Rattle.job_model.specs.Tasks.{JobMove}
+use Rattle.wanted_marks.specs.declared.ready_move.ReadyMove.{ReadyMove}
 use Rattle.strip_plan.specs.declared.cutters.Cutters.{Cutters}
 use Rattle.strip_plan.specs.declared.reckoned.Entered.{Entered}
 use Rattle.strip_plan.specs.declared.reckoned.Readied.{Readied}
@@ -22,8 +24,12 @@ IsEnteredBy grid slabs depth moves edits entered =
     HasBoxes grid slabs depth moves entered.boxes.hulls.items entered.boxes.boxes.items entered.boxes.starts.items (length moves)
     × AreGroups entered.boxes.hulls.items edits entered.groups.items
 
--- each move has its cylinder, and what is reckoned of it for its marks: that of the first moves in one list, and that of the rest in another
+-- what is reckoned of each move for its marks: that of the first moves in one list, and that of the rest in another
+abbrev pub AreHalves : ℕ → ℕ → List JobMove → Vec ReadyMove × Vec ReadyMove → Type 0
+AreHalves slabs depth moves halves = HasReadyMoves slabs depth moves 0 (length moves) (halves.0.items ++ halves.1.items)
+
+-- each move has its cylinder, and what is reckoned of it for its marks
 abbrev pub IsReadiedFor : GridSize → ℕ → ℕ → List JobMove → Readied → Type 0
 IsReadiedFor grid slabs depth moves readied =
     HasCylinders grid slabs depth moves readied.cylinders.items (length moves)
-    × HasReadyMoves slabs depth moves 0 (length moves) (readied.early.items ++ readied.late.items)
+    × AreHalves slabs depth moves (readied.early, readied.late)

@@ -2,7 +2,7 @@ ghost use Rattle.std.specs.Prelude.{◌≡◌, ℕ, ◌<◌, ◌≤◌, Some, �
 ghost use Rattle.std.specs.Thread.{IsSync};
 ghost use Rattle.edit_plan.specs.Edits.{AppliesBelow};
 ghost use Rattle.strip_plan.specs.Cylinders.{HasCylinders};
-ghost use Rattle.strip_plan.specs.Parts.{AreStacksOf, IsEnteredBy, IsReadiedFor};
+ghost use Rattle.strip_plan.specs.Parts.{AreHalves, AreStacksOf, IsEnteredBy, IsReadiedFor};
 ghost use Rattle.strip_plan.specs.ReadyMoves.{HasReadyMoves};
 
 use crate::boxes::{Boxes, boxes_of};
@@ -103,7 +103,7 @@ fn halves_at_once<R: Threads + Sync>(
 ) -> Result<(Vec<ReadyMove>, Vec<ReadyMove>), NoMemory>
     requires shallow { depth ≤ 10 }
     requires stacks { AreStacksOf moves.now cutters.now }
-    ensures { IfOk result (λ made. HasReadyMoves cutters.now.slabs depth moves.now 0 (length moves.now) (made.0.items ++ made.1.items)) }
+    ensures { IfOk result (AreHalves cutters.now.slabs depth moves.now) }
 {
     let half = moves.len() / 2;
     let front = move || -> Result<Vec<ReadyMove>, NoMemory>
@@ -112,7 +112,8 @@ fn halves_at_once<R: Threads + Sync>(
     { ready_moves_of(alloc, grid, depth, moves, cutters, 0, half) };
     let back = move || -> Result<Vec<ReadyMove>, NoMemory>
         requires { (depth ≤ 10) × AreStacksOf moves.now cutters.now × (half ≤ length moves.now) }
-        ensures { IfOk result (λ made. HasReadyMoves cutters.entry.now.slabs depth moves.entry.now half (length moves.entry.now) made.items) }
+        ensures { IfOk result (λ made. HasReadyMoves cutters.entry.now.slabs depth moves.entry.now half (length moves.entry.now)
+            made.items) }
     { ready_moves_of(alloc, grid, depth, moves, cutters, half, moves.len()) };
     let (early, late) = join(rt, front, back);
     let early = early?;
@@ -132,7 +133,7 @@ fn halves_by<R: Threads + Sync>(
 ) -> Result<(Vec<ReadyMove>, Vec<ReadyMove>), NoMemory>
     requires shallow { depth ≤ 10 }
     requires stacks { AreStacksOf moves.now cutters.now }
-    ensures { IfOk result (λ made. HasReadyMoves cutters.now.slabs depth moves.now 0 (length moves.now) (made.0.items ++ made.1.items)) }
+    ensures { IfOk result (AreHalves cutters.now.slabs depth moves.now) }
 {
     if workers < 4 {
         let early = ready_moves_of(alloc, grid, depth, moves, cutters, 0, moves.len())?;
@@ -162,8 +163,7 @@ fn readied_at_once<R: Threads + Sync>(
     { cylinders_of(alloc, grid, moves, cutters) };
     let back = move || -> Result<(Vec<ReadyMove>, Vec<ReadyMove>), NoMemory>
         requires { IsSync R.row × (depth ≤ 10) × AreStacksOf moves.now cutters.now }
-        ensures { IfOk result (λ made. HasReadyMoves cutters.entry.now.slabs depth moves.entry.now 0 (length moves.entry.now)
-            (made.0.items ++ made.1.items)) }
+        ensures { IfOk result (AreHalves cutters.entry.now.slabs depth moves.entry.now) }
     { halves_by(rt, alloc, grid, depth, moves, cutters, workers) };
     let (cylinders, halves) = join(rt, front, back);
     let cylinders = cylinders?;

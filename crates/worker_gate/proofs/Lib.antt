@@ -6,3 +6,4 @@ pub mod Draws
 pub mod Crewing
 pub mod Sent
 pub mod Finished
+pub mod Rounds

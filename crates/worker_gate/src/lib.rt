@@ -3,6 +3,7 @@
 
 mod asker;
 mod gate;
+mod round;
 mod team;
 mod threads;
 mod worker;

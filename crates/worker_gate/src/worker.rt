@@ -4,6 +4,7 @@ ghost use Rattle.worker_gate.specs.Workers.{IsDone, IsFresh};
 ghost use Rattle.worker_gate.specs.Work.{is_short, turns_due};
 
 use crate::gate::Gate;
+use crate::round::Round;
 use strip_turns::{Board, Pass, Turned};
 
 /// The edits that a turn does at the most.
@@ -23,11 +24,11 @@ pub(crate) fn work<G: Gate>(board: &Board, worker: &mut Worker, gate: &G)
     ensures done { IsDone board.now worker.new }
     ensures number { worker.new.pass.seat.me.0.number ≡ worker.old.pass.seat.me.0.number }
 {
-    let strips = u64::from(board.plan().grid().strips());
+    let mut round = Round::first_of(board.plan().grid().strips());
     let due = turns_due(board);
     let mut ticket = board.claim(&mut worker.pass);
     while ticket < due {
-        let strip = (ticket % strips) as u32;
+        let strip = round.strip_of(ticket);
         gate.enter(strip, ticket);
         let turned = board.turn(&mut worker.pass, strip);
         if is_short(turned) {
