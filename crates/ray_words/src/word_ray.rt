@@ -210,17 +210,30 @@ impl WordRay {
         Ok(words)
     }
 
-    /// A stretch with the words from `lo` on and below `hi`, and with those that are kept.
+    /// A stretch with the words from `lo` on and below `hi`, and with those that are kept. Where words are kept and it has to grow, it
+    /// grows by as many more: moves that go on along a ray have it copied a few times, and not for each word that they come to.
     fn stretch(&self, lo: u32, hi: u32) -> (u32, u32)
         requires some { lo < hi }
         requires within { hi ≤ words_below (length self.now.sets.stock) }
         ensures { IsStretch self.now lo hi result }
     {
         if self.words.is_empty() {
-            (lo, hi)
-        } else {
-            (lo.min(self.first), hi.max(self.end()))
+            return (lo, hi);
         }
+        let (first, end) = (self.first, self.end());
+        let spare = end - first;
+        let words = self.stock.bound().div_ceil(64);
+        let from = if first <= lo {
+            first
+        } else {
+            lo.saturating_sub(spare)
+        };
+        let to = if hi <= end {
+            end
+        } else {
+            hi.saturating_add(spare).min(words)
+        };
+        (from, to)
     }
 
     /// The first word past those that are kept.
