@@ -1,5 +1,5 @@
 /// What is known of a point and a move: not met, perhaps met, or removed.
-#[derive(Clone, Copy, Debug, PartialEq, Eq)]
+#[derive(Clone, Copy, PartialEq, Eq)]
 pub enum Mark {
     Clear,
     Possible,

@@ -5,7 +5,7 @@ use std::marker::Model;
 ///
 /// Coordinates are micrometres within 1,000,000 of the origin, axis components within 100,000. Both axes differ from zero and
 /// they are not of opposite directions, so that the axis is zero at no time.
-#[derive(Clone, Copy, Debug, PartialEq, Eq)]
+#[derive(Clone, Copy)]
 pub struct Sweep {
     pub from: [i32; 3],
     pub to: [i32; 3],

@@ -9,13 +9,13 @@ use crate::sign::{each_above, each_below};
 
 /// Coefficients of degree 2 in time and 1 along a line: the sum of `c[k][m] * x^k * y^(2-k) * v^m * w^(1-m)`, where x stands for
 /// the time t and y for 1 - t, v for the place s between two points of the line and w for 1 - s.
-#[derive(Clone, Copy, Debug, PartialEq, Eq)]
+#[derive(Clone, Copy)]
 pub struct Grid21 {
     pub c: [[i128; 2]; 3],
 }
 
 /// Coefficients of degree 4 in time and 2 along a line: the sum of `c[k][m] * x^k * y^(4-k) * v^m * w^(2-m)`.
-#[derive(Clone, Copy, Debug, PartialEq, Eq)]
+#[derive(Clone, Copy)]
 pub struct Grid42 {
     pub c: [[i128; 3]; 5],
 }

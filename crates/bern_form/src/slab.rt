@@ -2,7 +2,7 @@ use std::marker::Model;
 
 /// A slab of a cutter: the heights above the tip from `lo` to `hi`, both included, as far as half of `dia` from the axis,
 /// boundary included. Micrometres, with 0 <= lo <= hi <= 300,000 and 0 <= dia <= 200,000.
-#[derive(Clone, Copy, Debug, PartialEq, Eq)]
+#[derive(Clone, Copy)]
 pub struct Slab {
     pub lo: i32,
     pub hi: i32,

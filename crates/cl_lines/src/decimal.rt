@@ -7,7 +7,7 @@ ghost use Rattle.cl_lines.specs.Numbers.{exponent_of, fraction_of, most_digits, 
 use vf_text::{read_count, spell, split_digits};
 
 /// A decimal number as it is written: its digits, times 10^up, divided by 10^down.
-#[derive(Clone, Copy, Debug)]
+#[derive(Clone, Copy)]
 pub struct Decimal {
     pub negative: bool,
     pub digits: u128,

@@ -4,7 +4,7 @@ use crate::word::Word;
 
 /// What is wrong with a cutter location text, in the order in which the faults of one record are judged. The names are those
 /// that are printed.
-#[derive(Clone, Copy, Debug, PartialEq, Eq)]
+#[derive(Clone, Copy)]
 pub enum ClWhy {
     /// The record's text has more bytes than the most.
     LineLong,
@@ -35,14 +35,14 @@ pub enum ClWhy {
 }
 
 /// A fault of a cutter location text, with the number of the line where its record begins.
-#[derive(Clone, Copy, Debug, PartialEq, Eq)]
+#[derive(Clone, Copy)]
 pub struct ClFault {
     pub line: u32,
     pub why: ClWhy,
 }
 
 /// How a read ends that gives nothing.
-#[derive(Clone, Copy, Debug, PartialEq, Eq)]
+#[derive(Clone, Copy)]
 pub enum ClEnd {
     Refused(ClFault),
     NoMemory,

@@ -17,7 +17,7 @@ pub(crate) struct Joined<'a> {
 }
 
 /// Why a record's lines were not joined.
-#[derive(Clone, Copy, Debug)]
+#[derive(Clone, Copy)]
 pub(crate) enum JoinEnd {
     TooLong,
     NoMemory,

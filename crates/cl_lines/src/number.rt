@@ -7,14 +7,14 @@ use crate::decimal::{Decimal, number};
 use crate::rounding::rounded;
 
 /// The unit of the lengths in a text.
-#[derive(Clone, Copy, Debug, PartialEq, Eq)]
+#[derive(Clone, Copy)]
 pub enum Unit {
     Mm,
     Inch,
 }
 
 /// Why a text gives no number.
-#[derive(Clone, Copy, Debug, PartialEq, Eq)]
+#[derive(Clone, Copy)]
 pub enum NumberFault {
     /// The text is no number.
     Syntax,

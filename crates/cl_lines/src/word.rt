@@ -2,7 +2,7 @@ ghost use Rattle.std.specs.Prelude.{◌≡◌};
 ghost use Rattle.cl_lines.specs.Words.{word_name};
 
 /// The major words whose records are refused, since they can change the motion or the tool axis.
-#[derive(Clone, Copy, Debug, PartialEq, Eq)]
+#[derive(Clone, Copy)]
 pub enum Word {
     Circle,
     Cycle,

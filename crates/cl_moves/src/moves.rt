@@ -10,7 +10,7 @@ pub const MAX_MOVES: usize = 50_000;
 
 /// A move of the tool, on the line of its record. Tips are in micrometres, axes in 1/100,000. Tip and
 /// axis are linear in time from one end to the other.
-#[derive(Clone, Copy, Debug, PartialEq, Eq)]
+#[derive(Clone, Copy)]
 pub struct Move {
     pub line: u32,
     pub rapid: bool,

@@ -10,7 +10,7 @@ use cl_lines::ClWhy;
 
 /// A cutter as the text gives it, in micrometres: its diameter, its corner radius, and its height where one is given. The flank
 /// leans outwards by whole degrees.
-#[derive(Clone, Copy, Debug, PartialEq, Eq)]
+#[derive(Clone, Copy)]
 pub struct CutterText {
     pub d: i32,
     pub r: i32,

@@ -1,5 +1,5 @@
 /// How a number parameter is read, and between which bounds, both included.
-#[derive(Clone, Copy, Debug)]
+#[derive(Clone, Copy)]
 pub enum Kind {
     /// A length in micrometres.
     Length(i32, i32),

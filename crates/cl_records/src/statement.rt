@@ -15,7 +15,7 @@ use crate::word::{Keyword, Major, major_word, spells, split_word};
 use cl_lines::{ClWhy, Unit, Word};
 
 /// A record of a cutter location text. Tips and distances are in micrometres, axes in 1/100,000.
-#[derive(Clone, Copy, Debug, PartialEq, Eq)]
+#[derive(Clone, Copy)]
 pub enum Record {
     /// A move to a position.
     Goto {
@@ -44,7 +44,7 @@ pub enum Record {
 }
 
 /// A tip and, where one is given, the tool axis.
-#[derive(Clone, Copy, Debug)]
+#[derive(Clone, Copy)]
 pub struct Position {
     pub tip: [i32; 3],
     pub axis: Option<[i32; 3]>,

@@ -8,7 +8,7 @@ use cl_lines::Word;
 use vf_text::skip_blanks;
 
 /// The major words whose records are read.
-#[derive(Clone, Copy, Debug, PartialEq, Eq)]
+#[derive(Clone, Copy)]
 pub enum Keyword {
     Goto,
     From,
@@ -21,7 +21,7 @@ pub enum Keyword {
 }
 
 /// What is done with a record, by its major word.
-#[derive(Clone, Copy, Debug, PartialEq, Eq)]
+#[derive(Clone, Copy)]
 pub enum Major {
     Read(Keyword),
     Refused(Word),

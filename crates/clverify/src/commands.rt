@@ -31,7 +31,7 @@ use vf_io::{NoMemory, Shelf};
 use worker_gate::Gate;
 
 /// What the words after the program's name ask for.
-#[derive(Clone, Copy, Debug)]
+#[derive(Clone, Copy)]
 pub(crate) enum Command<'a> {
     /// Print the moves of a cutter location file.
     List { file: &'a str },

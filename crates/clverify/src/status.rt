@@ -6,7 +6,7 @@ use report_text::Fault;
 use std::process::ExitCode;
 
 /// How a call of the program ended.
-#[derive(Clone, Copy, Debug, PartialEq, Eq)]
+#[derive(Clone, Copy)]
 pub enum Status {
     /// All was done, and nothing was found.
     Clean,

@@ -7,7 +7,7 @@ use std::marker::Model;
 /// plane and the flank; a greater angle makes a cone that widens upwards. Micrometres, with 1 <= d <= 200,000, 0 <= 2r <= d,
 /// 1 <= h <= 300,000, r <= h, an angle that `space::is_flank` knows, no corner under a greater angle than 0, and at most 200,000
 /// wide at the top.
-#[derive(Clone, Copy, Debug, PartialEq, Eq)]
+#[derive(Clone, Copy, PartialEq, Eq)]
 pub struct Cutter {
     pub d: i32,
     pub r: i32,

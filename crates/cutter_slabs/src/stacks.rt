@@ -15,7 +15,7 @@ use vf_io::NoMemory;
 
 /// The two stacks of slabs of a cutter, each of at most n slabs and one. The inner stack lies in the lower cutter, and the upper
 /// cutter in the outer stack.
-#[derive(Debug, Drop)]
+#[derive(Drop)]
 pub struct Stacks {
     cutter: Cutter,
     slabs: u32,

@@ -11,7 +11,7 @@ use vf_spans::Spans;
 
 /// What a move changes on a ray: the indices that became sure, those that became possible, and what
 /// the move finds there.
-#[derive(Debug, Drop)]
+#[derive(Drop)]
 pub struct Delta {
     pub sure: Spans,
     pub possible: Spans,

@@ -14,7 +14,7 @@ use vf_spans::Spans;
 
 /// The sets of one ray: the indices that are stock, part and fixture, those of which some move was
 /// sure, and those at which some move was possible.
-#[derive(Debug, Drop)]
+#[derive(Drop)]
 pub struct Dexel {
     stock: Spans,
     part: Spans,

@@ -10,7 +10,7 @@ use crate::ones::{ones, ones_meet, ones_meet_minus, rapid_ones};
 use job_facts::{Counts, Totals};
 
 /// What is known of 64 points of a ray: bit b of each word is the point at the index first + b.
-#[derive(Clone, Copy, Debug, PartialEq, Eq)]
+#[derive(Clone, Copy)]
 pub struct WordSets {
     pub stock: u64,
     pub part: u64,
@@ -23,7 +23,7 @@ pub struct WordSets {
 
 /// What a move adds to the sets of 64 points: those of which it is the first to be sure, and those
 /// at which it is the first to be possible.
-#[derive(Clone, Copy, Debug, PartialEq, Eq)]
+#[derive(Clone, Copy)]
 pub struct WordDelta {
     pub sure: u64,
     pub possible: u64,

@@ -9,7 +9,7 @@ use vf_io::NoMemory;
 pub const MAX_EDITS: usize = 100_000;
 
 /// What is done to the moves that are left and to those that were dropped.
-#[derive(Clone, Copy, Debug, PartialEq, Eq)]
+#[derive(Clone, Copy, PartialEq, Eq)]
 pub enum Edit {
     /// The move of this number, from 0, is applied.
     Apply(u32),

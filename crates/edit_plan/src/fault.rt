@@ -2,7 +2,7 @@ ghost use Rattle.std.specs.Prelude.{◌≡◌};
 
 /// What is wrong with a line of a script, in the order in which one line is judged, but for `RedoDepth`, which is judged last.
 /// The names are those that are printed.
-#[derive(Clone, Copy, Debug, PartialEq, Eq)]
+#[derive(Clone, Copy)]
 pub enum ScriptWhy {
     /// The line is none of the grammar.
     ScriptSyntax,
@@ -20,14 +20,14 @@ pub enum ScriptWhy {
 }
 
 /// A fault of a script, with the number of its line.
-#[derive(Clone, Copy, Debug, PartialEq, Eq)]
+#[derive(Clone, Copy)]
 pub struct ScriptFault {
     pub line: u32,
     pub why: ScriptWhy,
 }
 
 /// How a read ends that gives no script.
-#[derive(Clone, Copy, Debug, PartialEq, Eq)]
+#[derive(Clone, Copy)]
 pub enum ScriptEnd {
     Refused(ScriptFault),
     NoMemory,

@@ -9,7 +9,7 @@ use vf_io::NoMemory;
 pub const MAX_QUERIES: usize = 1000;
 
 /// What is asked: for one point of the lattice, or for the totals.
-#[derive(Clone, Copy, Debug, PartialEq, Eq)]
+#[derive(Clone, Copy)]
 pub enum Ask {
     /// The point `l` of a ray, counted from 0.
     Probe { ray: Ray, l: u32 },
@@ -17,7 +17,7 @@ pub enum Ask {
 }
 
 /// A question, and after how many of the edits it is asked.
-#[derive(Clone, Copy, Debug, PartialEq, Eq)]
+#[derive(Clone, Copy)]
 pub struct Query {
     pub version: u32,
     pub ask: Ask,

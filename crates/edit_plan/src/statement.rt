@@ -8,7 +8,7 @@ use ray_grid::{Family, Ray};
 use vf_text::read_count;
 
 /// The editions of the grammar.
-#[derive(Clone, Copy, Debug, PartialEq, Eq)]
+#[derive(Clone, Copy)]
 pub(crate) enum Edition {
     First,
     Second,
@@ -27,7 +27,7 @@ impl Edition {
 }
 
 /// What a line says.
-#[derive(Clone, Copy, Debug, PartialEq, Eq)]
+#[derive(Clone, Copy)]
 pub(crate) enum Statement {
     /// The moves from one to another are applied, counted from 1.
     Run { first: u32, last: u32 },

@@ -2,7 +2,7 @@ use report_text::{Fault, Input};
 use vf_io::{NoMemory, ReadEnd};
 
 /// How a run ends that writes nothing of what was read.
-#[derive(Clone, Copy, Debug, PartialEq, Eq)]
+#[derive(Clone, Copy)]
 pub(crate) enum Ending {
     /// The words ask for nothing.
     Usage,

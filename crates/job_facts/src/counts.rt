@@ -2,7 +2,7 @@ ghost use Rattle.std.specs.Prelude.{◌≡◌};
 ghost use Rattle.job_facts.specs.Counts.{AreWithin, is_safe, most_count, no_counts, plus};
 
 /// How many points a move meets. What is possible includes what is sure.
-#[derive(Clone, Copy, Debug, PartialEq, Eq)]
+#[derive(Clone, Copy)]
 pub struct Counts {
     /// Stock points that are sure by this move and were not before.
     pub removed: u64,

@@ -4,7 +4,7 @@ use edit_plan::Ask;
 use std::marker::Model;
 
 /// What was found of a move that is left: its number from 1, the line of its record, whether it is rapid, and its counts.
-#[derive(Clone, Copy, Debug, PartialEq, Eq)]
+#[derive(Clone, Copy)]
 pub struct Found {
     pub number: u32,
     pub line: u32,

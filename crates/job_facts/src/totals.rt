@@ -6,7 +6,7 @@ ghost use Rattle.job_facts.specs.Totals.{TotalsWithin, no_totals, plus_totals};
 use edit_plan::Ask;
 
 /// What is known of a point at a version.
-#[derive(Clone, Copy, Debug, PartialEq, Eq)]
+#[derive(Clone, Copy, PartialEq, Eq)]
 pub enum PointState {
     /// It isn't stock.
     Absent,
@@ -19,7 +19,7 @@ pub enum PointState {
 }
 
 /// How many stock points are removed and possible at a version, of how many.
-#[derive(Clone, Copy, Debug, PartialEq, Eq)]
+#[derive(Clone, Copy, PartialEq, Eq)]
 pub struct Totals {
     /// Those that are sure by some move that is left.
     pub removed: u64,
@@ -55,7 +55,7 @@ impl Totals {
 }
 
 /// The answer to a query.
-#[derive(Clone, Copy, Debug, PartialEq, Eq)]
+#[derive(Clone, Copy, PartialEq, Eq)]
 pub enum Answer {
     /// The state of the point that is probed.
     Probe(PointState),

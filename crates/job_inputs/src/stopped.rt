@@ -1,7 +1,7 @@
 use report_text::Fault;
 
 /// What stops a command before it has a report.
-#[derive(Clone, Copy, Debug)]
+#[derive(Clone, Copy)]
 pub enum Stopped {
     /// An input is refused.
     Refused(Fault),

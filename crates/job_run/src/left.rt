@@ -8,7 +8,7 @@ use strip_plan::Plan;
 use vf_io::NoMemory;
 
 /// A move that is left, as the plan tells it: its number from 1, the line of its record, and whether it is rapid.
-#[derive(Clone, Copy, Debug, PartialEq, Eq)]
+#[derive(Clone, Copy)]
 pub struct LeftMove {
     pub number: u32,
     pub line: u32,

@@ -5,7 +5,7 @@ ghost use Rattle.made_program.specs.Made.{first_place, place_by, place_from};
 use crate::draw::draw;
 
 /// Where the tool is: its tip in micrometres, and its axis in 1/100,000.
-#[derive(Clone, Copy, Debug)]
+#[derive(Clone, Copy)]
 pub(crate) struct Place {
     pub(crate) tip: [i32; 3],
     pub(crate) axis: [i32; 3],

@@ -9,7 +9,7 @@ use cutter_slabs::Cutter;
 
 /// What stands where a program leaves it open: the cutter of a move that has none, where there is one, and the height of a cutter
 /// that has none, in micrometres.
-#[derive(Clone, Copy, Debug)]
+#[derive(Clone, Copy)]
 pub struct Usual {
     pub cutter: Option<CutterText>,
     pub height: i32,

@@ -6,7 +6,7 @@ use std::marker::Model;
 /// Lengths are micrometres. Node n of axis a lies at `origin[a] + n * pitch`, for n below
 /// `counts[a]`. Point l of a ray along axis a lies at `origin[a] + l * step`, for l below
 /// `counts[a] * (pitch / step)`.
-#[derive(Clone, Copy, Debug, PartialEq, Eq)]
+#[derive(Clone, Copy, PartialEq, Eq)]
 pub struct Grid {
     pub origin: [i32; 3],
     pub pitch: i32,

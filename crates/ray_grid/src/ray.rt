@@ -1,5 +1,5 @@
 /// The axis along which a ray runs.
-#[derive(Clone, Copy, Debug, PartialEq, Eq)]
+#[derive(Clone, Copy)]
 pub enum Family {
     X,
     Y,
@@ -49,7 +49,7 @@ impl Family {
 ///
 /// A ray along z has the x node `i` and the y node `j`; along x, the y node `i` and the z node `j`;
 /// along y, the x node `i` and the z node `j`.
-#[derive(Clone, Copy, Debug, PartialEq, Eq)]
+#[derive(Clone, Copy)]
 pub struct Ray {
     pub family: Family,
     pub i: u32,

@@ -14,7 +14,7 @@ use cutter_slabs::Stacks;
 use ray_grid::{Grid, Ray};
 
 /// A part of a move: 2^`levels` cells, from the sample `first` on.
-#[derive(Clone, Copy, Debug, PartialEq, Eq)]
+#[derive(Clone, Copy)]
 pub struct OpenStretch {
     pub first: u32,
     pub levels: u32,

@@ -11,7 +11,7 @@ use cutter_slabs::Stacks;
 use ray_grid::{Grid, Ray};
 
 /// Points of a ray by their indices, from the first to the last, both included.
-#[derive(Clone, Copy, Debug, PartialEq, Eq)]
+#[derive(Clone, Copy)]
 pub struct Run {
     pub first: u32,
     pub last: u32,

@@ -8,7 +8,7 @@ use vf_io::NoMemory;
 
 /// The points that all its planes hold; with no plane, every point. It knows of its last six planes whether they are the sides of a
 /// box along the axes.
-#[derive(Debug, Drop)]
+#[derive(Drop)]
 pub struct Body {
     planes: Vec<Plane>,
     is_boxed: bool,
@@ -90,7 +90,7 @@ impl Body {
 }
 
 /// The points of any of the bodies; with no body, none.
-#[derive(Debug, Drop)]
+#[derive(Drop)]
 pub struct Bodies {
     bodies: Vec<Body>,
 }

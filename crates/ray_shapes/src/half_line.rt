@@ -4,7 +4,7 @@ ghost use Rattle.ray_grid.specs.Selects.{Selects};
 ghost use Rattle.ray_shapes.specs.Sizes.{IsTerm};
 
 /// Indices from `lo` up to `hi`, `hi` excluded.
-#[derive(Clone, Copy, Debug, PartialEq, Eq)]
+#[derive(Clone, Copy)]
 pub struct Interval {
     pub lo: u32,
     pub hi: u32,

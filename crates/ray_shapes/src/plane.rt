@@ -9,7 +9,7 @@ use crate::line::Line;
 use ray_grid::Family;
 
 /// The points with `a * x + b * y + c * z <= d`, lengths in micrometres.
-#[derive(Clone, Copy, Debug, PartialEq, Eq)]
+#[derive(Clone, Copy)]
 pub struct Plane {
     pub a: i32,
     pub b: i32,

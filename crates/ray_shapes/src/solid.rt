@@ -1,7 +1,7 @@
 use crate::body::Bodies;
 
 /// A set of points, by what it is made of.
-#[derive(Debug, Drop)]
+#[derive(Drop)]
 pub enum Solid {
     /// The points of any of the bodies.
     Bodies(Bodies),

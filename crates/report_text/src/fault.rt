@@ -11,7 +11,7 @@ use vf_io::NoMemory;
 use vf_text::Page;
 
 /// The files that are read.
-#[derive(Clone, Copy, Debug, PartialEq, Eq)]
+#[derive(Clone, Copy)]
 pub enum Input {
     /// The cutter location text.
     Cl,
@@ -22,7 +22,7 @@ pub enum Input {
 }
 
 /// Why an input is refused.
-#[derive(Clone, Copy, Debug, PartialEq, Eq)]
+#[derive(Clone, Copy)]
 pub enum Fault {
     /// The file has more bytes than its limit.
     TooLong(Input),

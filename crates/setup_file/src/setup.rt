@@ -20,7 +20,7 @@ use std::alloc::Global;
 use toml::Table;
 
 /// What a job is checked with. Lengths are micrometres.
-#[derive(Debug, Drop)]
+#[derive(Drop)]
 pub struct Setup {
     pub grid: Grid,
     pub stock: Bodies,

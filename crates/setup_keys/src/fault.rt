@@ -1,7 +1,7 @@
 use crate::key::KeyName;
 
 /// Why a setup is refused. The names are those that are printed.
-#[derive(Clone, Copy, Debug, PartialEq, Eq)]
+#[derive(Clone, Copy)]
 pub enum SetupFault {
     /// The text is no TOML.
     SetupSyntax,
@@ -12,7 +12,7 @@ pub enum SetupFault {
 }
 
 /// How a read ends that gives no setup.
-#[derive(Clone, Copy, Debug, PartialEq, Eq)]
+#[derive(Clone, Copy)]
 pub enum SetupEnd {
     Refused(SetupFault),
     NoMemory,

@@ -2,7 +2,7 @@ ghost use Rattle.std.specs.Prelude.{◌≡◌};
 ghost use Rattle.setup_keys.specs.Keys.{key_text, keys_in, name_of};
 
 /// The keys of a setup, in the order in which they are judged; `Setup` is the top level.
-#[derive(Clone, Copy, Debug, PartialEq, Eq)]
+#[derive(Clone, Copy)]
 pub enum KeyName {
     Setup,
     Grid,

@@ -2,7 +2,7 @@ ghost use Rattle.std.specs.Prelude.{◌≡◌, ◌+◌, ◌*◌, ◌<◌, ◌≤
 ghost use Rattle.space.specs.Flanks.{flanks, is_flank, least_widening, lower_tangent, most_widening, top_of, upper_tangent};
 
 /// A flank angle that is read, in whole degrees, with the bounds of its tangent in millionths.
-#[derive(Clone, Copy, Debug, PartialEq, Eq)]
+#[derive(Clone, Copy)]
 pub struct Flank {
     pub degrees: u32,
     pub lower: u32,

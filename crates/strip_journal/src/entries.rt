@@ -12,7 +12,7 @@ use vf_io::NoMemory;
 const MOST_HITS: usize = u32::MAX as usize;
 
 /// An entry as it is kept: in place of its hits their number, which is 0 where it found none, and n for the n-th of the list.
-#[derive(Clone, Copy, Debug)]
+#[derive(Clone, Copy)]
 struct KeptEntry {
     edit: u32,
     from: u32,

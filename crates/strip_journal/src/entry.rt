@@ -6,7 +6,7 @@ use job_facts::Counts;
 
 /// What a move finds on a strip, but for what it removes and comes to be possible at: points of the part and of fixtures, and in
 /// rapid motion of stock. A strip has fewer than 2^32 points.
-#[derive(Clone, Copy, Debug)]
+#[derive(Clone, Copy)]
 pub struct Hits {
     pub part_sure: u32,
     pub part_possible: u32,
@@ -17,7 +17,7 @@ pub struct Hits {
 }
 
 /// An edit that changed a strip, or whose move found something there.
-#[derive(Clone, Copy, Debug)]
+#[derive(Clone, Copy)]
 pub struct Entry {
     pub edit: u32,
     /// Where the changes stand that it made, took back or gave again: from the one place in the list on and below the other.

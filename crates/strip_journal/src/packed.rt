@@ -5,7 +5,7 @@ ghost use Rattle.strip_journal.specs.Packed.{IsClose, spread, unpacked};
 use strip_marks::WordChange;
 
 /// A change in less: most change points that lie close together. The masks count from the first of them.
-#[derive(Clone, Copy, Debug, PartialEq, Eq)]
+#[derive(Clone, Copy)]
 pub struct PackedChange {
     /// The ray's number in its strip; of a change that is kept whole its place among those.
     pub ray: u32,

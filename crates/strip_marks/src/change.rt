@@ -3,7 +3,7 @@ ghost use Rattle.std.specs.Prelude.{◌≡◌};
 use dexel_rays::WordDelta;
 
 /// What an edit changes at 64 points of a ray of a strip: bit b of each word is the point at the index 64 `word` + b.
-#[derive(Clone, Copy, Debug, PartialEq, Eq)]
+#[derive(Clone, Copy)]
 pub struct WordChange {
     /// The ray's number in its strip.
     pub ray: u32,

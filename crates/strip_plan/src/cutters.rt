@@ -10,7 +10,7 @@ use std::collections::BTreeMap;
 use vf_io::NoMemory;
 
 /// A cutter by its four numbers, so that cutters have an order.
-#[derive(Clone, Copy, Debug, PartialEq, Eq, PartialOrd, Ord)]
+#[derive(Clone, Copy, PartialEq, Eq, PartialOrd, Ord)]
 struct Key {
     d: i32,
     r: i32,

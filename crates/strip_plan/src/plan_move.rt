@@ -4,7 +4,7 @@ use std::marker::Model;
 
 /// A move of the program with its cutter, whether it is in rapid motion, and the line where its record begins. It is valid by its
 /// type, as its motion and its cutter are.
-#[derive(Clone, Copy, Debug, PartialEq, Eq)]
+#[derive(Clone, Copy)]
 pub struct PlanMove {
     pub sweep: Sweep,
     pub cutter: Cutter,

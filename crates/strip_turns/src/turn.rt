@@ -12,7 +12,7 @@ use strip_plan::Plan;
 use turn_core::turn_strip;
 
 /// How a turn ended.
-#[derive(Clone, Copy, Debug, PartialEq, Eq)]
+#[derive(Clone, Copy, PartialEq, Eq)]
 pub enum Turned {
     /// The strip went from one version to another.
     Moved { from: u32, to: u32 },

@@ -16,7 +16,7 @@ const USUAL_WORKERS: u32 = 1;
 const WORKER_PLACES: usize = 2;
 
 /// What the words behind `verify` say: the files that they name, and the number of workers.
-#[derive(Clone, Copy, Debug, PartialEq, Eq)]
+#[derive(Clone, Copy)]
 pub struct VerifyWords<'a> {
     pub file: &'a str,
     pub setup: &'a str,

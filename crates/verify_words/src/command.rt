@@ -9,7 +9,7 @@ use std::alloc::{AllocError, Global};
 use vf_io::NoMemory;
 
 /// The values of the four arguments, each where the words give it one.
-#[derive(Clone, Copy, Debug)]
+#[derive(Clone, Copy)]
 pub(crate) struct Values<'a> {
     pub(crate) file: Option<&'a str>,
     pub(crate) setup: Option<&'a str>,

@@ -6,7 +6,7 @@ use crate::shelf::Shelf;
 use std::alloc::{AllocError, Global};
 
 /// How a read of a whole file ends that gives no bytes.
-#[derive(Clone, Copy, Debug, PartialEq, Eq)]
+#[derive(Clone, Copy, PartialEq, Eq)]
 pub enum ReadEnd {
     /// A call outside failed.
     Failed,

@@ -5,7 +5,7 @@ use std::alloc::{AllocError, Global};
 use std::mem::size_of;
 
 /// The edges of a set, in order, which take memory only where they are more than those of one range.
-#[derive(Debug, Drop)]
+#[derive(Drop)]
 pub struct Edges {
     kept: Kept,
     alloc: Global,
@@ -13,7 +13,7 @@ pub struct Edges {
 
 /// How the edges are kept. Most sets have one range or none, so a list stands behind a pointer, and
 /// edges without one are no larger than need be.
-#[derive(Debug, Drop)]
+#[derive(Drop)]
 enum Kept {
     /// There are none.
     Empty,

@@ -5,7 +5,7 @@ ghost use Rattle.vf_spans.specs.Merge.{combined, PassesEdge};
 use std::alloc::{AllocError, Global};
 
 /// What is made of two sets.
-#[derive(Clone, Copy, Debug)]
+#[derive(Clone, Copy)]
 pub enum Operation {
     Union,
     Minus,

@@ -17,7 +17,7 @@ use vf_io::NoMemory;
 /// of edges, the first index of each range and the first one past it, so that two sets with one
 /// bound and the same indices have the same list. A set with one range or none takes no memory of
 /// its own.
-#[derive(Debug, Drop)]
+#[derive(Drop)]
 pub struct Spans {
     bound: u32,
     edges: Edges,

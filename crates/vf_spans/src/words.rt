@@ -18,7 +18,7 @@ use vf_io::NoMemory;
 ///
 /// To contracts it is the same list of flags as `Spans`. Bit b of word n is the index 64 n + b. Its
 /// operations go a word at a time and, but for those that make a set, take no memory.
-#[derive(Debug, Drop)]
+#[derive(Drop)]
 pub struct Words {
     bound: u32,
     words: Vec<u64>,

@@ -8,7 +8,7 @@ pub const LOW_SLAB: usize = 6;
 
 /// The inner slab that was looked for last, at a sample of a move: the number above its own, and what it asks of a point there. Points
 /// beside each other mostly reach the same slab, which is then not looked for again.
-#[derive(Clone, Copy, Debug, PartialEq, Eq)]
+#[derive(Clone, Copy)]
 pub struct Near {
     pub reached: usize,
     pub bounds: Bounds,

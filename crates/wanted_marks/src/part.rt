@@ -8,7 +8,7 @@ use crate::word::{WordMarks, without_bit};
 use axis_cells::Mark;
 
 /// What is marked of a word so far, and which of its wanted points are left.
-#[derive(Clone, Copy, Debug, PartialEq, Eq)]
+#[derive(Clone, Copy)]
 pub struct Part {
     pub marks: WordMarks,
     pub rest: u64,

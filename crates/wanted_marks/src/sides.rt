@@ -5,7 +5,7 @@ use crate::word::bits_without;
 use vf_spans::bits::{bits_from, highest_bit, lowest_bit};
 
 /// The bits of a word in two parts, those below a place and the others.
-#[derive(Clone, Copy, Debug, PartialEq, Eq)]
+#[derive(Clone, Copy)]
 pub struct Sides {
     pub below: u64,
     pub above: u64,

@@ -56,7 +56,7 @@ pub fn asked_at(sure_only: u64, b: u32) -> Asked
 }
 
 /// The marks of a word of 64 points: a bit for each that is sure to be cut, and for each that may be met.
-#[derive(Clone, Copy, Debug, PartialEq, Eq)]
+#[derive(Clone, Copy)]
 pub struct WordMarks {
     pub sure: u64,
     pub possible: u64,

@@ -7,7 +7,7 @@ use bern_form::Slab;
 use cutter_slabs::Stacks;
 
 /// What is asked of a point: its whole mark, or only whether it is sure, which takes less work.
-#[derive(Clone, Copy, Debug, PartialEq, Eq)]
+#[derive(Clone, Copy)]
 pub enum Asked {
     Whole,
     Sure,

@@ -5,7 +5,7 @@ ghost use Rattle.width_bisect.specs.Bounds.{HoldsBy, is_between, meets, no_bound
 use crate::sample::Sample;
 
 /// What a slab asks of the points at a sample: u^2 is between two numbers, and the width no greater than a third one.
-#[derive(Clone, Copy, Debug, PartialEq, Eq)]
+#[derive(Clone, Copy)]
 pub struct Bounds {
     pub low: i128,
     pub high: i128,

@@ -19,7 +19,7 @@ use vf_spans::Spans;
 use vf_steps::Steps;
 
 /// The points of a ray that a move is sure to cut, and those that it may meet, by their indices.
-#[derive(Debug, Drop)]
+#[derive(Drop)]
 pub struct RayMarks {
     pub sure: Spans,
     pub possible: Spans,
