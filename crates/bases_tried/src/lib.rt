@@ -1,15 +1,31 @@
-//! Tries of what all stands on: sets by their ranges, tangents, roots, the slabs of a cutter, counts, and the sets of one ray.
+//! Tries of what all stands on: shelves and sinks, sets by their ranges, tangents, roots, the slabs of a cutter, counts, and the sets of one ray.
 #![tactic(auto)]
 
 #[cfg(test)]
+mod calls;
+#[cfg(test)]
 mod counts;
+#[cfg(test)]
+mod cut_shelves;
 #[cfg(test)]
 mod dexels;
 #[cfg(test)]
+mod folders;
+#[cfg(test)]
+mod lines_put;
+#[cfg(test)]
+mod outputs;
+#[cfg(test)]
 mod roots;
+#[cfg(test)]
+mod shelves;
+#[cfg(test)]
+mod sinks;
 #[cfg(test)]
 mod slabs;
 #[cfg(test)]
 mod spans;
 #[cfg(test)]
 mod tangents;
+#[cfg(test)]
+mod whole_files;

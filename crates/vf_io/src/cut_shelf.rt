@@ -103,6 +103,3 @@ impl Shelf for CutShelf {
         self.shelf.next(&mut buffer[..room])
     }
 }
-
-#[cfg(test)]
-mod tests;

@@ -90,6 +90,3 @@ impl<'a, R: Files> Shelf for FolderShelf<'a, R> {
         }
     }
 }
-
-#[cfg(test)]
-mod tests;

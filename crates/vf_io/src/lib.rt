@@ -2,8 +2,6 @@
 #![tactic(auto)]
 
 mod answers;
-#[cfg(test)]
-mod calls;
 mod cut_shelf;
 mod folder_shelf;
 mod memory_shelf;

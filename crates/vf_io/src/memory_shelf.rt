@@ -198,6 +198,3 @@ fn copy_front(buffer: &mut [u8], bytes: &[u8]) -> usize
     buffer[..count].copy_from_slice(&bytes[..count]);
     count
 }
-
-#[cfg(test)]
-pub(crate) mod tests;

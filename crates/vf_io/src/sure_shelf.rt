@@ -80,6 +80,3 @@ impl Shelf for SureShelf {
         self.shelf.next(buffer)
     }
 }
-
-#[cfg(test)]
-mod tests;

@@ -25,6 +25,3 @@ impl Sink for SureSink {
         Ok(())
     }
 }
-
-#[cfg(test)]
-mod tests;

@@ -94,6 +94,3 @@ fn read_open<S: Shelf>(
         }
     }
 }
-
-#[cfg(test)]
-mod tests;

@@ -28,6 +28,3 @@ pub fn put_lines<K: Sink>(sink: &mut K, text: &[u8]) -> Result<(), Failed>
     }
     Ok(())
 }
-
-#[cfg(test)]
-mod tests;

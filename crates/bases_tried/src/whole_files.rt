@@ -3,8 +3,8 @@ ghost use Rattle.vf_io.specs.Causes.{HasCause, one_more_failure};
 ghost use Rattle.vf_io.specs.Files.{bytes_of};
 ghost use Rattle.vf_io.specs.Reading.{TakesBytes, CountsRead};
 
-use super::*;
-use crate::answers::Failed;
+use std::alloc::Global;
+use vf_io::{Failed, ReadEnd, Shelf, read_all};
 
 const PART: &str = "CUTTER/2,0\nFINI\n";
 

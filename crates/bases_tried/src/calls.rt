@@ -1,9 +1,8 @@
 ghost use Rattle.std.specs.Prelude.{ℕ, List};
 
-use crate::answers::Failed;
-use crate::shelf::Shelf;
 use std::alloc::Global;
 use std::test::Fail;
+use vf_io::{Failed, Shelf};
 
 /// A call of a shelf: the name that is opened, or none for a read, and the bytes that are due.
 #[derive(Clone, Copy)]

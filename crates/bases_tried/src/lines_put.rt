@@ -3,10 +3,9 @@ ghost use Rattle.std.specs.Io.KnownBytes.{Appends};
 ghost use Rattle.vf_io.specs.Bytes.{AppendsFront, AddsPieces};
 ghost use Rattle.vf_io.specs.Causes.{HasCause};
 
-use super::*;
-use crate::memory_sink::MemSink;
 use std::alloc::Global;
 use std::test::Fail;
+use vf_io::{Failed, MemSink, Sink, put_lines};
 
 const THREE: &str = "one\ntwo\nthree\n";
 

@@ -1,7 +1,7 @@
-use super::*;
 use crate::calls::{Call, gives, owned_files};
 use std::alloc::Global;
 use std::test::Fail;
+use vf_io::{CutShelf, Failed, Shelf};
 
 /// What the reads of a file of seven bytes give, by pieces of so many bytes, and where a call fails.
 #[derive(Clone, Copy)]
