@@ -1,54 +1,43 @@
-//! Marks the points of made rays by each of the fast bodies and by the plain one, and prints how many differ.
+//! Marks the points of the rays of a small plate by each of the fast bodies and by the plain one, and prints how many differ.
 #![tactic(auto)]
 
-mod axes;
+mod boxes;
 mod case;
 mod compare;
-mod dice;
-mod grids;
 mod jobs;
 mod long_ray;
-mod made;
-mod made_cutter;
-mod made_grid;
-mod made_move;
-mod parts;
-mod report;
+mod print;
 mod sets;
 mod tally;
-mod vector;
-mod word_sets;
+mod word_marks;
 mod words;
 
-use crate::report::report_of;
+use crate::jobs::{JOBS, compare_job};
+use crate::long_ray::long_counts;
+use crate::print::{print_job, print_long_ray, print_total};
+use crate::tally::Tally;
 use std::io;
-use vf_io::NoMemory;
 
 fn main(rt: HostRuntime) -> io::Result<()> {
-    let report = match report_of(rt.alloc()) {
-        Ok(report) => report,
-        Err(NoMemory) => return println!(rt; "no memory"),
-    };
-    for row in report.jobs.as_slice() {
-        println!(rt;
-            "job {} depth {} sure {} possible {}",
-            row.job, row.depth, row.sure, row.possible
-        )?;
+    let mut total = Tally::NONE;
+    for (before, job) in JOBS.iter().enumerate() {
+        for depth in 0..4 {
+            let (sure, possible) = (total.sure, total.possible);
+            if compare_job(rt.alloc(), job, depth, &mut total).is_err() {
+                return println!(rt; "no memory");
+            }
+            print_job(
+                &rt,
+                before.wrapping_add(1),
+                depth,
+                total.sure.wrapping_sub(sure),
+                total.possible.wrapping_sub(possible),
+            )?;
+        }
     }
-    let (points, sure, possible) = report.long_ray;
-    println!(rt;
-        "long ray points {} sure {} possible {}",
-        points, sure, possible
-    )?;
-    println!(rt; "made rays {} left out {}", report.made, report.left_out)?;
-    let total = &report.total;
-    println!(rt;
-        "rays {} points {} sure {} possible {} in boxes {}",
-        total.rays, total.points, total.sure, total.possible, total.boxed
-    )?;
-    println!(rt;
-        "differences by points {} by sets {} by words {}",
-        total.of_points, total.of_sets, total.of_words
-    )?;
-    println!(rt; "possible outside of all boxes {}", total.outside)
+    let Ok(counts) = long_counts(rt.alloc()) else {
+        return println!(rt; "no memory");
+    };
+    print_long_ray(&rt, counts)?;
+    print_total(&rt, &total)
 }

@@ -1,3 +1,5 @@
+use crate::words::Word;
+
 /// What was counted over all rays.
 #[derive(Drop)]
 pub(crate) struct Tally {
@@ -15,32 +17,17 @@ pub(crate) struct Tally {
 }
 
 impl Tally {
-    pub(crate) fn new() -> Tally {
-        Tally {
-            rays: 0,
-            points: 0,
-            sure: 0,
-            possible: 0,
-            of_points: 0,
-            of_sets: 0,
-            of_words: 0,
-            outside: 0,
-            boxed: 0,
-        }
-    }
-
-    /// Adds another count to this one.
-    pub(crate) fn add(&mut self, other: &Tally) {
-        self.rays = self.rays.wrapping_add(other.rays);
-        self.points = self.points.wrapping_add(other.points);
-        self.sure = self.sure.wrapping_add(other.sure);
-        self.possible = self.possible.wrapping_add(other.possible);
-        self.of_points = self.of_points.wrapping_add(other.of_points);
-        self.of_sets = self.of_sets.wrapping_add(other.of_sets);
-        self.of_words = self.of_words.wrapping_add(other.of_words);
-        self.outside = self.outside.wrapping_add(other.outside);
-        self.boxed = self.boxed.wrapping_add(other.boxed);
-    }
+    pub(crate) const NONE: Tally = Tally {
+        rays: 0,
+        points: 0,
+        sure: 0,
+        possible: 0,
+        of_points: 0,
+        of_sets: 0,
+        of_words: 0,
+        outside: 0,
+        boxed: 0,
+    };
 }
 
 /// How many bits a word has, and another number.
@@ -48,7 +35,10 @@ pub(crate) fn with_bits(count: u64, word: u64) -> u64 {
     count.wrapping_add(u64::from(word.count_ones()))
 }
 
-/// How many bits of two words differ, and another number.
-pub(crate) fn with_differences(count: u64, first: u64, second: u64) -> u64 {
-    with_bits(count, first ^ second)
+/// How many marks of two words differ, and another number.
+pub(crate) fn with_differences(count: u64, first: &Word, second: &Word) -> u64 {
+    with_bits(
+        with_bits(count, first.sure ^ second.sure),
+        first.possible ^ second.possible,
+    )
 }

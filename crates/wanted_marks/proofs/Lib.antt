@@ -1,7 +1,6 @@
 pub mod BitLemmas
 pub mod Telling
 pub mod Taking
-pub mod WordByWord
 pub mod Stepping
 pub mod Fitting
 pub mod Exceeding

@@ -1,5 +1,5 @@
 -- The points of one ray against one move of a cutter.
-use Rattle.std.specs.Prelude.{◌≡◌, ℕ, ◌+◌, ◌^◌, ◌<◌, Bool, true, false, ◌&&◌, if◌then◌else◌, List, ℤ, length}
+use Rattle.std.specs.Prelude.{◌≡◌, ℕ, ◌+◌, ◌^◌, ◌<◌, Bool, true, false, ◌&&◌, if◌then◌else◌, List, ℤ}
 use Rattle.space.specs.Motion.{Motion}
 use Rattle.cutter_slabs.specs.Cutter.{CutterSize}
 use Rattle.cutter_slabs.specs.Stacks.{StacksOf}
@@ -58,10 +58,6 @@ is_possible_at r l = is_possible_in r.sweep (point_of r.grid r.ray l)
 -- it is told as possible: where only the sure ones are asked for, a sure one alone
 abbrev pub is_told_at : RayOf → Bool → ℕ → Bool
 is_told_at r sure_only l = if sure_only then is_sure_at r l else is_possible_at r l
-
--- the set has a flag for each point of the ray
-abbrev pub IsSetOn : RayOf → List Bool → Type 0
-IsSetOn r set = length set ≡ points_of r.grid r.ray.family
 
 -- each bit of the word, the lowest of which is the index `first`, is a point of the ray
 abbrev pub AreOnRay : RayOf → ℕ → ℕ → Type 0
