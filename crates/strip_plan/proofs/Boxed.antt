@@ -48,8 +48,9 @@ still_in boxes more start end ray l kept most is = record {
   has = λ d. subst (λ (b : IndexBox). HasPoint b ray l) (sym (same_at boxes more is.place d kept (let b = is.before in omega (arith, b, most)))) (is.has d);
 }
 
-pub no_boxes : (grid : GridSize) (slabs depth : ℕ) (moves : List JobMove) → HasBoxes grid slabs depth moves [] [] (0 ∷ []) 0
-no_boxes grid slabs depth moves = record {
+-- no boxes, of no moves
+of_none : (grid : GridSize) (slabs depth : ℕ) (moves : List JobMove) → HasBoxes grid slabs depth moves [] [] (0 ∷ []) 0
+of_none grid slabs depth moves = record {
   as_many = refl;
   many = omega arith;
   within = λ n l. let e : n ≡ 0 = omega (arith, l) in subst (λ (k : ℕ). slice_index (0 ∷ []) k ≤ 0) (sym e) (omega arith);
@@ -58,6 +59,13 @@ no_boxes grid slabs depth moves = record {
   boxes_fit = λ n d l. absurd (omega (arith, l));
   each = λ n move d ray x l at is. absurd (omega (arith, l));
 }
+
+pub no_boxes : (grid : GridSize) (slabs depth : ℕ) (moves : List JobMove) (hulls boxes : List IndexBox) (before starts : List ℕ) → hulls ≡ [] → boxes ≡ [] → before ≡ []
+    → starts ≡ before ++ 0 ∷ [] → HasBoxes grid slabs depth moves hulls boxes starts 0
+no_boxes grid slabs depth moves hulls boxes before starts no_hulls none empty first =
+    subst (λ (xs : List IndexBox). HasBoxes grid slabs depth moves xs boxes starts 0) (sym no_hulls)
+    (subst (λ (xs : List IndexBox). HasBoxes grid slabs depth moves [] xs starts 0) (sym none)
+    (subst (λ (xs : List ℕ). HasBoxes grid slabs depth moves [] [] xs 0) (sym (first ∙ ap (λ (xs : List ℕ). xs ++ 0 ∷ []) empty)) (of_none grid slabs depth moves)))
 
 -- one box more
 one_box : (grid : GridSize) (boxes : List IndexBox) (box : IndexBox) → AreBoxesOf grid boxes → IsBoxOf grid box → AreBoxesOf grid (boxes ++ box ∷ [])

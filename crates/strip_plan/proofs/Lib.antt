@@ -11,3 +11,4 @@ pub mod Cylindered
 pub mod Passed
 pub mod Grouped
 pub mod Readied
+pub mod Stacked

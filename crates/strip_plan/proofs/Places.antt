@@ -24,6 +24,13 @@ still_place stacks more cutter slabs place kept is = record {
   there = λ d. same_at stacks more place d kept is.within ∙ is.there d;
 }
 
+-- no places, of no moves
+pub no_places : (slabs : ℕ) (moves : List JobMove) (stacks : List StacksOf) (places : List ℕ) → places ≡ [] → HasStacks slabs moves stacks places 0
+no_places slabs moves stacks places empty = record { many = ap (λ (xs : List ℕ). length xs) empty; each = λ n move lt at. absurd (omega (arith, lt)) }
+
+pub no_stacks : (slabs : ℕ) (stacks : List StacksOf) → stacks ≡ [] → All (HasSlabs slabs) stacks
+no_stacks slabs stacks none = subst (All (HasSlabs slabs)) (sym none) (λ k d lt. absurd (omega (arith, lt)))
+
 -- the place of one more move
 pub one_more : (slabs : ℕ) (moves : List JobMove) (stacks more : List StacksOf) (places : List ℕ) (count : ℕ) (next : JobMove) (place : ℕ)
     → HasStacks slabs moves stacks places count → take (length stacks) more ≡ stacks → next ≡ get_or moves count next

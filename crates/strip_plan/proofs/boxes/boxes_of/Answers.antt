@@ -4,9 +4,14 @@ use Rattle.cutter_slabs.specs.Stacks.{StacksOf}
 use Rattle.sweep_boxes.specs.declared.point_box.PointBox.{PointBox}
 use Rattle.job_model.specs.Tasks.{JobMove}
 use Rattle.strip_plan.specs.Boxed.{Covers, HasBoxes}
-use Rattle.strip_plan.proofs.Boxed.{more_boxes}
+use Rattle.strip_plan.proofs.Boxed.{more_boxes, no_boxes}
 use Rattle.strip_plan.proofs.Marked.{stacks_are, stacks_within}
 use Rattle.strip_plan.proofs.boxes.boxes_of.Goals as goal
+
+pub loop-n-init : goal.loop-n-init
+loop-n-init c =
+    no_boxes c.args.grid.now c.args.cutters.now.slabs c.args.depth c.args.moves.now c.in_ok-hulls.hulls.items c.new-boxes.result.items c.new-starts.result.items c.push.new.self.items
+    c.in_ok-hulls.ensures.items c.new-boxes.ensures.items c.new-starts.ensures.items c.in_ok-push.ensures.items
 
 pub loop-n-preserved : goal.loop-n-preserved
 loop-n-preserved c =
@@ -39,3 +44,6 @@ index-requires c =
     let lt : c.loop-n.n < length c.args.moves.now = search rules in
     let within = stacks_within c.args.moves.now c.args.cutters.now.slabs c.args.cutters.now.stacks.items c.args.cutters.now.places.items c.loop-n.n c.index-place.result.now c.index-moves-n.result
     c.requires.stacks lt c.index-place.ensures c.index-moves-n.is in search (rules, within)
+
+pub push_several-requires : goal.push_several-requires
+push_several-requires c = c.loop-n.invariant.boxes_fit

@@ -1,10 +1,17 @@
-use Rattle.std.proofs.Common.{List, ℕ, ◌+◌, ◌<◌, ◌≤◌, All, length, rules, subst, sym}
+use Rattle.std.proofs.Common.{List, ℕ, ◌+◌, ◌<◌, ◌≤◌, All, arith, length, rules, subst, sym}
 use Rattle.std.proofs.lemmas.List.{take_all}
 use Rattle.std.proofs.lemmas.List.Elements.{All-more}
 use Rattle.job_model.specs.Tasks.{IsJobMove, JobMove}
 use Rattle.strip_plan.specs.Cutters.{HasStacks, IsStackPlace}
-use Rattle.strip_plan.proofs.Places.{one_more}
+use Rattle.strip_plan.proofs.Places.{no_places, no_stacks, one_more}
 use Rattle.strip_plan.proofs.cutters.cutters_of.Goals as goal
+
+pub loop-next-init : goal.loop-next-init
+loop-next-init c = (
+  no_stacks c.args.slabs c.new-stacks.result.items c.new-stacks.ensures.items,
+  no_places c.args.slabs c.args.moves.now c.new-stacks.result.items c.in_ok-places.places.items c.in_ok-places.ensures.items,
+  λ k d lt. absurd (omega (arith, lt)),
+)
 
 pub loop-next-preserved : goal.loop-next-preserved
 loop-next-preserved c =
