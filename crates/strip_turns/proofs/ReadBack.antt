@@ -7,6 +7,7 @@ use Rattle.ray_grid.specs.Lattice.{points_of}
 use Rattle.ray_grid.specs.Points.{LatticePoint}
 use Rattle.ray_grid.specs.Strips.{strip_at}
 use Rattle.job_facts.specs.declared.totals.PointState.{PointState}
+use Rattle.job_facts.specs.declared.totals.Totals.{Totals}
 use Rattle.job_facts.specs.Totals.{TotalsWithin}
 use Rattle.job_model.specs.Points.{left_moves, point_in, state_after, strip_points, totals_over}
 use Rattle.job_model.specs.Tasks.{Job, PlanOf}
@@ -57,10 +58,15 @@ module _ (c : Card) (k v : ℕ) (s : StripOf) (whole : AreOfPlan c.plan c.strips
       ∙ ap (λ (j : Job). totals_over j (strip_points c.plan.grid k) (left_moves j.plan version)) (job_of c job k v s all case)
 
   -- and no more than its points, whatever the bodies are
-  pub counts_within : (version : ℕ) → TotalsWithin (length (strip_points c.plan.grid k))
+  counts_within : (version : ℕ) → TotalsWithin (length (strip_points c.plan.grid k))
       (totals_over s.job (strip_points s.job.plan.grid s.number) (left_moves s.job.plan version))
   counts_within version =
       subst (λ (points : List LatticePoint). TotalsWithin (length points)
       (totals_over s.job (strip_points s.job.plan.grid s.number) (left_moves s.job.plan version)))
       (ap₂ strip_points grid_of (number_of c k v s whole case))
       (totals_within s.job (left_moves s.job.plan version) (strip_points s.job.plan.grid s.number))
+
+  pub counted_within : (version : ℕ) (t : Totals)
+      → t ≡ totals_over s.job (strip_points s.job.plan.grid s.number) (left_moves s.job.plan version)
+      → TotalsWithin (length (strip_points c.plan.grid k)) t
+  counted_within version t is = subst (TotalsWithin (length (strip_points c.plan.grid k))) (sym is) (counts_within version)

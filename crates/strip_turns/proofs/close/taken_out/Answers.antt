@@ -1,7 +1,7 @@
-use Rattle.std.proofs.Common.{rules, ap, subst, sym, ◌≡◌, ◌∙◌, ◌<◌, ◌+◌, length, Some, None, Option, List}
+use Rattle.std.proofs.Common.{rules, arith, ap, subst, sym, ◌≡◌, ◌∙◌, ◌<◌, ◌+◌, length, Some, None, Option, List}
 use mathlib.Core.Option.{some}
 use lib.ListN.{get_elem?}
-use Rattle.std.specs.Mem.Slots.{slots_items}
+use Rattle.std.specs.Mem.Slots.{slots_items, slots_len}
 use Rattle.strip_journal.specs.Strips.{StripOf}
 use Rattle.strip_turns.specs.Closed.{AllThere, AllOut}
 use Rattle.strip_turns.proofs.Closing.{there_is, all_out_push, filled_after, emptied_after}
@@ -33,3 +33,23 @@ loop-i-preserved c =
       out,
       c.push_reserved.ensures.capacity ∙ inv.5,
     )
+
+pub take-requires : goal.take-requires
+take-requires c =
+    let inv = c.loop-i.invariant in
+    let lt : c.loop-i.i < slots_len c.loop-i.closed.slots = omega (arith, c.loop-i-test.true, c.slot_count-i-end.ensures, inv.0) in
+    (lt, inv.2 c.loop-i.i (omega arith) lt)
+
+pub push_reserved-requires : goal.push_reserved-requires
+push_reserved-requires c =
+    let inv = c.loop-i.invariant in
+    omega (arith, c.loop-i-test.true, c.slot_count-i-end.ensures, inv.4.many, inv.5, c.requires.room.1)
+
+pub free-requires : goal.free-requires
+free-requires c = λ k lt.
+    let inv = c.loop-i.invariant in inv.3 k (omega (arith, c.loop-i-test.false, c.slot_count-i-end.ensures, inv.0))
+
+pub returns : goal.returns
+returns c =
+    let all : c.loop-i.i ≡ slots_len c.args.closed.slots = omega (arith, c.loop-i-test.false, c.loop-i.auto.i-end, c.slot_count-i-end.ensures) in
+    subst (AllOut (slots_items c.args.closed.slots) c.loop-i.strips.items) all c.loop-i.invariant.4

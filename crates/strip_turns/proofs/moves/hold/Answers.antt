@@ -24,3 +24,6 @@ returns-clause-told c =
     let e = c.fetch_add-found.ensures in
     held_told b c.args.strip _ c.args.seat.now c.fetch_add-found.new.seat i (e.0 ∙ i.own)
     (e.2 (card b) c.args.strip i.named c.word_at-word.ensures)
+
+pub returns-clause-own : goal.returns-clause-own
+returns-clause-own c = c.fetch_add-found.ensures.0
