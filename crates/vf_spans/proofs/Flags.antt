@@ -73,6 +73,10 @@ pub bound_is : (bound : ℕ) (es : List ℕ) (v : List Bool) → flags_of bound 
 bound_is bound es v is = sym (length-flags bound es) ∙ ap length is
 
 -- the edges that one walk made of two sets, and what is in their set
+-- the edges that are read ascend as those that are kept
+pub ascends_here : (bound : ℕ) (es given : List ℕ) → given ≡ es → AreEdges bound es → Ascends given
+ascends_here bound es given is h = subst (λ (z : List ℕ). Ascends z) (sym is) h.ascends
+
 pub combined_edges : (op : Operation) (b b' : ℕ) (es es' xs xs' out : List ℕ) (v v' : List Bool) → flags_of b es ≡ v → flags_of b' es' ≡ v' → length v' ≡ length v → AreEdges b es → AreEdges b' es'
     → xs ≡ es → xs' ≡ es' → ((bound : ℕ) → AreEdges bound xs → AreEdges bound xs' → AreEdges bound out) → AreEdges b out
 combined_edges op b b' es es' xs xs' out v v' p q e h h' s s' make =

@@ -1,13 +1,14 @@
 -- One turn of the walk over the edges of two sets.
-use Rattle.std.proofs.Common.{◌≡◌, ℕ, suc, ◌+◌, ◌%◌, ◌<◌, ◌≤◌, ◌⊎◌, ⊎_elim, List, [], ◌∷◌, ◌++◌, length, take, get_or, cond, Bool, true, false, not, eqb, leb, arith, refl, sym, ap, ap₂, ◌∙◌, subst, length-append}
+use Rattle.std.proofs.Common.{◌≡◌, ℕ, suc, zero, inl, inr, ◌+◌, ◌%◌, ◌<◌, ◌≤◌, ◌⊎◌, ⊎_elim, List, [], ◌∷◌, ◌++◌, length, take, get_or, cond, Bool, true, false, not, eqb, leb, arith, refl, sym, ap, ap₂, ◌∙◌, subst, length-append}
+use Rattle.std.proofs.Math.Seq.{take-length}
 use Rattle.std.proofs.lemmas.Bool.{cond_both}
 use Rattle.std.proofs.lemmas.Bool.Decides.{nat_tests}
-use Rattle.std.proofs.lemmas.Grind.{common_steps}
 use Rattle.std.proofs.lemmas.List.{length-take-le}
 use native.Mathlib.Decide.{dec_le}
 use mathlib.Core.Logic.{dite}
 use mathlib.Core.Bool.{beq}
 use Rattle.vf_spans.specs.declared.merge.Operation.{Operation}
+use Rattle.vf_spans.specs.declared.merge.Operation.TheVariants.{Union, Minus, Meet}
 use Rattle.vf_spans.specs.Edges.{inside, Ascends}
 use Rattle.vf_spans.specs.Merge.{combined, PassesEdge}
 
@@ -63,8 +64,17 @@ record Grown (e : ℕ) (p q : List ℕ) : Type 0 where
   above : (x : ℕ) → e ≤ x → inside q x ≡ odd (length q)
   all : AllBelow (e + 1) q
 
+-- an element of a list with one more is one of the list, or that one
+push_at : (p : List ℕ) (e k : ℕ) → k < length (p ++ e ∷ [])
+    → ((k < length p) × (get_or (p ++ e ∷ []) k 0 ≡ get_or p k 0)) ⊎ ((k ≡ length p) × (get_or (p ++ e ∷ []) k 0 ≡ e))
+push_at [] e zero lt = inr (refl, refl)
+push_at [] e (suc k) lt = absurd (omega arith)
+push_at (d ∷ p) e zero lt = inl (omega arith, refl)
+push_at (d ∷ p) e (suc k) lt =
+    ⊎_elim (λ t. inl (let q = t.0 in omega arith, t.1)) (λ t. inr (let q = t.0 in omega arith, t.1)) (push_at p e k (omega arith))
+
 pub all_push : (p : List ℕ) (e : ℕ) → AllBelow e p → AllBelow (e + 1) (p ++ e ∷ [])
-all_push p e h k lt = grind (arith, common_steps)
+all_push p e h k lt = ⊎_elim (λ t. let q = h k t.0 in let r = t.1 in omega arith) (λ t. let r = t.1 in omega arith) (push_at p e k lt)
 
 grown_same : (e : ℕ) (p : List ℕ) → AllBelow e p → Grown e p p
 grown_same e p h = record {
@@ -89,10 +99,14 @@ more_below : (low e : ℕ) (es : List ℕ) → low ≤ e → AllBelow low es →
 more_below low e es le h k lt = let q = h k lt in omega arith
 
 pub ascends_push : (p : List ℕ) (e : ℕ) → Ascends p → AllBelow e p → Ascends (p ++ e ∷ [])
-ascends_push p e a h k m lt lm = grind (arith, common_steps)
+ascends_push p e a h k m lt lm =
+    let size = length-append p (e ∷ []) in
+    let low : k < length p = omega (arith, lm) in
+    let here : get_or (p ++ e ∷ []) k 0 ≡ get_or p k 0 = ⊎_elim (λ t. t.1) (λ t. absurd (let q = t.0 in omega arith)) (push_at p e k (omega arith)) in
+    ⊎_elim (λ t. let q = a k m lt t.0 in let r = t.1 in omega arith) (λ t. let q = h k low in let r = t.1 in omega arith) (push_at p e m lm)
 
 pub within_push : (p : List ℕ) (e bound : ℕ) → AllWithin bound p → e ≤ bound → AllWithin bound (p ++ e ∷ [])
-within_push p e bound h le k lt = grind (arith, common_steps)
+within_push p e bound h le k lt = ⊎_elim (λ t. let q = h k t.0 in let r = t.1 in omega arith) (λ t. let r = t.1 in omega arith) (push_at p e k lt)
 
 grown_out : (e : ℕ) (p q : List ℕ) → AllBelow e p → (q ≡ p) ⊎ (q ≡ p ++ e ∷ []) → Grown e p q
 grown_out e p q h c = ⊎_elim (λ s. subst (λ (r : List ℕ). Grown e p r) (sym s) (grown_same e p h)) (λ s. subst (λ (r : List ℕ). Grown e p r) (sym s) (grown_push e p h)) c
@@ -155,3 +169,40 @@ other_flag false true h = refl
 
 pub odd_push : (es : List ℕ) (e : ℕ) → odd (length (es ++ e ∷ [])) ≡ not (odd (length es))
 odd_push es e = let l = length-append es (e ∷ []) in ap odd (l ∙ (let q : length es + 1 ≡ suc (length es) = omega arith in q)) ∙ odd_suc (length es)
+
+-- past all the edges of both sets the walk has made the set
+pub agreed_set : (op : Operation) (a b out : List ℕ) (i j low : ℕ) → Agrees op a b out i j low → length a ≤ i → length b ≤ j
+    → (x : ℕ) → inside out x ≡ combined op (inside a x) (inside b x)
+agreed_set op a b out i j low h past_a past_b x =
+    let in_a = h.i_in in
+    let in_b = h.j_in in
+    let all_a : i ≡ length a = omega arith in
+    let all_b : j ≡ length b = omega arith in
+    h.same x
+    ∙ ap₂ (λ m n. combined op (inside (take m a) x) (inside (take n b) x)) all_a all_b
+    ∙ ap₂ (λ xs ys. combined op (inside xs x) (inside ys x)) (take-length a) (take-length b)
+
+even_flag : (n : ℕ) → n % 2 ≡ 0 → odd n ≡ false
+even_flag n even = ap (λ m. eqb m 1) even
+
+flag_even : (n : ℕ) → odd n ≡ false → n % 2 ≡ 0
+flag_even n flag = grind (arith, nat_tests)
+
+no_flags : (op : Operation) → combined op false false ≡ false
+no_flags Union = refl
+no_flags Minus = refl
+no_flags Meet = refl
+
+-- and it has both edges of each range, where they have
+pub agreed_paired : (op : Operation) (a b out : List ℕ) (i j low : ℕ) → Agrees op a b out i j low → length a ≤ i → length b ≤ j
+    → length a % 2 ≡ 0 → length b % 2 ≡ 0 → length out % 2 ≡ 0
+agreed_paired op a b out i j low h past_a past_b even_a even_b =
+    let in_a = h.i_in in
+    let in_b = h.j_in in
+    let all_a : i ≡ length a = omega arith in
+    let all_b : j ≡ length b = omega arith in
+    flag_even (length out)
+    (sym h.parity
+    ∙ ap₂ (λ m n. combined op (odd m) (odd n)) all_a all_b
+    ∙ ap₂ (λ p q. combined op p q) (even_flag (length a) even_a) (even_flag (length b) even_b)
+    ∙ no_flags op)

@@ -9,6 +9,33 @@ overflow_add-total c =
     let most = small c.args.a.now c.args.b.now c.args.c.now l.i l.j l.k l.from c.sooner-edge.result l.total c.stretch-total.result l.invariant next.0 c.stretch-total.ensures in
     omega arith
 
+pub past-i-requires-clause-ascends : goal.past-i-requires-clause-ascends
+past-i-requires-clause-ascends c = c.requires.first
+
+pub past-i-requires-clause-within : goal.past-i-requires-clause-within
+past-i-requires-clause-within c = c.loop-i.invariant.first.place
+
+pub past-i-requires-clause-least : goal.past-i-requires-clause-least
+past-i-requires-clause-least c = λ lt. let late = c.sooner-edge.ensures.not_later in let least = c.next_edge.ensures.first lt in omega arith
+
+pub past-j-requires-clause-ascends : goal.past-j-requires-clause-ascends
+past-j-requires-clause-ascends c = c.requires.second
+
+pub past-j-requires-clause-within : goal.past-j-requires-clause-within
+past-j-requires-clause-within c = c.loop-i.invariant.second.place
+
+pub past-j-requires-clause-least : goal.past-j-requires-clause-least
+past-j-requires-clause-least c = λ lt. let late = c.sooner-edge.ensures.not_later in let least = c.next_edge.ensures.second lt in omega arith
+
+pub past-k-requires-clause-ascends : goal.past-k-requires-clause-ascends
+past-k-requires-clause-ascends c = c.requires.third
+
+pub past-k-requires-clause-within : goal.past-k-requires-clause-within
+past-k-requires-clause-within c = c.loop-i.invariant.third.place
+
+pub past-k-requires-clause-least : goal.past-k-requires-clause-least
+past-k-requires-clause-least c = c.sooner-edge.ensures.next
+
 pub loop-i-preserved : goal.loop-i-preserved
 loop-i-preserved c =
     let l = c.loop-i in

@@ -1,8 +1,14 @@
 use Rattle.std.proofs.Common.{ap₂, ◌∙◌, ◌&&◌, refl, length}
 use Rattle.vf_spans.specs.Edges.{edges_of}
-use Rattle.vf_spans.proofs.Flags.{bound_is, no_edges}
+use Rattle.vf_spans.proofs.Flags.{ascends_here, bound_is, no_edges}
 use Rattle.vf_spans.proofs.Below.{counted, edges_here, flag_is, and_true}
 use Rattle.vf_spans.proofs.spans.Spans.count_meet.Goals as goal
+
+pub count_numbers-requires-clause-first : goal.count_numbers-requires-clause-first
+count_numbers-requires-clause-first c = ascends_here c.self.inside.bound (edges_of c.self.inside.edges) c.as_slice.result.now c.as_slice.ensures.value c.self.invariant
+
+pub count_numbers-requires-clause-second : goal.count_numbers-requires-clause-second
+count_numbers-requires-clause-second c = ascends_here c.other.inside.bound (edges_of c.other.inside.edges) c.as_slice-2.result.now c.as_slice-2.ensures.value c.other.invariant
 
 pub returns : goal.returns
 returns c =

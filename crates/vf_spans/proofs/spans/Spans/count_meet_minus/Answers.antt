@@ -1,8 +1,17 @@
 use Rattle.std.proofs.Common.{ap₂, ◌&&◌, refl, not, length}
 use Rattle.vf_spans.specs.Edges.{edges_of}
-use Rattle.vf_spans.proofs.Flags.{bound_is}
+use Rattle.vf_spans.proofs.Flags.{ascends_here, bound_is}
 use Rattle.vf_spans.proofs.Below.{counted, edges_here, flag_is}
 use Rattle.vf_spans.proofs.spans.Spans.count_meet_minus.Goals as goal
+
+pub count_numbers-requires-clause-first : goal.count_numbers-requires-clause-first
+count_numbers-requires-clause-first c = ascends_here c.self.inside.bound (edges_of c.self.inside.edges) c.as_slice.result.now c.as_slice.ensures.value c.self.invariant
+
+pub count_numbers-requires-clause-second : goal.count_numbers-requires-clause-second
+count_numbers-requires-clause-second c = ascends_here c.second.inside.bound (edges_of c.second.inside.edges) c.as_slice-2.result.now c.as_slice-2.ensures.value c.second.invariant
+
+pub count_numbers-requires-clause-third : goal.count_numbers-requires-clause-third
+count_numbers-requires-clause-third c = ascends_here c.third.inside.bound (edges_of c.third.inside.edges) c.as_slice-3.result.now c.as_slice-3.ensures.value c.third.invariant
 
 pub returns : goal.returns
 returns c =

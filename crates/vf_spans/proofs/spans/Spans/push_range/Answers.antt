@@ -1,8 +1,30 @@
-use Rattle.std.proofs.Common.{◌∙◌, sym, ap, subst, ℕ, List}
+use Rattle.std.proofs.Common.{◌∙◌, sym, ap, subst, ℕ, List, arith}
 use Rattle.vf_spans.specs.Edges.{edges_of, AreEdges, flags_of}
 use Rattle.vf_spans.specs.Members.{has}
+use Rattle.vf_spans.proofs.Flags.{bound_is, length-flags}
 use Rattle.vf_spans.proofs.Ends.{last_here, last_under, room, edges_push, edges_set, has_push, has_set}
 use Rattle.vf_spans.proofs.spans.Spans.push_range.Goals as goal
+
+pub raise_last-requires-clause-some : goal.raise_last-requires-clause-some
+raise_last-requires-clause-some c = (last_here (edges_of c.self.inside.edges) c.as_slice.result.now c.args.lo c.as_slice.ensures.value (c.ends_at.ensures.0 c.if-ends_at.true)).0
+
+pub raise_last-requires-clause-higher : goal.raise_last-requires-clause-higher
+raise_last-requires-clause-higher c =
+    let last = last_here (edges_of c.self.inside.edges) c.as_slice.result.now c.args.lo c.as_slice.ensures.value (c.ends_at.ensures.0 c.if-ends_at.true) in
+    let lt = c.requires.not_empty in
+    omega (arith, last.1)
+
+pub returns-then-ends_at-clause-bound : goal.returns-then-ends_at-clause-bound
+returns-then-ends_at-clause-bound c = length-flags c.self.inside.bound (edges_of c.raise_last.new.self) ∙ bound_is c.self.inside.bound (edges_of c.self.inside.edges) c.args.self.now c.self.view_is
+
+pub returns-clause-bound : goal.returns-clause-bound
+returns-clause-bound c = length-flags c.self.inside.bound (edges_of c.push_range.new.self) ∙ bound_is c.self.inside.bound (edges_of c.self.inside.edges) c.args.self.now c.self.view_is
+
+pub returns-in_err-push_range-clause-bound : goal.returns-in_err-push_range-clause-bound
+returns-in_err-push_range-clause-bound c = length-flags c.self.inside.bound (edges_of c.push_range.new.self) ∙ bound_is c.self.inside.bound (edges_of c.self.inside.edges) c.args.self.now c.self.view_is
+
+pub invariant_of-self-in_err-push_range : goal.invariant_of-self-in_err-push_range
+invariant_of-self-in_err-push_range c = subst (λ (z : List ℕ). AreEdges c.self.inside.bound z) (sym c.in_err-push_range.ensures.unchanged) c.self.invariant
 
 pub invariant_of-self : goal.invariant_of-self
 invariant_of-self c =
