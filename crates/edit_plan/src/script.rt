@@ -1,19 +1,17 @@
-ghost use Rattle.std.specs.Prelude.{◌≡◌, ◌≤◌, length, nat_le, List, Ok, IfOk, MatchResult};
+ghost use Rattle.std.specs.Prelude.{◌≡◌, ◌≤◌, length, nat_le, Ok, IfOk, MatchResult};
 ghost use Rattle.std.specs.List.{range_with_len};
 ghost use Rattle.edit_plan.specs.Edits.{left_of};
 ghost use Rattle.edit_plan.specs.Limits.{most_script_bytes, most_script_moves};
-ghost use Rattle.edit_plan.specs.Script.{EndsScript, read_on, script_from, script_of, whole_of_moves, with_line};
+ghost use Rattle.edit_plan.specs.Script.{EndsScript, script_of, whole_of_moves};
 ghost use Rattle.edit_plan.specs.Sound.{IsScript};
-ghost use Rattle.edit_plan.specs.Statements.{statement_of};
-ghost use Rattle.edit_plan.specs.Words.{WordedLine, words_of};
 ghost use Rattle.ray_grid.specs.Grids.{GridSize};
 
 use crate::edit::Edits;
 use crate::fault::{ScriptEnd, ScriptWhy};
-use crate::lines::{Line, Lines};
+use crate::lines::Lines;
 use crate::query::Queries;
 use crate::reading::{Reading, Stop};
-use crate::statement::{Edition, read_statement};
+use crate::statement::read_statement;
 use ray_grid::Grid;
 use std::alloc::Global;
 use vf_io::NoMemory;
@@ -53,35 +51,16 @@ pub fn read_script(
     let edition = lines.take_edition();
     let mut reading = Reading::new(alloc);
     while let Some(line) = lines.next_line() {
-        if let Err(end) = add_line(&mut reading, edition, line, moves, grid) {
-            return Err(end);
+        let Some(statement) = read_statement(edition, line.text) else {
+            return Err(ScriptEnd::refused(line.number, ScriptWhy::ScriptSyntax));
+        };
+        match reading.add(statement, moves, grid) {
+            Ok(()) => {}
+            Err(Stop::Refused(why)) => return Err(ScriptEnd::refused(line.number, why)),
+            Err(Stop::NoMemory) => return Err(ScriptEnd::NoMemory),
         }
     }
     Ok(reading.finish())
-}
-
-/// Adds what a line says.
-fn add_line(
-    reading: &mut Reading,
-    edition: Edition,
-    line: Line,
-    moves: u32,
-    grid: &Grid,
-) -> Result<(), ScriptEnd>
-    requires { moves ≤ most_script_moves }
-    // A refusal is that of the line, whatever comes behind it.
-    ensures { let made = with_line moves grid.now (statement_of edition (words_of line.entry.text.now)) reading.old in
-        MatchResult result (λ _. made ≡ Ok reading.new)
-        (λ end. (rest : List WordedLine) → EndsScript (read_on line.entry.number made (script_from moves grid.now edition rest)) end) }
-{
-    let Some(statement) = read_statement(edition, line.text) else {
-        return Err(ScriptEnd::refused(line.number, ScriptWhy::ScriptSyntax));
-    };
-    match reading.add(statement, moves, grid) {
-        Ok(()) => Ok(()),
-        Err(Stop::Refused(why)) => Err(ScriptEnd::refused(line.number, why)),
-        Err(Stop::NoMemory) => Err(ScriptEnd::NoMemory),
-    }
 }
 
 /// The script without a text: each move is applied once in order, and nothing is asked.

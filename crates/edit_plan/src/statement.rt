@@ -44,9 +44,7 @@ const MAX_DIGITS: usize = 9;
 pub(crate) fn read_statement(edition: Edition, text: &[u8]) -> Option<Statement>
     ensures { result ≡ statement_of edition (words_of text.now) }
 {
-    let Some((verb, behind)) = split_word(text) else {
-        return None;
-    };
+    let (verb, behind) = split_word(text)?;
     if is_same(verb, b"run") {
         return read_run(behind);
     }
@@ -69,21 +67,13 @@ pub(crate) fn read_statement(edition: Edition, text: &[u8]) -> Option<Statement>
 fn read_run(text: &[u8]) -> Option<Statement>
     ensures { result ≡ run_in (words_of text.now) }
 {
-    let Some((i, behind)) = split_word(text) else {
-        return None;
-    };
-    let Some((j, behind)) = split_word(behind) else {
-        return None;
-    };
+    let (i, behind) = split_word(text)?;
+    let (j, behind) = split_word(behind)?;
     let None = split_word(behind) else {
         return None;
     };
-    let Some(first) = read_number(i) else {
-        return None;
-    };
-    let Some(last) = read_number(j) else {
-        return None;
-    };
+    let first = read_number(i)?;
+    let last = read_number(j)?;
     Some(Statement::Run { first, last })
 }
 
@@ -91,65 +81,39 @@ fn read_run(text: &[u8]) -> Option<Statement>
 fn read_undo(text: &[u8]) -> Option<Statement>
     ensures { result ≡ undo_in (words_of text.now) }
 {
-    let Some((n, behind)) = split_word(text) else {
-        return None;
-    };
+    let (n, behind) = split_word(text)?;
     let None = split_word(behind) else {
         return None;
     };
-    let Some(times) = read_number(n) else {
-        return None;
-    };
-    Some(Statement::UndoTimes(times))
+    Some(Statement::UndoTimes(read_number(n)?))
 }
 
 /// What follows `redo`: how many times.
 fn read_redo(text: &[u8]) -> Option<Statement>
     ensures { result ≡ redo_in (words_of text.now) }
 {
-    let Some((n, behind)) = split_word(text) else {
-        return None;
-    };
+    let (n, behind) = split_word(text)?;
     let None = split_word(behind) else {
         return None;
     };
-    let Some(times) = read_number(n) else {
-        return None;
-    };
-    Some(Statement::RedoTimes(times))
+    Some(Statement::RedoTimes(read_number(n)?))
 }
 
 /// What follows `probe`: a family, the nodes of a ray of it, and a point of that ray.
 fn read_probe(text: &[u8]) -> Option<Statement>
     ensures { result ≡ probe_in (words_of text.now) }
 {
-    let Some((f, behind)) = split_word(text) else {
-        return None;
-    };
-    let Some((i, behind)) = split_word(behind) else {
-        return None;
-    };
-    let Some((j, behind)) = split_word(behind) else {
-        return None;
-    };
-    let Some((l, behind)) = split_word(behind) else {
-        return None;
-    };
+    let (f, behind) = split_word(text)?;
+    let (i, behind) = split_word(behind)?;
+    let (j, behind) = split_word(behind)?;
+    let (l, behind) = split_word(behind)?;
     let None = split_word(behind) else {
         return None;
     };
-    let Some(family) = read_family(f) else {
-        return None;
-    };
-    let Some(i) = read_number(i) else {
-        return None;
-    };
-    let Some(j) = read_number(j) else {
-        return None;
-    };
-    let Some(l) = read_number(l) else {
-        return None;
-    };
+    let family = read_family(f)?;
+    let i = read_number(i)?;
+    let j = read_number(j)?;
+    let l = read_number(l)?;
     Some(Statement::ProbePoint {
         ray: Ray { family, i, j },
         l,
