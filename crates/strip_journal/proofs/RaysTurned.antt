@@ -50,7 +50,7 @@ below_turned : (before after : KeptSets) (changes : List WordChange) (n : ℕ) (
 below_turned before after changes n is_undo word bits t h = λ b low set.
     let same = ap length t.stock in let old = h b low set in omega (arith, same, old)
 
-change_turned : (before after : List KeptSets) (changes : List WordChange) (is_undo : Bool) (change : WordChange)
+pub change_turned : (before after : List KeptSets) (changes : List WordChange) (is_undo : Bool) (change : WordChange)
     → AreRaysTurned before after changes is_undo → IsChangeOn before change → IsChangeOn after change
 change_turned before after changes is_undo change t h =
     let one = t.each change.ray h.ray in

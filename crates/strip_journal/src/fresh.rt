@@ -46,7 +46,7 @@ fn fresh_ray<
 pub fn hold_grid(grid: &Grid)
     ensures { IsGrid grid.now }
 {
-    let _origin = grid.origin;
+    let _pitch = grid.pitch;
 }
 
 /// The rays of a strip, and how many stock points they have together.

@@ -1,6 +1,7 @@
 -- The count fits, since a strip has few points; and one ray more is fresh.
-use Rattle.std.proofs.Common.{◌<◌, ◌∙◌, length, arith, sym}
+use Rattle.std.proofs.Common.{◌≡◌, ◌<◌, ◌∙◌, length, arith, sym, subst}
 use Rattle.ray_grid.specs.Strips.{strip_at}
+use Rattle.strip_journal.specs.Fresh.{AreFreshRays}
 use Rattle.strip_journal.proofs.FreshRays.{few_more, fresh_more, fresh_on, stock_more}
 use Rattle.strip_journal.proofs.fresh.fresh_rays.Goals as goal
 
@@ -52,3 +53,14 @@ fresh_ray-requires-clause-part_gives g c = c.requires.part_gives
 
 pub fresh_ray-requires-clause-fixture_gives : goal.fresh_ray-requires-clause-fixture_gives
 fresh_ray-requires-clause-fixture_gives g c = c.requires.fixture_gives
+
+pub returns-clause-rays : goal.returns-clause-rays
+returns-clause-rays g c =
+    let all : c.loop-n.n ≡ length (strip_at c.args.grid.now c.args.strip) =
+    omega (arith, c.loop-n-test.false, c.loop-n.auto.n-end, c.strip_len-count.ensures) in
+    subst
+    (λ n. AreFreshRays c.args.grid.now c.args.strip n c.args.stock.now.solid c.args.part.now.solid c.args.fixture.now.solid c.loop-n.rays)
+    all c.loop-n.invariant.rays
+
+pub returns-clause-stock : goal.returns-clause-stock
+returns-clause-stock g c = c.loop-n.invariant.points

@@ -41,3 +41,11 @@ fresh_rays-requires-clause-part_gives g c = c.requires.part_gives
 
 pub fresh_rays-requires-clause-fixture_gives : goal.fresh_rays-requires-clause-fixture_gives
 fresh_rays-requires-clause-fixture_gives g c = c.requires.fixture_gives
+
+pub returns : goal.returns
+returns g c =
+    λ i. record {
+      job = record { plan = c.of.ensures i; stock = c.of-2.ensures i; part = c.of-3.ensures i; fixture = c.of-4.ensures i };
+      number = c.args.number;
+      done = 0;
+    }
