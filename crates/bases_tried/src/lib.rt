@@ -1,4 +1,4 @@
-//! Tries of what all stands on: shelves and sinks, sets by their ranges, tangents, roots, the slabs of a cutter, counts, and the sets of one ray.
+//! Tries of what all stands on: shelves and sinks, sets by their ranges, tangents, roots, the slabs of a cutter, counts, and one ray.
 #![tactic(auto)]
 
 #[cfg(test)]
