@@ -3,6 +3,7 @@
 
 mod ending;
 mod files;
+mod line;
 mod question;
 mod script_page;
 mod setup_page;

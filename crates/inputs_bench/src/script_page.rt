@@ -1,3 +1,5 @@
+use crate::line::Word::{Count, Text};
+use crate::line::{write_line, write_words};
 use edit_plan::{Ask, Edit, Query, Script};
 use ray_grid::{Family, Ray};
 use std::alloc::Global;
@@ -43,8 +45,7 @@ pub(crate) fn script_text(alloc: Global, script: &Script) -> Result<Vec<u8>, NoM
     let mut depths = Depths::NONE;
     for (before, edit) in script.edits.as_slice().iter().enumerate() {
         depths = depths.after(*edit);
-        page.text(b"edit ")?;
-        page.count(before + 1)?;
+        write_words(&mut page, &[Text(b"edit "), Count(before + 1)])?;
         write_edit(&mut page, *edit)?;
         write_depths(&mut page, depths)?;
     }
@@ -65,44 +66,36 @@ pub(crate) fn script_counts(alloc: Global, script: &Script) -> Result<Vec<u8>, N
 /// Writes an edit, a move's number from 1.
 fn write_edit(page: &mut Page, edit: Edit) -> Result<(), NoMemory> {
     match edit {
-        Edit::Apply(number) => {
-            page.text(b" apply ")?;
-            page.count(number as usize + 1)
-        }
+        Edit::Apply(number) => write_words(page, &[Text(b" apply "), Count(number as usize + 1)]),
         Edit::Undo => page.text(b" undo"),
         Edit::Redo => page.text(b" redo"),
     }
 }
 
 fn write_depths(page: &mut Page, depths: Depths) -> Result<(), NoMemory> {
-    page.text(b" left ")?;
-    page.count(depths.left as usize)?;
-    page.text(b" dropped ")?;
-    page.count(depths.dropped as usize)?;
-    page.end_line()
+    let left = Count(depths.left as usize);
+    let dropped = Count(depths.dropped as usize);
+    write_line(page, &[Text(b" left "), left, Text(b" dropped "), dropped])
 }
 
 fn write_query(page: &mut Page, query: &Query) -> Result<(), NoMemory> {
-    page.text(b"version ")?;
-    page.count(query.version as usize)?;
+    write_words(page, &[Text(b"version "), Count(query.version as usize)])?;
     match query.ask {
-        Ask::Probe { ray, l } => write_probe(page, ray, l)?,
-        Ask::Count => page.text(b" count")?,
+        Ask::Probe { ray, l } => write_probe(page, ray, l),
+        Ask::Count => write_line(page, &[Text(b" count")]),
     }
-    page.end_line()
 }
 
 fn write_probe(page: &mut Page, ray: Ray, l: u32) -> Result<(), NoMemory> {
-    page.text(match ray.family {
-        Family::X => b" probe X ",
-        Family::Y => b" probe Y ",
-        Family::Z => b" probe Z ",
-    })?;
-    page.count(ray.i as usize)?;
-    page.space()?;
-    page.count(ray.j as usize)?;
-    page.space()?;
-    page.count(l as usize)
+    let family = match ray.family {
+        Family::X => Text(b" probe X "),
+        Family::Y => Text(b" probe Y "),
+        Family::Z => Text(b" probe Z "),
+    };
+    let i = Count(ray.i as usize);
+    let j = Count(ray.j as usize);
+    let l = Count(l as usize);
+    write_line(page, &[family, i, Text(b" "), j, Text(b" "), l])
 }
 
 fn write_counts(page: &mut Page, script: &Script) -> Result<(), NoMemory> {
@@ -110,9 +103,8 @@ fn write_counts(page: &mut Page, script: &Script) -> Result<(), NoMemory> {
     for edit in script.edits.as_slice() {
         depths = depths.after(*edit);
     }
-    page.text(b"edits ")?;
-    page.count(script.edits.len())?;
-    page.text(b" queries ")?;
-    page.count(script.queries.len())?;
+    let edits = Count(script.edits.len());
+    let queries = Count(script.queries.len());
+    write_words(page, &[Text(b"edits "), edits, Text(b" queries "), queries])?;
     write_depths(page, depths)
 }

@@ -1,5 +1,7 @@
 ghost use Rattle.setup_file.specs.Sound.{IsSetup};
 
+use crate::line::Word::{Count, Number, Text};
+use crate::line::{write_line, write_words};
 use itoa::Buffer;
 use ray_shapes::{Body, Plane};
 use setup_file::{Setup, shifted};
@@ -28,13 +30,18 @@ pub(crate) fn setup_text(alloc: Global, setup: &Setup) -> Result<Vec<u8>, NoMemo
 /// How many bodies there are, of stock, part and fixture.
 pub(crate) fn setup_counts(alloc: Global, setup: &Setup) -> Result<Vec<u8>, NoMemory> {
     let mut page = Page::new(alloc);
-    page.text(b"stock ")?;
-    page.count(setup.stock.as_slice().len())?;
-    page.text(b" part ")?;
-    page.count(setup.part.as_slice().len())?;
-    page.text(b" fixture ")?;
-    page.count(setup.fixture.as_slice().len())?;
-    page.end_line()?;
+    let stock = Count(setup.stock.as_slice().len());
+    let part = Count(setup.part.as_slice().len());
+    let fixture = Count(setup.fixture.as_slice().len());
+    let words = [
+        Text(b"stock "),
+        stock,
+        Text(b" part "),
+        part,
+        Text(b" fixture "),
+        fixture,
+    ];
+    write_line(&mut page, &words)?;
     Ok(page.into_vec())
 }
 
@@ -42,50 +49,35 @@ fn write_grid(page: &mut Page, setup: &Setup) -> Result<(), NoMemory> {
     page.text(b"grid.origin")?;
     page.point(&setup.grid.origin)?;
     page.end_line()?;
-    write_number(page, b"grid.pitch ", setup.grid.pitch)?;
-    write_number(page, b"grid.step ", setup.grid.step)?;
+    write_line(page, &[Text(b"grid.pitch "), Number(setup.grid.pitch)])?;
+    write_line(page, &[Text(b"grid.step "), Number(setup.grid.step)])?;
     let [x, y, z] = setup.grid.counts;
-    page.text(b"grid.counts ")?;
-    page.count(x as usize)?;
-    page.space()?;
-    page.count(y as usize)?;
-    page.space()?;
-    page.count(z as usize)?;
-    page.end_line()
+    let (x, y, z) = (Count(x as usize), Count(y as usize), Count(z as usize));
+    write_line(
+        page,
+        &[Text(b"grid.counts "), x, Text(b" "), y, Text(b" "), z],
+    )
 }
 
 fn write_check(page: &mut Page, setup: &Setup) -> Result<(), NoMemory> {
-    write_number(page, b"check.tolerance ", setup.tolerance)?;
-    write_number(page, b"check.clearance ", setup.clearance)?;
-    page.text(b"check.slabs ")?;
-    page.count(setup.slabs as usize)?;
-    page.end_line()?;
-    page.text(b"check.depth ")?;
-    page.count(setup.depth as usize)?;
-    page.end_line()
+    write_line(page, &[Text(b"check.tolerance "), Number(setup.tolerance)])?;
+    write_line(page, &[Text(b"check.clearance "), Number(setup.clearance)])?;
+    write_line(page, &[Text(b"check.slabs "), Count(setup.slabs as usize)])?;
+    write_line(page, &[Text(b"check.depth "), Count(setup.depth as usize)])
 }
 
 fn write_tool(page: &mut Page, setup: &Setup) -> Result<(), NoMemory> {
-    write_number(page, b"tool.diameter ", setup.tool.d)?;
-    write_number(page, b"tool.radius ", setup.tool.r)?;
-    write_number(page, b"tool.height ", setup.tool.h)
-}
-
-fn write_number(page: &mut Page, key: &[u8], number: i32) -> Result<(), NoMemory> {
-    page.text(key)?;
-    page.number(number)?;
-    page.end_line()
+    write_line(page, &[Text(b"tool.diameter "), Number(setup.tool.d)])?;
+    write_line(page, &[Text(b"tool.radius "), Number(setup.tool.r)])?;
+    write_line(page, &[Text(b"tool.height "), Number(setup.tool.h)])
 }
 
 /// A line with the number of the bodies, and one for each plane, with the number of its body from 1.
 fn write_bodies(page: &mut Page, list: &[u8], bodies: &[Body]) -> Result<(), NoMemory> {
-    page.text(list)?;
-    page.count(bodies.len())?;
-    page.end_line()?;
+    write_line(page, &[Text(list), Count(bodies.len())])?;
     for (before, body) in bodies.iter().enumerate() {
         for plane in body.planes() {
-            page.text(list)?;
-            page.count(before + 1)?;
+            write_words(page, &[Text(list), Count(before + 1)])?;
             write_plane(page, plane)?;
         }
     }
@@ -95,7 +87,8 @@ fn write_bodies(page: &mut Page, list: &[u8], bodies: &[Body]) -> Result<(), NoM
 fn write_plane(page: &mut Page, plane: &Plane) -> Result<(), NoMemory> {
     page.text(b" plane")?;
     page.point(&[plane.a, plane.b, plane.c])?;
-    page.space()?;
-    page.text(Buffer::new().format(plane.d).as_bytes())?;
-    page.end_line()
+    write_line(
+        page,
+        &[Text(b" "), Text(Buffer::new().format(plane.d).as_bytes())],
+    )
 }

@@ -99,6 +99,27 @@ fn raised_fixture(alloc: Global, setup: &Setup) -> Result<Bodies, NoMemory>
     shifted(alloc, setup.fixture.as_slice(), setup.clearance)
 }
 
+/// The bodies of a setup as a task has them.
+struct TaskBodies {
+    stock: Bodies,
+    part: Bodies,
+    fixture: Bodies,
+}
+
+/// The stock of a setup, its part as it may be cut and its fixtures as they are kept clear.
+fn task_bodies(alloc: Global, setup: &Setup) -> Result<TaskBodies, NoMemory>
+    requires { IsSetup setup.now }
+    ensures stock { IfOk result (λ made. made.stock ≡ setup.now.stock) }
+    ensures part { IfOk result (λ made. made.part ≡ shifted_of (neg_ℤ setup.now.tolerance) setup.now.part) }
+    ensures fixture { IfOk result (λ made. made.fixture ≡ shifted_of setup.now.clearance setup.now.fixture) }
+{
+    Ok(TaskBodies {
+        stock: setup.stock.copy()?,
+        part: lowered_part(alloc, setup)?,
+        fixture: raised_fixture(alloc, setup)?,
+    })
+}
+
 /// Makes a task ready to be done, by so many workers. Fails only for want of memory.
 pub fn make_ready<R: Threads + Sync>(
     rt: &R,
@@ -127,9 +148,11 @@ pub fn make_ready<R: Threads + Sync>(
         edits,
         workers,
     )?;
-    let stock = setup.stock.copy()?;
-    let part = lowered_part(alloc, &setup)?;
-    let fixture = raised_fixture(alloc, &setup)?;
+    let TaskBodies {
+        stock,
+        part,
+        fixture,
+    } = task_bodies(alloc, &setup)?;
     Ok(ReadyTask {
         plan,
         stock,

@@ -1,6 +1,6 @@
 ghost use Rattle.std.specs.Prelude.{◌≡◌, IfOk, map, option_map, string_bytes};
-ghost use Rattle.clap.specs.Simple.{app_of};
-ghost use Rattle.verify_words.specs.Command.{verify_command, values_of};
+ghost use Rattle.clap.specs.Simple.{app_of, with_rule};
+ghost use Rattle.verify_words.specs.Command.{option, place, verify_command, values_of};
 ghost use Rattle.verify_words.specs.Seen.{values_seen};
 
 use clap::error::ErrorKind;
@@ -17,21 +17,37 @@ pub(crate) struct Values<'a> {
     pub(crate) workers: Option<&'a str>,
 }
 
+/// A command with one more argument, which stands at its place and has to be there.
+fn with_place<'a>(
+    alloc: Global,
+    command: Command<'a>,
+    name: &'a str,
+) -> Result<Command<'a>, AllocError>
+    ensures { IfOk result (λ made. app_of made ≡ with_rule (app_of command.entry) (place name.now)) }
+{
+    let made = command.arg(Arg::new(alloc, name).required(true))?;
+    Ok(made)
+}
+
+/// A command with one more option of one value, which may be left out.
+fn with_option<'a>(
+    alloc: Global,
+    command: Command<'a>,
+    name: &'a str,
+) -> Result<Command<'a>, AllocError>
+    ensures { IfOk result (λ made. app_of made ≡ with_rule (app_of command.entry) (option name.now)) }
+{
+    let made = command.arg(Arg::new(alloc, name).long(name))?;
+    Ok(made)
+}
+
 /// The command that the words are read by.
 fn verify_command<'a>(alloc: Global) -> Result<Command<'a>, AllocError>
     ensures { IfOk result (λ command. app_of command ≡ verify_command) }
 {
-    let file = Arg::new(alloc, "CL").required(true);
-    let setup = Arg::new(alloc, "SETUP").required(true);
-    let script = Arg::new(alloc, "script").long("script");
-    let workers = Arg::new(alloc, "workers").long("workers");
-    let command = Command::new(alloc, "verify")
-        .no_binary_name(true)
-        .arg(file)?
-        .arg(setup)?
-        .arg(script)?
-        .arg(workers)?;
-    Ok(command)
+    let bare = Command::new(alloc, "verify").no_binary_name(true);
+    let placed = with_place(alloc, with_place(alloc, bare, "CL")?, "SETUP")?;
+    with_option(alloc, with_option(alloc, placed, "script")?, "workers")
 }
 
 /// The values that the words give, where the parser takes them.
