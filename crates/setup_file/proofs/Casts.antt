@@ -22,6 +22,17 @@ passed least most z low high h =
     let fits : FitsSigned w64 z = omega (arith, ints) in
     to_z-of_z w64 z fits
 
+-- within a range that 32 bits hold: so in 64 bits too, and it fits 32 bits
+pub still_in : (least most z : ℤ) → negsuc 2147483647 ≤ℤ least → most ≤ℤ pos 2147483647 → IsBetween least most z → IsBetween least most (to_z w64 (of_z w64 z))
+still_in least most z low high h = rw (passed least most z low high h) h
+
+pub narrowed : (least most z : ℤ) → negsuc 2147483647 ≤ℤ least → most ≤ℤ pos 2147483647 → IsBetween least most z → FitsSigned w32 (to_z w64 (of_z w64 z))
+narrowed least most z low high h =
+    let at_least : least ≤ℤ z = h.from_least in
+    let at_most : z ≤ℤ most = h.to_most in
+    let narrow : FitsSigned w32 z = omega (arith, ints) in
+    rw (passed least most z low high h) narrow
+
 counted : (most : ℕ) (z : ℤ) → IsBetween (pos 0) (pos most) z → unsigned_abs z ≤ most
 counted most z h =
     let at_least : pos 0 ≤ℤ z = h.from_least in

@@ -1,5 +1,8 @@
 -- The numbers of a grid, cast to the bits that they are kept in.
-use Rattle.std.proofs.Common.{◌≡◌, true, ℤ, pos, neg_ℤ, ◌≤ℤ◌, unsigned_abs, to_z, of_z, w32, w64, List, ap, arith}
+use Rattle.std.proofs.Common.{◌≡◌, true, ℤ, pos, neg_ℤ, ◌≤ℤ◌, unsigned_abs, to_z, of_z, w32, w64, Fits, FitsSigned, List, ap, arith}
+use lib.Dec.{T}
+use lib.Signed.{non_neg}
+use borrow.Author.Differences.{abs_is as size_is}
 use Rattle.std.specs.Prelude.{int_le}
 use Rattle.std.proofs.lemmas.Bool.{and_parts}
 use Rattle.std.proofs.lemmas.Int.{ints}
@@ -8,7 +11,7 @@ use Rattle.space.specs.Vectors.{at}
 use Rattle.ray_grid.specs.Ranges.{most_nodes}
 use Rattle.setup_file.specs.Grids.{AreCoordinates, CountsFit, is_count, last_point}
 use Rattle.setup_file.specs.Reads.{is_between}
-use Rattle.setup_file.proofs.Casts.{cast_back, passed}
+use Rattle.setup_file.proofs.Casts.{cast_back, narrowed, passed}
 use Rattle.setup_file.proofs.GridShown.{is_between-true}
 
 -- each number as it was
@@ -25,10 +28,27 @@ pub record AreCast (origin : List ℤ) (pitch step : ℤ) (counts : List ℤ) : 
 coordinate-cast : (z : ℤ) → IsBetween (neg_ℤ (pos metre)) (pos metre) z → to_z w32 (of_z w32 (to_z w64 (of_z w64 z))) ≡ z
 coordinate-cast z near = cast_back (neg_ℤ (pos metre)) (pos metre) z (omega (arith, ints)) (omega (arith, ints)) near
 
+count-within : (origin pitch step count : ℤ) → is_count origin pitch step count ≡ true → IsBetween (pos 1) (pos most_nodes) count
+count-within origin pitch step count fits =
+    let (within, last) = and_parts (is_between (pos 1) (pos most_nodes) count) (int_le (last_point origin pitch step count) (pos metre)) fits in
+    is_between-true (pos 1) (pos most_nodes) count within
+
 count-cast : (origin pitch step count : ℤ) → is_count origin pitch step count ≡ true → unsigned_abs (to_z w64 (of_z w64 count)) ≡ unsigned_abs count
 count-cast origin pitch step count fits =
-    let (within, last) = and_parts (is_between (pos 1) (pos most_nodes) count) (int_le (last_point origin pitch step count) (pos metre)) fits in
-    ap unsigned_abs (passed (pos 1) (pos most_nodes) count (omega (arith, ints)) (omega (arith, ints)) (is_between-true (pos 1) (pos most_nodes) count within))
+    ap unsigned_abs (passed (pos 1) (pos most_nodes) count (omega (arith, ints)) (omega (arith, ints)) (count-within origin pitch step count fits))
+
+-- a number of nodes is not negative, and fits the bits that it is kept in
+pub count-fits : (origin pitch step count : ℤ) → is_count origin pitch step count ≡ true
+    → T (non_neg (to_z w64 (of_z w64 count))) × Fits w32 (unsigned_abs (to_z w64 (of_z w64 count)))
+count-fits origin pitch step count fits =
+    let within = count-within origin pitch step count fits in
+    let some : pos 1 ≤ℤ count = within.from_least in
+    let few : count ≤ℤ pos most_nodes = within.to_most in
+    let size = size_is count in
+    rw (passed (pos 1) (pos most_nodes) count (omega (arith, ints)) (omega (arith, ints)) within) (omega (arith, ints), omega (arith, ints))
+
+pub coordinate-fits : (z : ℤ) → IsBetween (neg_ℤ (pos metre)) (pos metre) z → FitsSigned w32 (to_z w64 (of_z w64 z))
+coordinate-fits z near = narrowed (neg_ℤ (pos metre)) (pos metre) z (omega (arith, ints)) (omega (arith, ints)) near
 
 step-cast : (pitch step : ℤ) → IsBetween (pos 1) (pos metre) pitch → IsBetween (pos 1) pitch step → to_z w32 (of_z w32 (to_z w64 (of_z w64 step))) ≡ step
 step-cast pitch step pitch_fits step_fits =

@@ -12,3 +12,4 @@ pub mod Texts
 pub mod Planes
 pub mod Boxes
 pub mod BodyLists
+pub mod Mapped

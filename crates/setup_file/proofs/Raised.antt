@@ -6,8 +6,9 @@ use Rattle.ray_shapes.proofs.Products.{product_within}
 use Rattle.setup_file.specs.Bodies.{plane}
 use Rattle.setup_file.specs.Limits.{most_clearance, most_right_side}
 
--- the sum fits, and nothing is lost on the way
+-- the product and the sum fit, and nothing is lost on the way
 pub record Raises (d by f l : ℤ) (n : ℕ) : Type 0 where
+  pub product : FitsSigned w64 (to_z w64 (of_z w64 f) *ℤ to_z w64 (of_z w64 l))
   pub sum : FitsSigned w64 (to_z w64 (of_z w64 d) +ℤ to_z w64 (of_z w64 (to_z w64 (of_z w64 f) *ℤ to_z w64 (of_z w64 l))))
   pub value : to_z w64 (of_z w64 (to_z w64 (of_z w64 d) +ℤ to_z w64 (of_z w64 (to_z w64 (of_z w64 f) *ℤ to_z w64 (of_z w64 l))))) ≡ d +ℤ (by *ℤ pos n)
 
@@ -31,6 +32,7 @@ raises d by f l n right amount short f_is l_is =
     let is : to_z w64 (of_z w64 d) +ℤ to_z w64 (of_z w64 (to_z w64 (of_z w64 f) *ℤ to_z w64 (of_z w64 l))) ≡ d +ℤ (by *ℤ pos n) =
     ap₂ (λ x y. x +ℤ y) (to_z-of_z w64 d d_fits) (ap (λ z. to_z w64 (of_z w64 z)) factors ∙ to_z-of_z w64 (by *ℤ pos n) product_fits) in
     record {
+      product = rw factors product_fits;
       sum = rw is sum_fits;
       value = ap (λ z. to_z w64 (of_z w64 z)) is ∙ to_z-of_z w64 (d +ℤ (by *ℤ pos n)) sum_fits;
     }

@@ -1,10 +1,11 @@
 use Rattle.std.proofs.Common.{◌≡◌, Ok, pos, neg_ℤ, not, ap, sym, ◌∙◌, arith, rules, w64, FitsSigned}
 use Rattle.std.proofs.lemmas.Grind.{common_steps}
-use Rattle.std.proofs.lemmas.Int.{to_z-of_z}
+use Rattle.std.proofs.lemmas.Int.{ints, to_z-of_z}
 use Rattle.space.specs.Vectors.{at, is_zero}
 use Rattle.setup_file.specs.Bodies.{plane}
 use Rattle.setup_file.specs.Limits.{most_normal, most_right_side}
 use Rattle.setup_file.specs.Reads.{◌>>=◌, only_if, ranged}
+use Rattle.setup_file.proofs.Casts.{still_in}
 use Rattle.setup_file.proofs.Planes.{plane_passes, plane_upto_c, plane_upto_d, with_d}
 use Rattle.setup_file.proofs.plane.plane_by.Goals as goal
 
@@ -57,3 +58,12 @@ returns-clause-plane c =
     let fc : FitsSigned w64 c.in_ok-c.c = search rules in
     let fd : FitsSigned w64 c.in_ok-d.d = search rules in
     ap Ok (simp to_z-of_z at c.plane_with.ensures.plane) ∙ sym passes
+
+pub plane_with-requires-clause-a : goal.plane_with-requires-clause-a
+plane_with-requires-clause-a c = still_in (neg_ℤ (pos most_normal)) (pos most_normal) c.in_ok-a.a (omega (arith, ints)) (omega (arith, ints)) c.in_ok-a.ensures.range
+
+pub plane_with-requires-clause-b : goal.plane_with-requires-clause-b
+plane_with-requires-clause-b c = still_in (neg_ℤ (pos most_normal)) (pos most_normal) c.in_ok-b.b (omega (arith, ints)) (omega (arith, ints)) c.in_ok-b.ensures.range
+
+pub plane_with-requires-clause-c : goal.plane_with-requires-clause-c
+plane_with-requires-clause-c c = still_in (neg_ℤ (pos most_normal)) (pos most_normal) c.in_ok-c.c (omega (arith, ints)) (omega (arith, ints)) c.in_ok-c.ensures.range

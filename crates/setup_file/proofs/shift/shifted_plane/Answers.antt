@@ -3,6 +3,11 @@ use Rattle.std.proofs.lemmas.Int.{to_z-of_z}
 use Rattle.setup_file.proofs.Raised.{raises, same_plane}
 use Rattle.setup_file.proofs.shift.shifted_plane.Goals as goal
 
+pub overflow_mul-result : goal.overflow_mul-result
+overflow_mul-result c =
+    let amount = c.from.ensures ∙ to_z-of_z _ _ c.ranges.by in
+    (raises c.args.plane.now.d c.args.by c.from.result c.from-2.result c.normal_length.result c.requires.plane.d_in c.requires.by c.normal_length.ensures.short amount c.from-2.ensures).product
+
 pub overflow_add-result : goal.overflow_add-result
 overflow_add-result c =
     let amount = c.from.ensures ∙ to_z-of_z _ _ c.ranges.by in

@@ -25,3 +25,28 @@ returns-clause-tool c =
       ← c.in_ok-height.ensures.value,
       int_le-from radius height rounded,
     ) (ap Ok sizes)
+
+pub returns-in_err-radius-clause-tool : goal.returns-in_err-radius-clause-tool
+unfolding tool_of
+returns-in_err-radius-clause-tool c = rw (← c.in_ok-diameter.ensures.value) (search rules)
+
+pub returns-in_err-only_if-clause-tool : goal.returns-in_err-only_if-clause-tool
+unfolding tool_of
+returns-in_err-only_if-clause-tool c = rw (← c.in_ok-diameter.ensures.value, ← c.in_ok-radius.ensures.value) (search rules)
+
+pub returns-in_err-height-clause-tool : goal.returns-in_err-height-clause-tool
+unfolding tool_of
+returns-in_err-height-clause-tool c =
+    let corner : (pos 2 *ℤ c.in_ok-radius.radius) ≤ℤ c.in_ok-diameter.diameter = search rules in
+    rw (← c.in_ok-diameter.ensures.value, ← c.in_ok-radius.ensures.value, int_le-from (pos 2 *ℤ c.in_ok-radius.radius) c.in_ok-diameter.diameter corner) (search rules)
+
+pub returns-in_err-only_if-2-clause-tool : goal.returns-in_err-only_if-2-clause-tool
+unfolding tool_of
+returns-in_err-only_if-2-clause-tool c =
+    let corner : (pos 2 *ℤ c.in_ok-radius.radius) ≤ℤ c.in_ok-diameter.diameter = search rules in
+    rw (
+      ← c.in_ok-diameter.ensures.value,
+      ← c.in_ok-radius.ensures.value,
+      int_le-from (pos 2 *ℤ c.in_ok-radius.radius) c.in_ok-diameter.diameter corner,
+      ← c.in_ok-height.ensures.value,
+    ) (search rules)
