@@ -53,3 +53,13 @@ side_at planes n e a b c plane same lt is =
       c = λ f. (is f).2;
       d = λ f. ap (λ (p : Plane). p.d) (get_or_default planes n f e lt);
     })
+
+-- what stands in a place, whatever is read past the end
+pub plane_at : (planes : List Plane) (n : ℕ) (e : Plane) → n < length planes → IsPlaneAt planes n (get_or planes n e)
+plane_at planes n e lt = record {
+  within = lt;
+  a = λ f. ap (λ (p : Plane). p.a) (get_or_default planes n f e lt);
+  b = λ f. ap (λ (p : Plane). p.b) (get_or_default planes n f e lt);
+  c = λ f. ap (λ (p : Plane). p.c) (get_or_default planes n f e lt);
+  d = λ f. ap (λ (p : Plane). p.d) (get_or_default planes n f e lt);
+}

@@ -1,7 +1,7 @@
 -- What a list of intervals covers_some, one interval after the other.
-use Rattle.std.proofs.Common.{◌≡◌, ℕ, ◌+◌, ◌<◌, ◌≤◌, max, List, length, take, drop, get_or, Bool, true, false, ◌&&◌, ◌||◌, leb, ltb, IsTrue, arith, refl, sym, ap, ap₂, ◌∙◌}
+use Rattle.std.proofs.Common.{◌≡◌, ℕ, ◌+◌, ◌<◌, ◌≤◌, max, List, length, take, drop, get_or, Bool, true, false, ◌&&◌, ◌||◌, leb, ltb, IsTrue, arith, refl, sym, ap, ◌∙◌}
 use Rattle.std.specs.List.{list_all}
-use Rattle.std.proofs.lemmas.Bool.Decides.{nat_tests}
+use Rattle.std.proofs.lemmas.Bool.{and_parts, and_from, ltb-true, lt-ltb, leb-true, le-leb, lt-leb}
 use Rattle.std.proofs.lemmas.List.Folds.{list_any_more, list_all-append}
 use Rattle.std.proofs.lemmas.List.{take-append-drop, get_or_default}
 use native.Mathlib.Decide.{dec_le}
@@ -9,15 +9,11 @@ use mathlib.Core.Logic.{dite}
 use Rattle.ray_shapes.specs.declared.half_line.Interval.{Interval}
 use Rattle.ray_shapes.specs.Parts.{is_in, covers_some, InOrder}
 
-and_first : (a b : Bool) → (a && b) ≡ true → a ≡ true
-and_first true b h = refl
-and_first false b h = cc
-
 -- what all elements pass, the first of them pass
 pub all_first : {X : Type 0} → (p : X → Bool) (xs : List X) (n : ℕ) → list_all p xs ≡ true → list_all p (take n xs) ≡ true
-all_first p xs n h = and_first (list_all p (take n xs)) (list_all p (drop n xs)) (sym (list_all-append p (take n xs) (drop n xs)) ∙ ap (list_all p) (take-append-drop n xs) ∙ h)
+all_first p xs n h = (and_parts (list_all p (take n xs)) (list_all p (drop n xs)) (sym (list_all-append p (take n xs) (drop n xs)) ∙ ap (list_all p) (take-append-drop n xs) ∙ h)).0
 
-or_false : (a : Bool) → a ≡ (a || false)
+pub or_false : (a : Bool) → a ≡ (a || false)
 or_false true = refl
 or_false false = refl
 
@@ -35,39 +31,42 @@ covers_more : (parts : List Interval) (k i : ℕ) (part : Interval) → k < leng
 covers_more parts k i part lt is = list_any_more (is_in i) parts k part lt ∙ ap (λ (p : Interval). covers_some (take k parts) i || is_in i p) is
 
 and_second : (a : Bool) (i n : ℕ) → (a && ltb i n) ≡ true → i < n
-and_second true i n h = grind (arith, nat_tests)
-and_second false i n h = absurd (cc)
+and_second a i n h = ltb-true i n (and_parts a (ltb i n) h).1
 
 in_parts : (i : ℕ) (part : Interval) → is_in i part ≡ true → (part.lo ≤ i) × (i < part.hi)
-in_parts i part h = (let q = and_first (leb part.lo i) (ltb i part.hi) h in grind (arith, nat_tests), and_second (leb part.lo i) i part.hi h)
+in_parts i part h = let q = and_parts (leb part.lo i) (ltb i part.hi) h in (leb-true part.lo i q.0, ltb-true i part.hi q.1)
 
-pub held_none : (parts : List Interval) (k end i from : ℕ) (part : Interval) (held : Bool) → k < length parts → get_or parts k part ≡ part → held ≡ covers_some (take k parts) i
-    → from ≤ part.lo → (from ≤ i → i < end → IsTrue held) → part.hi ≤ max part.lo end → held ≡ covers_some (take (k + 1) parts) i
-held_none parts k end i from part held lt is before low full beyond =
-    absorbed held (covers_some (take k parts) i) (is_in i part) before (λ t. let q = in_parts i part t in let a = q.0 in let b = q.1 in full (omega arith) (omega arith))
-    ∙ sym (covers_more parts k i part lt is)
+-- a part that lies before the end of what is held, and begins after its first index, adds nothing; an empty one neither
+pub nothing_new : (i from end : ℕ) (part : Interval) (held : Bool) → from ≤ part.lo → (from ≤ i → i < end → IsTrue held) → part.hi ≤ max part.lo end → held ≡ (held || is_in i part)
+nothing_new i from end part held low full beyond =
+    absorbed held held (is_in i part) refl (λ t. let q = in_parts i part t in let a = q.0 in let b = q.1 in full (omega arith) (omega arith))
 
-below_test : (m i : ℕ) → i < m → leb m i ≡ false
-below_test m i lt = grind (arith, nat_tests)
+pub empty_part : (i : ℕ) (part : Interval) (held : Bool) → part.hi ≤ part.lo → held ≡ (held || is_in i part)
+empty_part i part held none = absorbed held held (is_in i part) refl (λ t. absurd (let q = in_parts i part t in let a = q.0 in let b = q.1 in omega arith))
 
 same_test : (m n i : ℕ) → (m ≤ i → n ≤ i) → (n ≤ i → m ≤ i) → leb m i ≡ leb n i
 same_test m n i p q =
     dite (dec_le m i)
-    (λ le. let a : leb m i ≡ true = grind (arith, nat_tests) in let le' = p le in let b : leb n i ≡ true = grind (arith, nat_tests) in a ∙ sym b)
-    (λ no. let a : leb m i ≡ false = grind (arith, nat_tests) in let b : leb n i ≡ false = below_test n i (dite (dec_le n i) (λ ge. absurd (no (q ge))) (λ lt. omega arith)) in a ∙ sym b)
+    (λ le. le-leb m i le ∙ sym (le-leb n i (p le)))
+    (λ no. lt-leb m i (omega arith) ∙ sym (lt-leb n i (dite (dec_le n i) (λ ge. absurd (no (q ge))) (λ lt. omega arith))))
 
-pub held_push : (parts : List Interval) (k end i from : ℕ) (part : Interval) (held new : Bool) → k < length parts → get_or parts k part ≡ part → held ≡ covers_some (take k parts) i
-    → from ≤ part.lo → (from ≤ i → i < end → IsTrue held) → new ≡ (held || (leb (max part.lo end) i && ltb i part.hi)) → new ≡ covers_some (take (k + 1) parts) i
-held_push parts k end i from part held new lt is before low full pushed =
+-- of a part only what lies beyond the end of what is held has to be added
+pub beyond_end : (i from end : ℕ) (part : Interval) (held new : Bool) → from ≤ part.lo → (from ≤ i → i < end → IsTrue held)
+    → new ≡ (held || (leb (max part.lo end) i && ltb i part.hi)) → new ≡ (held || is_in i part)
+beyond_end i from end part held new low full pushed =
     dite (dec_le end i)
     (λ past.
     let same : leb (max part.lo end) i ≡ leb part.lo i = same_test (max part.lo end) part.lo i (omega arith) (omega arith) in
-    pushed ∙ ap₂ (λ a b. a || (b && ltb i part.hi)) before same ∙ sym (covers_more parts k i part lt is))
+    pushed ∙ ap (λ b. held || (b && ltb i part.hi)) same)
     (λ no.
-    let none : leb (max part.lo end) i ≡ false = below_test (max part.lo end) i (omega arith) in
+    let none : leb (max part.lo end) i ≡ false = lt-leb (max part.lo end) i (omega arith) in
     pushed ∙ ap (λ b. held || (b && ltb i part.hi)) none ∙ sym (or_false held)
-    ∙ absorbed held (covers_some (take k parts) i) (is_in i part) before (λ t. let q = in_parts i part t in let a = q.0 in full (omega arith) (omega arith))
-    ∙ sym (covers_more parts k i part lt is))
+    ∙ absorbed held held (is_in i part) refl (λ t. let q = in_parts i part t in let a = q.0 in full (omega arith) (omega arith)))
+
+-- what covers the parts so far, and then one more, covers them with that one
+pub part_more : (parts : List Interval) (k i : ℕ) (part : Interval) (held next : Bool) → k < length parts → get_or parts k part ≡ part → held ≡ covers_some (take k parts) i
+    → next ≡ (held || is_in i part) → next ≡ covers_some (take (k + 1) parts) i
+part_more parts k i part held next lt is before added = added ∙ ap (λ b. b || is_in i part) before ∙ sym (covers_more parts k i part lt is)
 
 -- what is held after a range was pushed
 pub below_push : (held new : Bool) (i lo hi end : ℕ) → new ≡ (held || (leb lo i && ltb i hi)) → (IsTrue held → i < end) → end ≤ hi → IsTrue new → i < hi
@@ -75,7 +74,7 @@ below_push true new i lo hi end pushed below le t = let q = below refl in omega 
 below_push false new i lo hi end pushed below le t = and_second (leb lo i) i hi (sym pushed ∙ t)
 
 both_tests : (lo i hi : ℕ) → lo ≤ i → i < hi → (leb lo i && ltb i hi) ≡ true
-both_tests lo i hi le lt = let a : leb lo i ≡ true = grind (arith, nat_tests) in let b : ltb i hi ≡ true = grind (arith, nat_tests) in ap₂ (λ p q. p && q) a b
+both_tests lo i hi le lt = and_from (leb lo i) (ltb i hi) (le-leb lo i le) (lt-ltb i hi lt)
 
 pub full_push : (held new : Bool) (i lo hi : ℕ) → new ≡ (held || (leb lo i && ltb i hi)) → (i < lo → IsTrue held) → i < hi → IsTrue new
 full_push true new i lo hi pushed full lt = pushed

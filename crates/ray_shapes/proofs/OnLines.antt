@@ -2,14 +2,13 @@
 use Rattle.std.proofs.Common.{◌≡◌, ◌↔◌, ℕ, ◌*◌, ◌<◌, ◌≤◌, ℤ, pos, negsuc, ◌+ℤ◌, ◌*ℤ◌, ◌≤ℤ◌, unsigned_abs, FitsSigned, w32, List, [], ◌∷◌, IsTrue, int_le, arith, sym, ap, subst}
 use Rattle.std.proofs.lemmas.Int.{ints}
 use Rattle.std.proofs.Math.IntN.{zero-*ℤ}
-use Rattle.std.proofs.Math.Nat.{mul-le-mul}
 use Rattle.ray_grid.specs.Grids.{GridSize}
 use Rattle.ray_grid.specs.declared.ray.Family.{Family}
 use Rattle.ray_grid.specs.declared.ray.Family.TheVariants.{X, Y, Z}
 use Rattle.space.specs.Vectors.{at}
 use Rattle.space.specs.Ranges.{IsBetween, metre}
 use Rattle.ray_grid.specs.Ranges.{IsGrid}
-use Rattle.ray_grid.specs.Families.{ray_axis, first_axis, second_axis}
+use Rattle.ray_grid.specs.Families.{first_axis, second_axis}
 use Rattle.ray_grid.specs.Lattice.{nodes_of, per_node, points_of, node_at, place_at, point_at}
 use Rattle.ray_grid.proofs.Sizes.{abs_is, times_is, axis_of, node_within, place_within, some_points}
 use Rattle.ray_shapes.specs.declared.plane.Plane.{Plane}

@@ -89,6 +89,9 @@ falls start (pos k) limit a b steps ab first last =
 pub told_not : {P : Type 0} (r : Bool) → IsTrue r ↔ P → r ≡ false → ¬ P
 told_not r test other h = let yes = test.1 h in cc
 
+pub term_fits : (z : ℤ) → IsTerm z → FitsSigned w64 z
+term_fits z t = let low = t.from_least in let high = t.to_most in omega (arith, ints)
+
 pub small_sum : (start rise : ℤ) → IsTerm start → IsTerm rise → IsBetween (negsuc 36028797018963967) (pos 36028797018963968) (start +ℤ rise)
 small_sum start rise s r =
     let a = s.from_least in let b = s.to_most in let c = r.from_least in let d = r.to_most in

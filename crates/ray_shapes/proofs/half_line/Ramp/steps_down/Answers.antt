@@ -1,6 +1,6 @@
-use Rattle.std.proofs.Common.{◌↔◌, ◌*◌, ◌≤◌, ℕ, ℤ, pos, ◌+ℤ◌, ◌*ℤ◌, ◌≤ℤ◌, unsigned_abs, arith, rules, subst, w64, FitsSigned}
+use Rattle.std.proofs.Common.{◌↔◌, ◌*◌, ◌≤◌, ℕ, ℤ, pos, ◌+ℤ◌, ◌-ℤ◌, ◌*ℤ◌, ◌≤ℤ◌, unsigned_abs, arith, rules, ◌∙◌, subst, sym, w64, FitsSigned}
 use Rattle.std.proofs.lemmas.Int.{to_z-of_z}
-use Rattle.ray_shapes.proofs.Rising.{falls}
+use Rattle.ray_shapes.proofs.Rising.{falls, small_sum, small_way}
 use Rattle.ray_shapes.proofs.half_line.Ramp.steps_down.Goals as goal
 
 pub returns-clause-inside : goal.returns-clause-inside
@@ -33,3 +33,16 @@ overflow_cast-result c =
     let r = falls side.start side.slope side.limit c.args.lo c.args.last c.whole_steps.result c.requires.order c.requires.beyond c.requires.last in
     let inside = r.inside fit in
     omega arith
+
+pub whole_steps-requires : goal.whole_steps-requires
+whole_steps-requires c =
+    let side = c.args.self.now in
+    let value = side.start +ℤ (side.slope *ℤ pos c.args.last) in let other = side.start +ℤ (side.slope *ℤ pos c.args.lo) in
+    let read = to_z-of_z w64 c.value_at.result (search rules) ∙ c.value_at.ensures in
+    let way = small_way value other side.limit (small_sum side.start (side.slope *ℤ pos c.args.last) c.requires.start c.requires.last_rise)
+    (small_sum side.start (side.slope *ℤ pos c.args.lo) c.requires.start c.requires.first_rise) c.requires.last c.requires.beyond in
+    record {
+      below = subst (λ (z : ℤ). z ≤ℤ side.limit) (sym read) c.requires.last;
+      small = subst (λ (z : ℤ). FitsSigned w64 (side.limit -ℤ z)) (sym read) way;
+      slope = (falls side.start side.slope side.limit c.args.lo c.args.last 0 c.requires.order c.requires.beyond c.requires.last).steep;
+    }
