@@ -1,10 +1,8 @@
-use Rattle.std.proofs.Common.{◌≤ℤ◌, ◌*◌, ◌^◌, ℤ, pos, unsigned_abs, FitsSigned, arith, rules, subst, sym}
+use Rattle.std.proofs.Common.{◌≤ℤ◌, ◌*◌, ◌^◌, pos, FitsSigned, arith, rules}
 use Rattle.std.proofs.lemmas.Int.{ints, to_z-of_z}
 use mir.Syntax.{w32, w128}
-use Rattle.space.specs.Vectors.{dot}
 use Rattle.sweep_boxes.specs.Held.{IsSpread}
 use Rattle.sweep_boxes.specs.Pieces.{IsBeside, middle_axis, middle_offset}
-use Rattle.sweep_boxes.specs.Vectors.{cross}
 use Rattle.sweep_boxes.proofs.AlongSide.{along_none, beside_on}
 use Rattle.sweep_boxes.proofs.spread.breadth_of.Goals as goal
 
@@ -20,5 +18,5 @@ returns c m k S slabs p highest of large among left =
     let small : across ≤ℤ pos (4 * 10 ^ 18) = omega (arith, ints, c.if-across-gt4000000000000000000.false) in
     let spread : IsSpread across side c.args.piece.now c.args.widest c.farthest-far.result = simp to_z-of_z at (c.spread_of-across.ensures.value small) in
     let held = beside_on c.args.piece.now m k S slabs p c.args.widest highest across side c.farthest-far.result of large left near spread in
-    let beside : IsBeside side across v a = subst (λ (z : ℤ). pos (unsigned_abs (dot side (cross v a))) ≤ℤ z) (sym spread.across_is) (omega (arith, ints, held)) in
+    let beside : IsBeside side across v a = omega (arith, ints, held, spread.across_is) in
     simp to_z-of_z beside
