@@ -4,7 +4,7 @@ use Rattle.std.specs.Prelude.{bit_and, bit_or}
 use Rattle.std.proofs.lemmas.Bool.{or_cases, cases_eq, eq-eqb, not_from_true, and_right}
 use Rattle.std.proofs.lemmas.Nat.{and_le_l}
 use Rattle.vf_spans.specs.Words.{has_bit}
-use Rattle.vf_spans.proofs.WordBits.{has_bit-and, has_bit-or, has_bit-not, has_bit-one}
+use Rattle.vf_spans.proofs.WordBits.{has_bit-and, has_bit-or, has_bit-not, has_bit-one, has_bit-zero}
 
 one_fits : (b : ℕ) → 1 * 2 ^ b % 2 ^ 64 < 2 ^ 64
 one_fits b = omega arith
@@ -59,3 +59,7 @@ set_without word others less k is set = both_first (has_bit word k) (not (has_bi
 
 pub set_in_both : (a b k : ℕ) → has_bit (bit_and a b) k ≡ true → has_bit a k ≡ true
 set_in_both a b k set = both_first (has_bit a k) (has_bit b k) (sym (has_bit-and a b k) ∙ set)
+
+-- no bit of nothing is set
+pub none_set : {P : Type 0} (word k : ℕ) → word ≡ 0 → has_bit word k ≡ true → P
+none_set word k none set = let not_set = ap (λ z. has_bit z k) none ∙ has_bit-zero k in absurd (cc)

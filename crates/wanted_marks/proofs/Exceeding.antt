@@ -1,8 +1,9 @@
 -- A list of five coefficients against five limits, one by one.
-use Rattle.std.proofs.Common.{◌≡◌, true, false, ℕ, zero, suc, ◌<◌, List, ℤ, pos, negsuc, ◌-ℤ◌, ◌<ℤ◌, ◌≤ℤ◌, ◌⊎◌, int_le, int_lt, inl, inr, arith, ⊎_elim}
-use Rattle.std.proofs.lemmas.Int.{ints}
+use Rattle.std.proofs.Common.{◌≡◌, true, false, ℕ, zero, suc, ◌<◌, List, ℤ, pos, negsuc, ◌-ℤ◌, ◌<ℤ◌, ◌≤ℤ◌, ◌⊎◌, int_le, int_lt, inl, inr, arith, ⊎_elim, FitsSigned, of_z, to_z, ap, sym, ◌∙◌}
+use Rattle.std.proofs.lemmas.Int.{ints, to_z-of_z}
 use Rattle.std.proofs.lemmas.Bool.{cases_lt}
 use Rattle.std.proofs.lemmas.Bool.Decides.{not_from_Decides}
+use mir.Syntax.{w64}
 use Rattle.space.proofs.Tests.{decides_le, decides_lt}
 use Rattle.space.specs.Vectors.{at}
 use Rattle.bern_form.specs.Forms.{all_positive, difference4}
@@ -38,6 +39,10 @@ less_or_not (negsuc m) (negsuc n) = ⊎_elim (λ l. inl (omega (arith, ints))) (
 
 pub not_less : (a b : ℤ) → int_lt a b ≡ false → b ≤ℤ a
 not_less a b h = let no = not_from_Decides (int_lt a b) (decides_lt a b) h in ⊎_elim (λ less. absurd (no less)) (λ more. more) (less_or_not a b)
+
+-- the same of a number that is read from its bits and compared with 0
+pub read_natural : (a : ℤ) → FitsSigned w64 a → int_lt (to_z w64 (of_z w64 a)) (pos 0) ≡ false → pos 0 ≤ℤ a
+read_natural a fits h = not_less a (pos 0) (ap (λ z. int_lt z (pos 0)) (sym (to_z-of_z w64 a fits)) ∙ h)
 
 pub not_at_most : (a b : ℤ) → int_le a b ≡ false → b <ℤ a
 not_at_most a b h = let no = not_from_Decides (int_le a b) (decides_le a b) h in ⊎_elim (λ less. less) (λ more. absurd (no more)) (less_or_not b a)

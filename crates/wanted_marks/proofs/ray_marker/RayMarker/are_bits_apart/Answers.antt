@@ -1,11 +1,10 @@
-use Rattle.std.proofs.Common.{◌+◌, arith, ap, ◌∙◌}
-use Rattle.vf_spans.specs.Words.{has_bit}
-use Rattle.vf_spans.proofs.WordBits.{has_bit-zero}
+use Rattle.std.proofs.Common.{◌+◌, arith}
 use Rattle.vf_spans.proofs.HighestBit.{at_least, at_most}
+use Rattle.wanted_marks.proofs.BitLemmas.{none_set}
 use Rattle.wanted_marks.proofs.ray_marker.RayMarker.are_bits_apart.Goals as goal
 
 pub returns-then-bits-eq0 : goal.returns-then-bits-eq0
-returns-then-bits-eq0 c = λ yes b below set. let none = ap (λ z. has_bit z b) c.if-bits-eq0.true ∙ has_bit-zero b in absurd (cc)
+returns-then-bits-eq0 c = λ yes b below set. none_set c.args.bits b c.if-bits-eq0.true set
 
 pub returns : goal.returns
 returns c = λ yes b below set.

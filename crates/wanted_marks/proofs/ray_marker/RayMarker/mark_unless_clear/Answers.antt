@@ -1,16 +1,16 @@
-use Rattle.std.proofs.Common.{◌+◌, ◌∙◌}
+use Rattle.std.proofs.Common.{◌+◌, refl, ◌∙◌}
 use Rattle.vf_spans.specs.Words.{has_bit}
 use Rattle.vf_spans.proofs.WordBits.{has_bit-zero}
 use Rattle.wanted_marks.specs.Rays.{is_possible_at, is_sure_at}
-use Rattle.wanted_marks.proofs.BitLemmas.{set_without}
+use Rattle.wanted_marks.proofs.BitLemmas.{none_set, set_without}
 use Rattle.wanted_marks.proofs.Opening.{fewer_open, none_told}
 use Rattle.wanted_marks.proofs.ray_marker.RayMarker.mark_unless_clear.Goals as goal
 
 pub sure_beside-sure-requires-clause-among : goal.sure_beside-sure-requires-clause-among
-sure_beside-sure-requires-clause-among c = λ b below set. let none = has_bit-zero b in absurd (cc)
+sure_beside-sure-requires-clause-among c = λ b below set. none_set 0 b refl set
 
 pub sure_beside-sure-requires-clause-known : goal.sure_beside-sure-requires-clause-known
-sure_beside-sure-requires-clause-known c = λ b below set. let none = has_bit-zero b in absurd (cc)
+sure_beside-sure-requires-clause-known c = λ b below set. none_set 0 b refl set
 
 pub mark_open-marks-requires-clause-open : goal.mark_open-marks-requires-clause-open
 mark_open-marks-requires-clause-open c =

@@ -1,15 +1,15 @@
-use Rattle.std.proofs.Common.{◌≡◌, ℕ, ◌+◌, ◌<◌, true, ap, subst, ◌∙◌}
+use Rattle.std.proofs.Common.{◌≡◌, ℕ, ◌+◌, ◌<◌, true, subst}
 use Rattle.std.specs.Option.{MatchOption}
 use Rattle.ray_grid.specs.Lattice.{point_of}
 use Rattle.vf_spans.specs.Words.{has_bit}
-use Rattle.vf_spans.proofs.WordBits.{has_bit-zero}
 use Rattle.wanted_marks.specs.Opens.{AreOpenAt}
 use Rattle.wanted_marks.specs.Rays.{IsClearOf, RayOf}
+use Rattle.wanted_marks.proofs.BitLemmas.{none_set}
 use Rattle.wanted_marks.proofs.Opening.{bits_open}
 use Rattle.wanted_marks.proofs.ray_marker.RayMarker.open_of_bits.Goals as goal
 
 pub returns-then-bits-eq0 : goal.returns-then-bits-eq0
-returns-then-bits-eq0 c = λ b below set. let none = ap (λ z. has_bit z b) c.if-bits-eq0.true ∙ has_bit-zero b in absurd (cc)
+returns-then-bits-eq0 c = λ b below set. none_set c.args.bits b c.if-bits-eq0.true set
 
 pub returns : goal.returns
 returns c =
