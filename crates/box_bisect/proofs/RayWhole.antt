@@ -133,3 +133,12 @@ ray_cost outer outer' reach m point n scale depth a b low high x y z near reache
     (subst (λ i. z ≤ y + length outer * (4 * (1 + over_children (weight (is_undecided outer m point i) ((depth + (b - a)) - 1)) depth 0 a b))) es (g ((depth + (b - a)) - 1) (omega (arith, some)))) in
     subst (λ l. z ≤ x + length l * (1 + 4 * undecided_along l m point depth low high)) eo
     (subst (λ i. z ≤ x + length outer * (1 + 4 * undecided_along outer m point depth i high)) (sym same.0) (subst (λ i. z ≤ x + length outer * (1 + 4 * undecided_along outer m point depth a i)) (sym same.1) cost))
+
+-- what is done before a box is halved stays within any cost
+pub no_cost : (steps slabs w : ℕ) → steps ≤ steps + slabs * (1 + 4 * w)
+no_cost steps slabs w = omega arith
+
+pub first_cost : (outer stack : List SlabSize) (before after w : ℕ) → outer ≡ stack → after ≤ before + length outer → after ≤ before + length stack * (1 + 4 * w)
+first_cost outer stack before after w same cost =
+    let less : length outer ≤ length outer * (1 + 4 * w) = omega arith in
+    subst (λ (l : List SlabSize). after ≤ before + length l * (1 + 4 * w)) same (omega (arith, less, cost))

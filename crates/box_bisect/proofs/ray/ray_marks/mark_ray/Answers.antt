@@ -1,4 +1,4 @@
-use Rattle.std.proofs.Common.{◌≡◌, true, ℕ, ◌+◌, ◌^◌, List, [], length, ℤ, pos, FitsSigned, arith, refl, subst, sym, ap, ◌∙◌}
+use Rattle.std.proofs.Common.{◌≡◌, true, ℕ, ◌+◌, ◌^◌, ◌≤◌, List, [], length, ℤ, pos, FitsSigned, arith, refl, subst, sym, ap, ◌∙◌}
 use Rattle.std.proofs.lemmas.Int.{to_z-of_z}
 use mir.Syntax.{w32}
 use Rattle.space.specs.Motion.{IsSweep, Motion}
@@ -9,10 +9,12 @@ use Rattle.cutter_slabs.specs.Stacks.{inner_stack, outer_stack, reach_of}
 use Rattle.axis_cells.specs.declared.mark.Mark.{Mark}
 use Rattle.axis_cells.specs.declared.mark.Mark.TheVariants.{Clear}
 use Rattle.std.proofs.lemmas.List.{length-replicate}
+use Rattle.box_bisect.specs.RayBoxes.{undecided_along}
 use Rattle.box_bisect.specs.RayMarks.{AreInReach}
+use Rattle.box_bisect.proofs.RayHalves.{whole_box}
 use Rattle.box_bisect.proofs.RayRaising.{raised_none}
 use Rattle.box_bisect.proofs.RayLines.{ray_line}
-use Rattle.box_bisect.proofs.RayWhole.{clear_all, marks_of, possible_flags, raised_as, raised_nowhere, ray_cost, sure_flags}
+use Rattle.box_bisect.proofs.RayWhole.{clear_all, first_cost, marks_of, no_cost, possible_flags, raised_as, raised_nowhere, ray_cost, sure_flags}
 use Rattle.box_bisect.proofs.Searching.{some_cells}
 use Rattle.box_bisect.proofs.ray.ray_marks.mark_ray.Goals as goal
 
@@ -83,6 +85,60 @@ returns-then-not-is_undecided-clause-possible g c =
     (raised_none inner outer m point scale depth 0 a b [] (ray_line c.args.grid.now c.args.ray.now) (omega (arith, cells, one)) enclosed (sym c.is_undecided.ensures.left ∙ c.if-not-is_undecided.true)) in
     let marks = marks_of (inner_stack cutter k) (outer_stack cutter k) (pos (reach_of cutter)) m point S n a b [] [] near both (λ l. refl) raised in
     possible_flags cutter k m point S n [] c.none-then-not-is_undecided.result.possible (c.none-then-not-is_undecided.ensures.possible_bound ∙ c.points-bound.ensures) c.none-then-not-is_undecided.ensures.possible both marks
+
+pub is_undecided-requires-clause-part : goal.is_undecided-requires-clause-part
+is_undecided-requires-clause-part g c =
+    whole_box c.args.depth c.window-from.result.0 c.window-from.result.1 c.cells_of-scale.result (points_of c.args.grid.now c.args.ray.now.family) c.requires.depth
+    c.cells_of-scale.ensures.cells c.window-from.ensures.order c.if-from-to.false c.window-from.ensures.within
+
+pub mark_children-requires-clause-part : goal.mark_children-requires-clause-part
+mark_children-requires-clause-part g c =
+    whole_box c.args.depth c.window-from.result.0 c.window-from.result.1 c.cells_of-scale.result (points_of c.args.grid.now c.args.ray.now.family) c.requires.depth
+    c.cells_of-scale.ensures.cells c.window-from.ensures.order c.if-from-to.false c.window-from.ensures.within
+
+pub mark_children-requires-clause-left : goal.mark_children-requires-clause-left
+mark_children-requires-clause-left g c = sym c.is_undecided.ensures.left ∙ c.if-not-is_undecided.false
+
+pub mark_children-requires-clause-marks : goal.mark_children-requires-clause-marks
+mark_children-requires-clause-marks g c =
+    let items = c.in_ok-marks.ensures.items_if_clones_equal (λ y h. h) in
+    ap (λ (l : List Mark). length l) (c.as_mut_slice-row.ensures.value ∙ items) ∙ length-replicate c.points-bound.result Clear ∙ c.points-bound.ensures
+
+pub returns-then-from-to-clause-cost : goal.returns-then-from-to-clause-cost
+returns-then-from-to-clause-cost g c = λ low high reached.
+    let outer = outer_stack c.args.stacks.now.cutter c.args.stacks.now.slabs in
+    no_cost c.args.steps.now (length outer) (undecided_along outer c.args.sweep.now (point_of c.args.grid.now c.args.ray.now) c.args.depth low high)
+
+pub returns-then-not-is_undecided-clause-cost : goal.returns-then-not-is_undecided-clause-cost
+returns-then-not-is_undecided-clause-cost g c = λ low high reached.
+    let outer = outer_stack c.args.stacks.now.cutter c.args.stacks.now.slabs in
+    first_cost c.outer-outer.result.now outer c.args.steps.now c.is_undecided.new.steps
+    (undecided_along outer c.args.sweep.now (point_of c.args.grid.now c.args.ray.now) c.args.depth low high) c.outer-outer.ensures.stack c.is_undecided.ensures.cost
+
+pub returns-in_err-marks-clause-cost : goal.returns-in_err-marks-clause-cost
+returns-in_err-marks-clause-cost g c = λ low high reached.
+    let outer = outer_stack c.args.stacks.now.cutter c.args.stacks.now.slabs in
+    first_cost c.outer-outer.result.now outer c.args.steps.now c.is_undecided.new.steps
+    (undecided_along outer c.args.sweep.now (point_of c.args.grid.now c.args.ray.now) c.args.depth low high) c.outer-outer.ensures.stack c.is_undecided.ensures.cost
+
+pub mark_children-requires-clause-as_many : goal.mark_children-requires-clause-as_many
+mark_children-requires-clause-as_many g c =
+    subst (λ (l : List SlabSize). length l ≤ length c.outer-outer.result.now) (sym c.inner-inner.ensures.stack) (omega (arith, c.outer-outer.ensures.as_many))
+
+pub mark_children-requires-clause-inner : goal.mark_children-requires-clause-inner
+mark_children-requires-clause-inner g c = c.inner-inner.ensures.rising
+
+pub mark_children-requires-clause-scale : goal.mark_children-requires-clause-scale
+mark_children-requires-clause-scale g c = c.cells_of-scale.ensures.few
+
+pub is_undecided-requires-clause-scale : goal.is_undecided-requires-clause-scale
+is_undecided-requires-clause-scale g c = c.cells_of-scale.ensures.few
+
+pub mark_children-requires-clause-ray : goal.mark_children-requires-clause-ray
+mark_children-requires-clause-ray g c = c.requires.ray
+
+pub is_undecided-requires-clause-ray : goal.is_undecided-requires-clause-ray
+is_undecided-requires-clause-ray g c = c.requires.ray
 
 pub mark_children-requires-clause-enclosed : goal.mark_children-requires-clause-enclosed
 mark_children-requires-clause-enclosed g c = λ p i held.

@@ -4,11 +4,28 @@ use Rattle.axis_cells.specs.declared.mark.Mark.{Mark}
 use Rattle.box_bisect.specs.RayBoxes.{IsBox, along, is_undecided, middle, weight}
 use Rattle.box_bisect.specs.RayMarks.{AreRaised}
 use Rattle.box_bisect.proofs.RayCounting.{cost_halves, cost_in_time, cost_on_cell, cost_undecided}
-use Rattle.box_bisect.proofs.RayHalves.{early_box, late_box}
+use Rattle.box_bisect.proofs.RayHalves.{early_box, late_box, lower_box, upper_box}
 use Rattle.box_bisect.proofs.RayLines.{ray_line}
 use Rattle.box_bisect.proofs.RayRaising.{raised_after, raised_beside, raised_cell, raised_none}
 use Rattle.box_bisect.proofs.Searching.{halved, some_cells}
 use Rattle.box_bisect.proofs.ray.search.+boxes.Goals as goal
+
+pub mark_along-mark_box-requires : goal.mark_along-mark_box-requires
+mark_along-mark_box-requires g t c κs within =
+    let is = c.requires in
+    (omega arith, (within, (is.ray, (is.scale, (is.part, (is.marks, (is.as_many, (is.inner, is.enclosed))))))))
+
+pub mark_along-mark_box-requires-2 : goal.mark_along-mark_box-requires-2
+mark_along-mark_box-requires-2 g t c κs within =
+    let is = c.requires in let part = c.args.part in
+    let box = lower_box part.levels part.first part.from part.to c.args.scale (points_of c.args.grid.now c.args.ray.now.family) c.if-part-lt2.false is.part in
+    (omega (arith, c.if-part-lt2.false), (within, (is.ray, (is.scale, (box, (is.marks, (is.as_many, (is.inner, is.enclosed))))))))
+
+pub mark_along-mark_box-requires-3 : goal.mark_along-mark_box-requires-3
+mark_along-mark_box-requires-3 g t c κs within =
+    let is = c.requires in let part = c.args.part in
+    let box = upper_box part.levels part.first part.from part.to c.args.scale (points_of c.args.grid.now c.args.ray.now.family) c.if-part-lt2.false is.part in
+    (omega (arith, c.if-part-lt2.false), (within, (is.ray, (is.scale, (box, (c.mark_box-2.auto.marks ∙ is.marks, (is.as_many, (is.inner, is.enclosed))))))))
 
 pub mark_along-returns-clause-raised : goal.mark_along-returns-clause-raised
 mark_along-returns-clause-raised g t c =
@@ -30,6 +47,11 @@ mark_box-returns-then-not-is_undecided-clause-raised g t c =
     raised_none inner outer m point S part.levels part.first part.from part.to c.args.marks.now (ray_line c.args.grid.now c.args.ray.now) (omega (arith, cells, one)) c.requires.enclosed
     (sym c.is_undecided.ensures.left ∙ c.if-not-is_undecided.true)
 
+pub mark_box-mark_children-requires : goal.mark_box-mark_children-requires
+mark_box-mark_children-requires g t c κs within =
+    let is = c.requires in let left = sym c.is_undecided.ensures.left ∙ c.if-not-is_undecided.false in
+    (omega arith, (within, (is.ray, (is.scale, (is.part, (left, (is.marks, (is.as_many, (is.inner, is.enclosed)))))))))
+
 pub mark_box-returns-clause-cost : goal.mark_box-returns-clause-cost
 mark_box-returns-clause-cost g t c = λ halvings few.
     let outer = c.args.outer.now in let m = c.args.sweep.now in let point = point_of c.args.grid.now c.args.ray.now in let S = c.args.scale in let part = c.args.part in
@@ -45,6 +67,20 @@ mark_children-returns-then-part-lt2-clause-raised g t c =
     subst (λ (x : Mark). AreRaised inner outer m point S part.first k part.from part.to marks (set marks part.from x)) (sym c.greater.ensures)
     (raised_cell inner outer m point S part.levels part.first part.from part.to marks c.mark_on_cell-mark.result c.if-part-eq0.true (omega (arith, one, c.if-part-lt2.true)) (omega (arith, one, within, size))
     c.requires.left c.mark_on_cell-mark.ensures.mark)
+
+pub mark_children-mark_box-requires : goal.mark_children-mark_box-requires
+mark_children-mark_box-requires g t c κs within =
+    let is = c.requires in let part = c.args.part in let points = points_of c.args.grid.now c.args.ray.now.family in
+    let box = lower_box 0 part.first part.from part.to c.args.scale points c.if-part-lt2.false
+    (subst (λ (n : ℕ). IsBox n part.first part.from part.to c.args.scale points) c.if-part-eq0.true is.part) in
+    (omega (arith, c.if-part-lt2.false), (within, (is.ray, (is.scale, (box, (is.marks, (is.as_many, (is.inner, is.enclosed))))))))
+
+pub mark_children-mark_box-requires-then-part-eq0 : goal.mark_children-mark_box-requires-then-part-eq0
+mark_children-mark_box-requires-then-part-eq0 g t c κs within =
+    let is = c.requires in let part = c.args.part in let points = points_of c.args.grid.now c.args.ray.now.family in
+    let box = upper_box 0 part.first part.from part.to c.args.scale points c.if-part-lt2.false
+    (subst (λ (n : ℕ). IsBox n part.first part.from part.to c.args.scale points) c.if-part-eq0.true is.part) in
+    (omega (arith, c.if-part-lt2.false), (within, (is.ray, (is.scale, (box, (c.mark_box.auto.marks ∙ is.marks, (is.as_many, (is.inner, is.enclosed))))))))
 
 pub mark_children-returns-then-part-eq0-clause-raised : goal.mark_children-returns-then-part-eq0-clause-raised
 mark_children-returns-then-part-eq0-clause-raised g t c =
