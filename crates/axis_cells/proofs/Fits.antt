@@ -1,13 +1,14 @@
 -- Numbers that fit their types.
-use Rattle.std.proofs.Common.{◌≡◌, to_z, of_z, ◌*◌, ◌≤◌, List, ℤ, pos, ◌*ℤ◌, ◌-ℤ◌, unsigned_abs, FitsSigned, arith}
-use Rattle.std.proofs.lemmas.Int.{to_z-of_z}
-use mir.Syntax.{w128}
+use Rattle.std.proofs.Common.{◌≡◌, to_z, of_z, ℕ, ◌+◌, ◌*◌, ◌<◌, ◌≤◌, ◌^◌, List, ℤ, pos, ◌+ℤ◌, ◌*ℤ◌, ◌-ℤ◌, ◌≤ℤ◌, unsigned_abs, FitsSigned, ap, arith, subst, sym, ◌∙◌}
+use Rattle.std.proofs.lemmas.Int.{fits_signed_from_abs, ints, to_z-of_z}
+use mir.Syntax.{Width, w32, w64, w128}
+use mir.Val.{hbits}
 use Rattle.space.specs.Vectors.{dot}
 use Rattle.space.specs.Ranges.{IsWithin}
 use Rattle.bern_form.specs.Sizes.{axis_limit, length_limit, offset_limit, scale_limit}
 use Rattle.bern_form.proofs.Sizes.{dot_small}
 use Rattle.space.proofs.Facts.{fits128}
-use Rattle.space.proofs.Naturals.{abs_mul, abs_sub}
+use Rattle.space.proofs.Naturals.{abs_add, abs_mul, abs_sub}
 
 -- the square of a scaled length
 pub scaled_small : (scale length : ℤ) → unsigned_abs scale ≤ scale_limit → unsigned_abs length ≤ 300000 → unsigned_abs (scale *ℤ length) ≤ length_limit
@@ -70,3 +71,85 @@ height_fits u h =
 pub width_fits : (w : ℤ) → unsigned_abs w ≤ 18 * (offset_limit * axis_limit) * (offset_limit * axis_limit) → FitsSigned w128 (pos 4 *ℤ w)
 width_fits w h =
     fits128 (pos 4 *ℤ w) (4 * (18 * (offset_limit * axis_limit) * (offset_limit * axis_limit))) (abs_mul (pos 4) w 4 (18 * (offset_limit * axis_limit) * (offset_limit * axis_limit)) (omega arith) h) (omega arith)
+
+-- the same of numbers that are read back from their bits, and a slab's length that is
+back_128 : (z : ℤ) (n : ℕ) → unsigned_abs z ≤ n → n < 2 ^ 127 → to_z w128 (of_z w128 z) ≡ z
+back_128 z n small fits = to_z-of_z w128 z (fits128 z n small fits)
+
+pub read_height_fits : (u : ℤ) → unsigned_abs u ≤ 3 * (offset_limit * axis_limit) → FitsSigned w128 (to_z w128 (of_z w128 u) *ℤ to_z w128 (of_z w128 u))
+read_height_fits u h =
+    subst (λ (z : ℤ). FitsSigned w128 (z *ℤ z)) (sym (back_128 u (3 * (offset_limit * axis_limit)) h (omega arith))) (height_fits u h)
+
+pub read_width_fits : (w : ℤ) → unsigned_abs w ≤ 18 * (offset_limit * axis_limit) * (offset_limit * axis_limit) → FitsSigned w128 (pos 4 *ℤ to_z w128 (of_z w128 w))
+read_width_fits w h =
+    subst (λ (z : ℤ). FitsSigned w128 (pos 4 *ℤ z)) (sym (back_128 w (18 * (offset_limit * axis_limit) * (offset_limit * axis_limit)) h (omega arith))) (width_fits w h)
+
+pub read_length_small : (length : ℤ) → pos 0 ≤ℤ length → length ≤ℤ pos 300000 → unsigned_abs (to_z w32 (of_z w32 length)) ≤ 300000
+read_length_small length low high =
+    let small : unsigned_abs length ≤ 300000 = omega (arith, ints) in
+    subst (λ (z : ℤ). unsigned_abs z ≤ 300000) (sym (to_z-of_z w32 length (fits_signed_from_abs w32 length (omega arith)))) small
+
+-- a product of two numbers that are read back from their bits
+pub record ReadProductFits (w : Width) (a b x y : ℤ) (most : ℕ) : Type 0 where
+  pub fits : FitsSigned w (to_z w (of_z w a) *ℤ to_z w (of_z w b))
+  pub value : to_z w (of_z w (to_z w (of_z w a) *ℤ to_z w (of_z w b))) ≡ x *ℤ y
+  pub small : unsigned_abs (to_z w (of_z w (to_z w (of_z w a) *ℤ to_z w (of_z w b)))) ≤ most
+
+read_product_fits : (w : Width) (a b x y : ℤ) (m n : ℕ) → a ≡ x → b ≡ y → unsigned_abs x ≤ m → unsigned_abs y ≤ n → m < 2 ^ hbits w → n < 2 ^ hbits w → m * n < 2 ^ hbits w
+    → ReadProductFits w a b x y (m * n)
+read_product_fits w a b x y m n same_a same_b hx hy fits_x fits_y fits_both =
+    let small = abs_mul x y m n hx hy in
+    let fits : FitsSigned w (x *ℤ y) = fits_signed_from_abs w (x *ℤ y) (omega (arith, small, fits_both)) in
+    let read_a : to_z w (of_z w a) ≡ x = ap (λ (z : ℤ). to_z w (of_z w z)) same_a ∙ to_z-of_z w x (fits_signed_from_abs w x (omega (arith, hx, fits_x))) in
+    let read_b : to_z w (of_z w b) ≡ y = ap (λ (z : ℤ). to_z w (of_z w z)) same_b ∙ to_z-of_z w y (fits_signed_from_abs w y (omega (arith, hy, fits_y))) in
+    let both : to_z w (of_z w a) *ℤ to_z w (of_z w b) ≡ x *ℤ y = ap (λ (z : ℤ). z *ℤ to_z w (of_z w b)) read_a ∙ ap (λ (z : ℤ). x *ℤ z) read_b in
+    let value : to_z w (of_z w (to_z w (of_z w a) *ℤ to_z w (of_z w b))) ≡ x *ℤ y = ap (λ (z : ℤ). to_z w (of_z w z)) both ∙ to_z-of_z w (x *ℤ y) fits in record {
+      fits = subst (λ (z : ℤ). FitsSigned w z) (sym both) fits;
+      value = value;
+      small = subst (λ (z : ℤ). unsigned_abs z ≤ m * n) (sym value) small;
+    }
+
+pub weighted_fits : (weight : ℕ) (place a b : ℤ) → weight ≤ scale_limit → unsigned_abs place ≤ 1000000 → a ≡ pos weight → b ≡ to_z w32 (of_z w32 place)
+    → ReadProductFits w64 a b (pos weight) place (weight * 1000000)
+weighted_fits weight place a b h k same_a same_b =
+    read_product_fits w64 a b (pos weight) place weight 1000000 same_a (same_b ∙ to_z-of_z w32 place (fits_signed_from_abs w32 place (omega arith))) (omega arith) k (omega arith) (omega arith) (omega arith)
+
+pub scaled_fits : (scale : ℕ) (length a b : ℤ) → scale ≤ scale_limit → unsigned_abs length ≤ 300000 → a ≡ pos scale → b ≡ to_z w32 (of_z w32 length)
+    → ReadProductFits w128 a b (pos scale) length length_limit
+scaled_fits scale length a b h k same_a same_b =
+    read_product_fits w128 a b (pos scale) length scale_limit 300000 same_a (same_b ∙ to_z-of_z w32 length (fits_signed_from_abs w32 length (omega arith))) h k (omega arith) (omega arith) (omega arith)
+
+pub scaled_square_fits : (scale : ℕ) (length a : ℤ) → unsigned_abs a ≤ length_limit → unsigned_abs length ≤ 300000 → a ≡ pos scale *ℤ to_z w32 (of_z w32 length)
+    → ReadProductFits w128 a a (pos scale *ℤ length) (pos scale *ℤ length) (length_limit * length_limit)
+scaled_square_fits scale length a small k same =
+    let is : a ≡ pos scale *ℤ length = same ∙ ap (λ (z : ℤ). pos scale *ℤ z) (to_z-of_z w32 length (fits_signed_from_abs w32 length (omega arith))) in
+    let less = subst (λ (z : ℤ). unsigned_abs z ≤ length_limit) is small in
+    read_product_fits w128 a a (pos scale *ℤ length) (pos scale *ℤ length) length_limit length_limit is is less less (omega arith) (omega arith) (omega arith)
+
+pub component_fits : (p a x y : ℤ) → unsigned_abs p ≤ offset_limit → unsigned_abs a ≤ offset_limit → x ≡ to_z w64 (of_z w64 p) → y ≡ to_z w64 (of_z w64 a)
+    → ReadProductFits w128 x y p a (offset_limit * offset_limit)
+component_fits p a x y h k same_x same_y =
+    read_product_fits w128 x y p a offset_limit offset_limit (same_x ∙ to_z-of_z w64 p (fits_signed_from_abs w64 p (omega arith))) (same_y ∙ to_z-of_z w64 a (fits_signed_from_abs w64 a (omega arith)))
+    h k (omega arith) (omega arith) (omega arith)
+
+-- the sum of three such products
+pub record ReadSumFits (a b c : ℤ) : Type 0 where
+  pub two : FitsSigned w128 (to_z w128 (of_z w128 a) +ℤ to_z w128 (of_z w128 b))
+  pub three : FitsSigned w128 (to_z w128 (of_z w128 (to_z w128 (of_z w128 a) +ℤ to_z w128 (of_z w128 b))) +ℤ to_z w128 (of_z w128 c))
+  pub value : to_z w128 (of_z w128 (to_z w128 (of_z w128 (to_z w128 (of_z w128 a) +ℤ to_z w128 (of_z w128 b))) +ℤ to_z w128 (of_z w128 c))) ≡ (a +ℤ b) +ℤ c
+
+pub read_sum_fits : (a b c : ℤ) → unsigned_abs a ≤ offset_limit * offset_limit → unsigned_abs b ≤ offset_limit * offset_limit → unsigned_abs c ≤ offset_limit * offset_limit
+    → ReadSumFits a b c
+read_sum_fits a b c ha hb hc =
+    let n = offset_limit * offset_limit in let sum = abs_add a b in let total = abs_add (a +ℤ b) c in
+    let fits_two : FitsSigned w128 (a +ℤ b) = fits128 (a +ℤ b) (n + n) (omega (arith, sum, ha, hb)) (omega arith) in
+    let fits_three : FitsSigned w128 ((a +ℤ b) +ℤ c) = fits128 ((a +ℤ b) +ℤ c) (n + n + n) (omega (arith, sum, total, ha, hb, hc)) (omega arith) in
+    let two : to_z w128 (of_z w128 a) +ℤ to_z w128 (of_z w128 b) ≡ a +ℤ b =
+    ap (λ (z : ℤ). z +ℤ to_z w128 (of_z w128 b)) (back_128 a n ha (omega arith)) ∙ ap (λ (z : ℤ). a +ℤ z) (back_128 b n hb (omega arith)) in
+    let three : to_z w128 (of_z w128 (to_z w128 (of_z w128 a) +ℤ to_z w128 (of_z w128 b))) +ℤ to_z w128 (of_z w128 c) ≡ (a +ℤ b) +ℤ c =
+    ap (λ (z : ℤ). to_z w128 (of_z w128 z) +ℤ to_z w128 (of_z w128 c)) two ∙ ap (λ (z : ℤ). z +ℤ to_z w128 (of_z w128 c)) (to_z-of_z w128 (a +ℤ b) fits_two)
+    ∙ ap (λ (z : ℤ). (a +ℤ b) +ℤ z) (back_128 c n hc (omega arith)) in record {
+      two = subst (λ (z : ℤ). FitsSigned w128 z) (sym two) fits_two;
+      three = subst (λ (z : ℤ). FitsSigned w128 z) (sym three) fits_three;
+      value = ap (λ (z : ℤ). to_z w128 (of_z w128 z)) three ∙ to_z-of_z w128 ((a +ℤ b) +ℤ c) fits_three;
+    }

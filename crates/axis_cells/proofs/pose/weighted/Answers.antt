@@ -1,11 +1,11 @@
-use Rattle.std.proofs.Common.{◌≤◌, ◌*◌, ℤ, pos, unsigned_abs, arith, subst, sym}
-use Rattle.std.proofs.lemmas.Grind.{common_steps}
-use Rattle.space.proofs.Naturals.{abs_mul}
+use Rattle.axis_cells.proofs.Fits.{weighted_fits}
 use Rattle.axis_cells.proofs.pose.weighted.Goals as goal
 
+pub overflow_mul-result : goal.overflow_mul-result
+overflow_mul-result c = (weighted_fits c.args.weight c.args.place c.from.result c.from-2.result c.requires.weight c.requires.place c.from.ensures c.from-2.ensures).fits
+
 pub returns-clause-value : goal.returns-clause-value
-returns-clause-value c = grind (arith, common_steps)
+returns-clause-value c = (weighted_fits c.args.weight c.args.place c.from.result c.from-2.result c.requires.weight c.requires.place c.from.ensures c.from-2.ensures).value
 
 pub returns-clause-small : goal.returns-clause-small
-returns-clause-small c =
-    subst (λ (z : ℤ). unsigned_abs z ≤ c.args.weight * 1000000) (sym (returns-clause-value c)) (abs_mul (pos c.args.weight) c.args.place c.args.weight 1000000 (omega arith) c.requires.place)
+returns-clause-small c = (weighted_fits c.args.weight c.args.place c.from.result c.from-2.result c.requires.weight c.requires.place c.from.ensures c.from-2.ensures).small
