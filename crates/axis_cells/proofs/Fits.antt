@@ -1,5 +1,5 @@
 -- Numbers that fit their types.
-use Rattle.std.proofs.Common.{◌≡◌, to_z, of_z, ℕ, ◌+◌, ◌*◌, ◌<◌, ◌≤◌, ◌^◌, List, ℤ, pos, ◌+ℤ◌, ◌*ℤ◌, ◌-ℤ◌, ◌≤ℤ◌, unsigned_abs, FitsSigned, ap, arith, subst, sym, ◌∙◌}
+use Rattle.std.proofs.Common.{◌≡◌, to_z, of_z, ℕ, ◌+◌, ◌-◌, ◌*◌, ◌<◌, ◌≤◌, ◌^◌, List, ℤ, pos, ◌+ℤ◌, ◌*ℤ◌, ◌-ℤ◌, ◌≤ℤ◌, unsigned_abs, FitsSigned, ap, arith, subst, sym, ◌∙◌}
 use Rattle.std.proofs.lemmas.Int.{fits_signed_from_abs, ints, to_z-of_z}
 use mir.Syntax.{Width, w32, w64, w128}
 use mir.Val.{hbits}
@@ -152,4 +152,39 @@ read_sum_fits a b c ha hb hc =
       two = subst (λ (z : ℤ). FitsSigned w128 z) (sym two) fits_two;
       three = subst (λ (z : ℤ). FitsSigned w128 z) (sym three) fits_three;
       value = ap (λ (z : ℤ). to_z w128 (of_z w128 z)) three ∙ to_z-of_z w128 ((a +ℤ b) +ℤ c) fits_three;
+    }
+
+-- a place between two ends, and an offset from it, by weighted coordinates that are read back from their bits
+pub record PlaceFits (scale : ℕ) (early late : ℤ) : Type 0 where
+  pub fits : FitsSigned w64 (to_z w64 (of_z w64 early) +ℤ to_z w64 (of_z w64 late))
+  pub value : to_z w64 (of_z w64 (to_z w64 (of_z w64 early) +ℤ to_z w64 (of_z w64 late))) ≡ early +ℤ late
+  pub small : unsigned_abs (to_z w64 (of_z w64 (to_z w64 (of_z w64 early) +ℤ to_z w64 (of_z w64 late)))) ≤ scale * 1000000
+
+pub place_fits : (k scale : ℕ) (early late : ℤ) → k ≤ scale → scale ≤ scale_limit → unsigned_abs early ≤ (scale - k) * 1000000 → unsigned_abs late ≤ k * 1000000 → PlaceFits scale early late
+place_fits k scale early late within most h l =
+    let sum = abs_add early late in
+    let small : unsigned_abs (early +ℤ late) ≤ scale * 1000000 = omega (arith, sum, h, l, within) in
+    let fits : FitsSigned w64 (early +ℤ late) = fits_signed_from_abs w64 (early +ℤ late) (omega (arith, small, most)) in
+    let both : to_z w64 (of_z w64 early) +ℤ to_z w64 (of_z w64 late) ≡ early +ℤ late =
+    ap (λ (z : ℤ). z +ℤ to_z w64 (of_z w64 late)) (to_z-of_z w64 early (fits_signed_from_abs w64 early (omega (arith, h, most, within))))
+    ∙ ap (λ (z : ℤ). early +ℤ z) (to_z-of_z w64 late (fits_signed_from_abs w64 late (omega (arith, l, most, within)))) in
+    let value = ap (λ (z : ℤ). to_z w64 (of_z w64 z)) both ∙ to_z-of_z w64 (early +ℤ late) fits in record {
+      fits = subst (λ (z : ℤ). FitsSigned w64 z) (sym both) fits;
+      value = value;
+      small = subst (λ (z : ℤ). unsigned_abs z ≤ scale * 1000000) (sym value) small;
+    }
+
+pub record OffsetFits (whole place : ℤ) : Type 0 where
+  pub fits : FitsSigned w64 (to_z w64 (of_z w64 whole) -ℤ to_z w64 (of_z w64 place))
+  pub value : to_z w64 (of_z w64 (to_z w64 (of_z w64 whole) -ℤ to_z w64 (of_z w64 place))) ≡ whole -ℤ place
+
+pub offset_fits : (scale : ℕ) (whole place : ℤ) → scale ≤ scale_limit → unsigned_abs whole ≤ scale * 1000000 → unsigned_abs place ≤ scale * 1000000 → OffsetFits whole place
+offset_fits scale whole place most h l =
+    let difference = abs_sub whole place in
+    let fits : FitsSigned w64 (whole -ℤ place) = fits_signed_from_abs w64 (whole -ℤ place) (omega (arith, difference, h, l, most)) in
+    let both : to_z w64 (of_z w64 whole) -ℤ to_z w64 (of_z w64 place) ≡ whole -ℤ place =
+    ap (λ (z : ℤ). z -ℤ to_z w64 (of_z w64 place)) (to_z-of_z w64 whole (fits_signed_from_abs w64 whole (omega (arith, h, most))))
+    ∙ ap (λ (z : ℤ). whole -ℤ z) (to_z-of_z w64 place (fits_signed_from_abs w64 place (omega (arith, l, most)))) in record {
+      fits = subst (λ (z : ℤ). FitsSigned w64 z) (sym both) fits;
+      value = ap (λ (z : ℤ). to_z w64 (of_z w64 z)) both ∙ to_z-of_z w64 (whole -ℤ place) fits;
     }
