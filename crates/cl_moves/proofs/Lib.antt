@@ -1,3 +1,5 @@
 pub mod AxisLemmas
+pub mod BackLemmas
 pub mod FoldLemmas
 pub mod PassedLemmas
+pub mod ProductLemmas

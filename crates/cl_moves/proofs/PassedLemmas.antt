@@ -11,7 +11,7 @@ use Rattle.cl_lines.specs.declared.fault.ClWhy.{ClWhy}
 use Rattle.cl_lines.specs.declared.fault.ClWhy.TheVariants.{NumberRange, AxisFlip, TooManyMoves}
 use Rattle.cl_records.specs.declared.statement.Record.{Record}
 use Rattle.cl_records.specs.declared.statement.Record.TheVariants.{Goto, From, Delta, Cutter, Multax, Units, Rapid, Fini, Passed}
-use Rattle.cl_moves.specs.Program.{arrived, continued, displaced, folded, gone_by, gone_to, most_moves, move_to, moved, multaxed, placed, start, step}
+use Rattle.cl_moves.specs.Program.{arrived, continued, displaced, finished, folded, gone_by, gone_to, most_moves, move_to, moved, multaxed, placed, start, step}
 use Rattle.cl_moves.specs.declared.fold.Fold.{Fold}
 
 -- the state that a record made is the one that it gives
@@ -86,6 +86,11 @@ next_shorter [] new first e = let none : false ≡ true = ap gives e in cc
 next_shorter ((number, Ok item) ∷ items) new first e = let same : items ≡ new = ap left e in omega (arith, ap length same)
 next_shorter ((number, Err why) ∷ items) new first e = cc
 
+-- a record came where an item was given
+pub came : {A : Type 0} (old new : List (Numbered A)) (given : Option (ℕ × A)) (first : ℕ × A) → next_of old ≡ Ok (given, new) → given ≡ Some first
+    → next_of old ≡ Ok (Some first, new)
+came {A} old new given first next is = next ∙ ap (λ (item : Option (ℕ × A)). Ok (item, new)) is
+
 -- the item that comes
 abbrev item_of : {A : Type 0} → ℕ × A → Result (Option (ℕ × A) × List (Numbered A)) ClFault → ℕ × A
 item_of none (Ok (Some item, items)) = item
@@ -101,3 +106,11 @@ folded_on ((number, Ok item) ∷ items) new first fold next e done =
     let went : step number item fold ≡ Ok next = subst (λ (x : ℕ × Record). step x.0 x.1 fold ≡ Ok next) (sym here) done in
     sym (ap (λ r. continued number r (folded items)) went ∙ ap (λ rest. folded rest next) same)
 folded_on ((number, Err why) ∷ items) new first fold next e done = cc
+
+-- where none comes, all that was left is folded
+pub all_folded : (old new : List (Numbered Record)) (given : Option (ℕ × Record)) (fold : Fold) → next_of old ≡ Ok (given, new) → given ≡ None
+    → folded old fold ≡ Ok (finished fold)
+all_folded [] new given fold e none = refl
+all_folded ((number, Ok item) ∷ items) new given fold e none =
+    let ended : true ≡ false = ap gives (e ∙ ap (λ (item : Option (ℕ × Record)). Ok (item, new)) none) in cc
+all_folded ((number, Err why) ∷ items) new given fold e none = cc
