@@ -72,6 +72,10 @@ all_up version vs = record {
       (λ inside. let is = raised_at version vs k (omega (arith, inside)) in omega (arith, is));
 }
 
+-- no version raised yet
+pub none_raised : (version : ℕ) (vs : List ℕ) → AreBetween vs (map (λ v. max v version) vs) vs
+none_raised version vs = record { later = up_same vs; short = all_up version vs }
+
 -- one strip on its way to a version
 pub stopped_one : (strips : List StripOf) (k : ℕ) (x new : StripOf) (version top : ℕ) → k < length strips
     → IsStopped (get_or strips k x) new version → version ≤ top

@@ -1,4 +1,4 @@
-use Rattle.std.proofs.Common.{◌+◌, ◌<◌, rules, length, arith, sym, ap, ap₂, ◌∙◌, subst, length-append, Fits, w64}
+use Rattle.std.proofs.Common.{◌+◌, ◌<◌, rules, length, arith, refl, sym, ap, ap₂, ◌∙◌, subst, length-append, Fits, w64}
 use Rattle.std.proofs.lemmas.List.{length-map}
 use Rattle.ray_grid.specs.Points.{lattice_of}
 use Rattle.ray_grid.specs.Strips.{strips_of}
@@ -7,10 +7,10 @@ use Rattle.job_facts.specs.Totals.{TotalsWithin, plus_totals}
 use Rattle.job_model.specs.Points.{left_moves, strip_points, totals_over}
 use Rattle.strip_journal.specs.Strips.{StripOf}
 use Rattle.turn_core.specs.World.{versions_of}
-use Rattle.turn_core.proofs.Between.{raised_one}
+use Rattle.turn_core.proofs.Between.{none_raised, raised_one}
 use Rattle.turn_core.proofs.Parts.{first_all, first_more, first_points, first_within, plus_within, totals_more}
-use Rattle.turn_core.proofs.ReadBack.{counts_set, lattice_same, within_set}
-use Rattle.turn_core.proofs.Replaced.{plan_set, raised_moved, stopped_moved, strips_set}
+use Rattle.turn_core.proofs.ReadBack.{counts_set, lattice_same, read_set, within_set}
+use Rattle.turn_core.proofs.Replaced.{plan_at, plan_set, raised_moved, stopped_moved, strips_set}
 use Rattle.turn_core.proofs.Versions.{raised_all, raised_more}
 use Rattle.turn_core.proofs.asking.count.Goals as goal
 
@@ -111,3 +111,45 @@ returns-in_err-raise-clause-stopped c =
     (versions_of c.args.strips.now) (omega (arith, c.loop-k-test.true, many, before)) later (omega (arith, short))
     c.loop-k.invariant.between in
     search (rules, between)
+
+pub loop-k-init : goal.loop-k-init
+loop-k-init c = record {
+  plan = c.requires.strips;
+  still = λ job all. all;
+  versions = refl;
+  between = none_raised c.args.version (versions_of c.args.strips.now);
+  totals = λ job all. c.none-totals.ensures;
+  within = subst (TotalsWithin 0) (sym c.none-totals.ensures) (record { removed = omega arith; possible = omega arith; of = omega arith });
+}
+
+pub raise-requires-clause-plan : goal.raise-requires-clause-plan
+raise-requires-clause-plan c =
+    let h = c.loop-k.invariant.plan in
+    let many = h.many in
+    let before = c.requires.strips.many in
+    plan_at c.args.plan.now c.loop-k.strips c.loop-k.k c.index-strips-k.result h (omega (arith, c.loop-k-test.true))
+
+pub raise-requires-clause-version : goal.raise-requires-clause-version
+raise-requires-clause-version c = c.requires.version
+
+pub returns-in_err-raise-clause-plan : goal.returns-in_err-raise-clause-plan
+returns-in_err-raise-clause-plan c =
+    let h = c.loop-k.invariant.plan in
+    let many = h.many in
+    let before = c.requires.strips.many in
+    plan_set c.args.plan.now c.loop-k.strips c.loop-k.k c.index-strips-k.result c.raise.new.strip h (omega (arith, c.loop-k-test.true))
+    (stopped_moved _ _ _ c.in_err-raise.ensures.err)
+
+pub counts_at-requires : goal.counts_at-requires
+counts_at-requires c =
+    let many = c.loop-k.invariant.plan.many in
+    let before = c.requires.strips.many in
+    let same = ap (λ (s : StripOf). s.done) (read_set c.loop-k.strips c.loop-k.k c.raise.new.strip
+    c.index-strips-k-in-loop-k.result (omega (arith, c.loop-k-test.true, many, before))) in
+    omega (arith, same, c.in_ok-raise.ensures.ok.done)
+
+pub returns-clause-plan : goal.returns-clause-plan
+returns-clause-plan c = c.loop-k.invariant.plan
+
+pub returns-clause-still : goal.returns-clause-still
+returns-clause-still c = c.loop-k.invariant.still

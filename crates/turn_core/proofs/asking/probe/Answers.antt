@@ -5,10 +5,11 @@ use Rattle.ray_grid.specs.Strips.{strip_at}
 use Rattle.ray_grid.proofs.Rows.{only_place}
 use Rattle.job_model.specs.Points.{left_moves, point_in, state_after}
 use Rattle.job_model.specs.Tasks.{Job}
+use Rattle.strip_journal.specs.Strips.{StripOf}
 use Rattle.turn_core.specs.World.{AreBetween, versions_of}
 use Rattle.turn_core.proofs.Between.{stopped_one}
-use Rattle.turn_core.proofs.ReadBack.{job_set, point_set, rays_set}
-use Rattle.turn_core.proofs.Replaced.{number_in, plan_set, raised_moved, stopped_moved, strips_set}
+use Rattle.turn_core.proofs.ReadBack.{job_set, point_set, rays_set, read_set}
+use Rattle.turn_core.proofs.Replaced.{number_in, plan_at, plan_set, raised_moved, stopped_moved, strips_set}
 use Rattle.turn_core.proofs.Versions.{version_at, versions_set}
 use Rattle.turn_core.proofs.asking.probe.Goals as goal
 
@@ -106,3 +107,16 @@ returns-in_err-raise-clause-stopped c =
     let between = subst (λ n. AreBetween vs (set vs n (max (get_or vs n 0) c.args.version)) (versions_of (set strips k c.raise.new.strip)))
     number one in
     search (rules, between)
+
+pub raise-requires-clause-plan : goal.raise-requires-clause-plan
+raise-requires-clause-plan c =
+    let lt = number_in c.args.plan.now c.grid.result.now c.args.strips.now c.place-strip.result.0 c.requires.strips c.grid.ensures
+    c.place-strip.ensures.strip in
+    plan_at c.args.plan.now c.args.strips.now c.place-strip.result.0 c.index-strips-strip.result c.requires.strips lt
+
+pub state_at-requires-clause-version : goal.state_at-requires-clause-version
+state_at-requires-clause-version c =
+    let k = c.place-strip.result.0 in
+    let lt = number_in c.args.plan.now c.grid.result.now c.args.strips.now k c.requires.strips c.grid.ensures c.place-strip.ensures.strip in
+    let same = ap (λ (s : StripOf). s.done) (read_set c.args.strips.now k c.raise.new.strip c.index-strips-strip-2.result lt) in
+    omega (arith, same, c.in_ok-raise.ensures.ok.done)

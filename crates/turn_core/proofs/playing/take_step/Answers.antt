@@ -1,11 +1,13 @@
-use Rattle.std.proofs.Common.{◌+◌, List, ℕ, length, get_or, set, min, rules, arith, refl, sym, ap, ◌∙◌, subst}
-use Rattle.std.proofs.lemmas.List.{get_or_default}
+use Rattle.std.proofs.Common.{◌+◌, List, [], ◌∷◌, ◌++◌, ℕ, length, get_or, set, min, rules, arith, refl, sym, ap, ◌∙◌, subst}
+use Rattle.std.proofs.lemmas.List.{append-nil, get_or_default}
 use Rattle.edit_plan.specs.declared.query.Ask.TheVariants.{Count}
 use Rattle.edit_plan.specs.declared.query.Query.{Query}
+use Rattle.job_facts.specs.declared.totals.Answer.{Answer}
 use Rattle.job_model.specs.Tasks.{Job}
-use Rattle.turn_core.specs.World.{AreBetween, AreStrips, IsStepOf, after_ask, after_step, versions_of}
+use Rattle.turn_core.specs.declared.step.Step.{Step}
+use Rattle.turn_core.specs.World.{AreBetween, AreStrips, AreStripsAt, IsStepOf, after_ask, after_step, answer_of, answers_to, versions_of}
 use Rattle.turn_core.proofs.Between.{asked_between, stopped_one}
-use Rattle.turn_core.proofs.Replaced.{number_in, plan_set, raised_moved, stopped_moved, strips_set}
+use Rattle.turn_core.proofs.Replaced.{number_in, plan_at, plan_set, raised_moved, stopped_moved, strips_set}
 use Rattle.turn_core.proofs.Versions.{version_at, versions_set}
 use Rattle.turn_core.proofs.playing.take_step.Goals as goal
 
@@ -86,3 +88,63 @@ returns-in_err-push-in-Ask-clause-stopped c =
     asked_between plan job queries c.args.strips.now c.ask.new.strips c.args.step c.requires.queries c.requires.strips all
     ((c.in_ok-answer-in-Ask.ensures.strips job all).versions_are ∙ step) in
     search (rules, between)
+
+pub turn_strip-requires : goal.turn_strip-requires
+turn_strip-requires c =
+    let k = c.in-Turn.strip in
+    let step = subst (IsStepOf c.args.plan.now (length c.args.queries.now)) c.in-Turn.is c.requires.step in
+    let lt = number_in c.args.plan.now c.args.plan.now.grid c.args.strips.now k c.requires.strips refl step in
+    record { plan = plan_at c.args.plan.now c.args.strips.now k c.index-strips-strip.result c.requires.strips lt }
+
+pub ask-requires-clause-strips : goal.ask-requires-clause-strips
+ask-requires-clause-strips c = c.requires.strips
+
+pub ask-requires-clause-query : goal.ask-requires-clause-query
+ask-requires-clause-query c =
+    c.requires.queries c.in-Ask.query _ (subst (IsStepOf c.args.plan.now (length c.args.queries.now)) c.in-Ask.is c.requires.step)
+
+pub returns-in-Ok-clause-answers : goal.returns-in-Ok-clause-answers
+returns-in-Ok-clause-answers c = λ job all.
+    let answers = c.args.answers.now.items in
+    sym (ap (λ (step : Step). answers ++ answers_to job c.args.queries.now (step ∷ [])) c.in-Turn.is ∙ append-nil answers)
+
+pub returns-in_err-answer-in-Ask-clause-plan : goal.returns-in_err-answer-in-Ask-clause-plan
+returns-in_err-answer-in-Ask-clause-plan c = c.in_err-answer-in-Ask.ensures.plan
+
+pub returns-in_err-answer-in-Ask-clause-still : goal.returns-in_err-answer-in-Ask-clause-still
+returns-in_err-answer-in-Ask-clause-still c = c.in_err-answer-in-Ask.ensures.still
+
+pub returns-in_err-push-in-Ask-clause-plan : goal.returns-in_err-push-in-Ask-clause-plan
+returns-in_err-push-in-Ask-clause-plan c = c.in_ok-answer-in-Ask.ensures.plan
+
+pub returns-in_err-push-in-Ask-clause-still : goal.returns-in_err-push-in-Ask-clause-still
+returns-in_err-push-in-Ask-clause-still c = c.in_ok-answer-in-Ask.ensures.still
+
+pub returns-in_ok-push-in-Ask-clause-plan : goal.returns-in_ok-push-in-Ask-clause-plan
+returns-in_ok-push-in-Ask-clause-plan c = c.in_ok-answer-in-Ask.ensures.plan
+
+pub returns-in_ok-push-in-Ask-clause-still : goal.returns-in_ok-push-in-Ask-clause-still
+returns-in_ok-push-in-Ask-clause-still c = c.in_ok-answer-in-Ask.ensures.still
+
+pub returns-in_ok-push-in-Ask-clause-strips : goal.returns-in_ok-push-in-Ask-clause-strips
+returns-in_ok-push-in-Ask-clause-strips c = λ job all.
+    let plan = c.args.plan.now in
+    let queries = c.args.queries.now in
+    let vs = versions_of c.args.strips.now in
+    let n = c.in-Ask.query in
+    let low = subst (IsStepOf plan (length queries)) c.in-Ask.is c.requires.step in
+    let query = get_or_default queries n _ (record { version = 0; ask = Count }) low in
+    subst (AreStripsAt job c.ask.new.strips)
+    (ap (λ (q : Query). after_ask plan q.version q.ask vs) query ∙ ap (after_step plan queries vs) (sym c.in-Ask.is))
+    (c.in_ok-answer-in-Ask.ensures.strips job all)
+
+pub returns-in_ok-push-in-Ask-clause-answers : goal.returns-in_ok-push-in-Ask-clause-answers
+returns-in_ok-push-in-Ask-clause-answers c = λ job all.
+    let queries = c.args.queries.now in
+    let answers = c.args.answers.now.items in
+    let n = c.in-Ask.query in
+    let low = subst (IsStepOf c.args.plan.now (length queries)) c.in-Ask.is c.requires.step in
+    let query = get_or_default queries n _ (record { version = 0; ask = Count }) low in
+    c.in_ok-push-in-Ask.ensures.items
+    ∙ ap (λ (a : Answer). answers ++ a ∷ []) (c.in_ok-answer-in-Ask.ensures.answer job all ∙ ap (answer_of job) query)
+    ∙ sym (ap (λ (step : Step). answers ++ answers_to job queries (step ∷ [])) c.in-Ask.is)
