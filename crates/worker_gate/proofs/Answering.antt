@@ -9,7 +9,7 @@ use Rattle.turn_core.specs.World.{answer_of}
 use Rattle.strip_turns.specs.declared.view.Card.{Card}
 use Rattle.strip_turns.specs.declared.view.View.{View}
 use Rattle.strip_turns.specs.Views.{with_log}
-use Rattle.strip_turns.specs.Asks.{Asked}
+use Rattle.strip_turns.specs.Asks.{Asked, SomeRaised}
 use Rattle.strip_turns.proofs.Asking.{no_log, log_both}
 use Rattle.worker_gate.specs.Asking.{IsAsking, more, AskedAll, Logged, AsksAll}
 use Rattle.worker_gate.specs.Asking as asking
@@ -34,6 +34,15 @@ asked_more c qs q xs a v u w h one = record {
   answer = λ job are. ap (λ l. l ++ a ∷ []) (h.answer job are)
       ∙ ap (λ x. map (answer_of job) qs ++ x ∷ []) (one.answer job are)
       ∙ sym (map_push (answer_of job) qs q);
+}
+
+-- all were asked but one, for which some strips were raised
+pub stopped_logged : (c : Card) (qs : List Query) (xs : List Answer) (version first count : ℕ) (v u w : View) → AskedAll c qs xs v u
+    → SomeRaised c version first count u w → Logged v w
+stopped_logged c qs xs version first count v u w h some = record {
+  log = h.log ++ some.log;
+  met = h.met ++ some.met;
+  view = some.view ∙ ap (with_log some.log some.met) h.view ∙ log_both v h.log some.log h.met some.met;
 }
 
 -- the queries up to the next one

@@ -1,9 +1,9 @@
-use Rattle.std.proofs.Common.{[], arith, ap, refl, subst, sym, ◌≡◌, ◌∙◌, ◌+◌, length, List, Some, false}
-use Rattle.std.proofs.lemmas.Grind.{common_steps}
+use Rattle.std.proofs.Common.{ℕ, [], ◌∷◌, arith, ap, refl, subst, sym, ◌≡◌, ◌∙◌, ◌+◌, length, length-append, List, Some, false}
 use Rattle.std.proofs.lemmas.List.Elements.{All-nil, All-push}
 use Rattle.strip_turns.specs.Views.{fresh}
 use Rattle.strip_turns.specs.Passes.{card}
 use Rattle.worker_gate.specs.Workers.{IsFresh, AreFresh, AreNumbered}
+use Rattle.worker_gate.specs.Crew.{with_splits}
 use Rattle.worker_gate.specs.declared.worker.Worker.{Worker}
 use Rattle.worker_gate.proofs.Teams.{split_none, split_more, numbered_none, numbered_more}
 use Rattle.worker_gate.proofs.team.hire.Goals as goal
@@ -31,11 +31,33 @@ loop-i-preserved c =
     let view = fresh_view ∙ ap (λ z. fresh false z (Some (card b))) (sym number) in
     let is_fresh : IsFresh b x = record { pass = c.split.ensures.new; view = view; short = refl } in
     let all = All-push (IsFresh b) c.loop-i.team.items x inv.2.each is_fresh in
+    let many = ap length e.items in
+    let size = length-append c.loop-i.team.items (x ∷ []) in
     let numbered = numbered_more c.args.pass.now.seat.me.0.splits c.loop-i.team.items x inv.5 (omega (arith, number, splits, inv.3)) in (
       c.split.ensures.pass,
       split_more n c.args.pass.now.seat.me.0 _ _ inv.1 c.split.ensures.split,
       subst (λ (l : List Worker). AreFresh b l) (sym e.items) (record { each = all }),
-      grind (arith, common_steps, e.items, inv.3),
+      omega (arith, many, size, inv.3),
       omega (arith, inv.4, e.capacity),
       subst (λ (l : List Worker). AreNumbered c.args.pass.now.seat.me.0.splits l) (sym e.items) numbered,
     )
+
+pub split-requires-clause-pass : goal.split-requires-clause-pass
+split-requires-clause-pass c = c.loop-i.invariant.0
+
+pub returns-clause-pass : goal.returns-clause-pass
+returns-clause-pass c = c.loop-i.invariant.0
+
+pub returns-clause-fresh : goal.returns-clause-fresh
+returns-clause-fresh c =
+    let inv = c.loop-i.invariant in
+    let all : c.loop-i._i ≡ c.args.workers = omega (arith, c.loop-i-test.false, c.loop-i.auto._i-end) in
+    (inv.2, inv.3 ∙ all)
+
+pub returns-clause-numbered : goal.returns-clause-numbered
+returns-clause-numbered c = c.loop-i.invariant.5
+
+pub returns-clause-split : goal.returns-clause-split
+returns-clause-split c =
+    let all : c.loop-i._i ≡ c.args.workers = omega (arith, c.loop-i-test.false, c.loop-i.auto._i-end) in
+    c.loop-i.invariant.1 ∙ ap (λ (n : ℕ). with_splits n c.args.pass.now.seat.me.0) all
