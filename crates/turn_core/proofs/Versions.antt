@@ -1,5 +1,5 @@
 -- The versions of the strips after one of them, or the first so many, were raised.
-use Rattle.std.proofs.Common.{◌≡◌, ℕ, ◌+◌, ◌<◌, ◌≤◌, List, ◌++◌, length, map, take, drop, get_or, set, max, sym, ap, ap₂, ◌∙◌}
+use Rattle.std.proofs.Common.{◌≡◌, ℕ, ◌+◌, ◌<◌, ◌≤◌, List, ◌++◌, length, map, take, drop, get_or, set, max, min, arith, sym, ap, ap₂, ◌∙◌}
 use Rattle.std.proofs.lemmas.List.{append-nil, drop_all, get_or-map, map-set, take_all}
 use Rattle.std.proofs.lemmas.List.Edits.{map_over_more}
 use Rattle.strip_journal.specs.Strips.{StripOf}
@@ -30,3 +30,7 @@ pub raised_all : (version k : ℕ) (versions : List ℕ) → length versions ≤
 raised_all version k versions le =
     ap₂ (λ a b. map (λ v. max v version) a ++ b) (take_all k versions le) (drop_all k versions le)
     ∙ append-nil (map (λ v. max v version) versions)
+
+-- a turn from a version leads to the next ones, as far as there are edits
+pub next_from : (from edits : ℕ) → from ≤ edits → max from (min (from + 8) edits) ≡ min (from + 8) edits
+next_from from edits within = omega arith
