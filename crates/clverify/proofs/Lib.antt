@@ -3,3 +3,4 @@ pub mod Made
 pub mod Endings
 pub mod Shapes
 pub mod Unread
+pub mod Words
