@@ -51,6 +51,18 @@ pub from_more : (job : Job) (done from n : ℕ) (strips : List StripOf) (s : Str
     → s ≡ strip_with job done n → AreFrom job done from (n + 1) (strips ++ s ∷ [])
 from_more job done from n strips s are is = from_both job done from n (n + 1) strips (s ∷ []) are (from_one job done n s is)
 
+-- the same, where it was pushed
+pub from_pushed : (job : Job) (done from n : ℕ) (strips all : List StripOf) (s : StripOf) → AreFrom job done from n strips
+    → s ≡ strip_with job done n → all ≡ strips ++ s ∷ [] → AreFrom job done from (n + 1) all
+from_pushed job done from n strips all s are is pushed =
+    subst (λ (z : List StripOf). AreFrom job done from (n + 1) z) (sym pushed) (from_more job done from n strips s are is)
+
+-- none yet
+pub from_none : (job : Job) (done from : ℕ) (strips : List StripOf) → strips ≡ [] → AreFrom job done from from strips
+from_none job done from strips none =
+    subst (λ (z : List StripOf). AreFrom job done from from z) (sym none)
+    (record { many = omega arith; each = λ k s at. let low = slice_get_within [] k s at in absurd (omega (arith, low)) })
+
 -- those from number 0 on are the first ones
 from_first : (job : Job) (done count : ℕ) (strips : List StripOf) → AreFrom job done 0 count strips → AreFirst job done count strips
 from_first job done count strips are = record {

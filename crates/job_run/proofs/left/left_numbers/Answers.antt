@@ -29,3 +29,10 @@ returns-clause-named c =
     let whole = take_all c.loop-version.version edits all in
     let left = ap (λ (l : MoveLists). l.left) (c.loop-version.invariant.0 ∙ ap lists_after whole) in
     subst (All (IsBelow moves)) (sym left) (left_named moves edits (subst (All (AppliesBelow moves)) whole c.loop-version.invariant.1))
+
+pub returns-clause-left : goal.returns-clause-left
+returns-clause-left c =
+    let edits = c.args.plan.now.edits in
+    let count = c.edits-version-end.ensures.count in
+    let all : length edits ≤ c.loop-version.version = omega (arith, count) in
+    ap (λ (l : MoveLists). l.left) (c.loop-version.invariant.0 ∙ ap lists_after (take_all c.loop-version.version edits all))

@@ -1,10 +1,12 @@
 -- Each strip that is pushed is the next one.
-use Rattle.std.proofs.Common.{◌+◌, List, sym, subst}
+use Rattle.std.proofs.Common.{◌≡◌, ℕ, arith, subst}
 use Rattle.job_model.specs.Tasks.{Job}
-use Rattle.strip_journal.specs.Strips.{StripOf}
 use Rattle.job_run.specs.Strips.{AreFrom}
-use Rattle.job_run.proofs.FirstStrips.{from_more}
+use Rattle.job_run.proofs.FirstStrips.{from_none, from_pushed}
 use Rattle.job_run.proofs.strips.strips_by.Goals as goal
+
+pub loop-number-init : goal.loop-number-init
+loop-number-init g c = from_none _ 0 c.args.from c.in_ok-strips.strips.items c.in_ok-strips.ensures.items
 
 pub loop-number-preserved : goal.loop-number-preserved
 loop-number-preserved g c =
@@ -14,9 +16,8 @@ loop-number-preserved g c =
       part = c.args.part.now.solid;
       fixture = c.args.fixture.now.solid;
     } in
-    let n = c.loop-number.number in
-    subst (λ (z : List StripOf). AreFrom job 0 c.args.from (n + 1) z) (sym {A = List StripOf} c.in_ok-push.ensures.items)
-    (from_more job 0 c.args.from n c.loop-number.strips.items c.in_ok-fresh.field-0 c.loop-number.invariant c.in_ok-fresh.ensures)
+    from_pushed job 0 c.args.from c.loop-number.number c.loop-number.strips.items c.push.new.self.items c.in_ok-fresh.field-0
+    c.loop-number.invariant c.in_ok-fresh.ensures c.in_ok-push.ensures.items
 
 pub fresh-requires-clause-stock_grid : goal.fresh-requires-clause-stock_grid
 fresh-requires-clause-stock_grid g c = c.requires.stock_grid
@@ -44,3 +45,17 @@ fresh-requires-clause-part_gives g c = c.requires.part_gives
 
 pub fresh-requires-clause-fixture_gives : goal.fresh-requires-clause-fixture_gives
 fresh-requires-clause-fixture_gives g c = c.requires.fixture_gives
+
+pub fresh-requires-clause-number : goal.fresh-requires-clause-number
+fresh-requires-clause-number g c = omega (arith, c.loop-number-test.true, c.requires.within)
+
+pub returns : goal.returns
+returns g c =
+    let job : Job = record {
+      plan = c.args.plan.now;
+      stock = c.args.stock.now.solid;
+      part = c.args.part.now.solid;
+      fixture = c.args.fixture.now.solid;
+    } in
+    let all : c.loop-number.number ≡ c.args.to = omega (arith, c.loop-number-test.false, c.loop-number.auto.number-end, c.requires.order) in
+    subst (λ (n : ℕ). AreFrom job 0 c.args.from n c.loop-number.strips.items) all c.loop-number.invariant
