@@ -25,8 +25,7 @@ fn with_place<'a>(
 ) -> Result<Command<'a>, AllocError>
     ensures { IfOk result (λ made. app_of made ≡ with_rule (app_of command.entry) (place name.now)) }
 {
-    let made = command.arg(Arg::new(alloc, name).required(true))?;
-    Ok(made)
+    command.arg(Arg::new(alloc, name).required(true))
 }
 
 /// A command with one more option of one value, which may be left out.
@@ -37,8 +36,7 @@ fn with_option<'a>(
 ) -> Result<Command<'a>, AllocError>
     ensures { IfOk result (λ made. app_of made ≡ with_rule (app_of command.entry) (option name.now)) }
 {
-    let made = command.arg(Arg::new(alloc, name).long(name))?;
-    Ok(made)
+    command.arg(Arg::new(alloc, name).long(name))
 }
 
 /// The command that the words are read by.
