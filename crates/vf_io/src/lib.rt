@@ -22,7 +22,6 @@ pub use folder_shelf::FolderShelf;
 pub use memory_shelf::MemShelf;
 pub use memory_sink::MemSink;
 pub use pieces::split_line;
-pub use retrying::read_some;
 pub use shelf::Shelf;
 pub use sink::Sink;
 pub use standard_sink::StdSink;
