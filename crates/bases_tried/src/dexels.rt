@@ -61,6 +61,14 @@ fn add_row(alloc: Global, ray: &mut Dexel, row: &Row) -> Result<Delta, NoMemory>
     ray.add(&sure, &possible, row.rapid)
 }
 
+/// Adds the row to the ray, and takes it back.
+fn add_and_take_back(alloc: Global, ray: &mut Dexel, row: &Row) -> Result<(), NoMemory>
+    requires { HaveBound 8 ray.old }
+{
+    let delta = add_row(alloc, ray, row)?;
+    ray.take_back(&delta)
+}
+
 /// Whether a copy of the ray to which the row was added, and from which it was taken back, has these bits.
 fn comes_back(
     alloc: Global,
@@ -72,8 +80,7 @@ fn comes_back(
     requires { HaveBound 8 ray.now }
 {
     let mut other = ray.copy()?;
-    let delta = add_row(alloc, &mut other, row)?;
-    other.take_back(&delta)?;
+    add_and_take_back(alloc, &mut other, row)?;
     Ok(shows(&other, sure, possible))
 }
 

@@ -36,6 +36,15 @@ fn is_made(alloc: Global, set: &Spans, shown: Shown) -> Result<bool, NoMemory> {
     )
 }
 
+/// Whether what was made of two sets shows that.
+fn shows_made(
+    alloc: Global,
+    made: Result<Spans, NoMemory>,
+    shown: Shown,
+) -> Result<bool, NoMemory> {
+    is_made(alloc, &made?, shown)
+}
+
 /// Two sets, and what is made of them.
 #[derive(Clone, Copy)]
 struct Row {
@@ -155,13 +164,10 @@ const ROWS: [Row; 7] = [
 fn is_row(alloc: Global, row: &Row) -> Result<bool, NoMemory> {
     let first = set_of(alloc, row.first)?;
     let second = set_of(alloc, row.second)?;
-    let union = first.union(&second)?;
-    let minus = first.minus(&second)?;
-    let meet = first.meet(&second)?;
     Ok(
-        is_made(alloc, &union, row.union)?
-            && is_made(alloc, &minus, row.minus)?
-            && is_made(alloc, &meet, row.meet)?,
+        shows_made(alloc, first.union(&second), row.union)?
+            && shows_made(alloc, first.minus(&second), row.minus)?
+            && shows_made(alloc, first.meet(&second), row.meet)?,
     )
 }
 

@@ -1,6 +1,7 @@
 pub mod Done
 pub mod Made
 pub mod Endings
+pub mod Read
 pub mod Shapes
 pub mod Unread
 pub mod Words

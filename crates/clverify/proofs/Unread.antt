@@ -1,5 +1,6 @@
 -- A command that reads no file.
-use Rattle.std.proofs.Common.{◌≡◌, ℕ, Bool, true, false, Option, Some, None, Result, IfOk, IfSome, refl, sym, ◌∙◌}
+use Rattle.std.proofs.Common.{arith, ◌≡◌, ℕ, Bool, true, false, Option, Some, None, Result, IfOk, IfSome, refl, sym, ◌∙◌}
+use Rattle.vf_io.specs.Causes.{Rose}
 use Rattle.vf_io.specs.Files.{Files}
 use Rattle.clverify.specs.Commands.{self_test}
 use Rattle.clverify.specs.Commands.Selftest.{IsTrueSelftest}
@@ -24,3 +25,7 @@ unread files faults failures failed shelf calm = record {
   one = λ one. let e : true ≡ false = sym one ∙ calm in cc;
   calm = λ none. refl;
 }
+
+-- a count that stays at none didn't rise
+pub none_rose : ¬ (Rose 0 0)
+none_rose rose = omega arith
