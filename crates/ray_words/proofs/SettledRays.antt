@@ -1,7 +1,8 @@
 -- Rays with their settled ranges, and one more.
-use Rattle.std.proofs.Common.{◌≡◌, ℕ, ◌+◌, ◌<◌, ◌≤◌, List, [], ◌∷◌, ◌++◌, length, get_or, ⊎_elim, arith, sym, ◌∙◌, subst, length-append}
-use Rattle.std.proofs.lemmas.Bool.{cases_lt}
-use Rattle.std.proofs.lemmas.List.{get_or_append_left, get_or_push}
+use Rattle.std.proofs.Common.{◌≡◌, ◌≢◌, ℕ, ◌+◌, ◌<◌, ◌≤◌, List, [], ◌∷◌, ◌++◌, length, get_or, set, ⊎_elim, arith, sym, ap, ◌∙◌, subst, length-append}
+use Rattle.std.proofs.lemmas.Bool.{cases_eq, cases_lt}
+use Rattle.std.proofs.lemmas.List.{get_or_append_left, get_or_push, get_or-set_other, get_or-set_same}
+use Rattle.std.proofs.Math.ListN.{length-set}
 use Rattle.ray_words.specs.Rays.{HasNoneWanted, KeptSets}
 use Rattle.ray_words.specs.Rows.{AreSettled, kept_at}
 
@@ -38,3 +39,23 @@ pub settled_more : (rays rays' : List KeptSets) (ranges ranges' : List (ℕ × �
 settled_more rays rays' ranges ranges' ray range h none er es =
     subst (λ (l : List KeptSets). AreSettled l ranges') (sym er)
     (subst (λ (l : List (ℕ × ℕ)). AreSettled (rays ++ ray ∷ []) l) (sym es) (settled_push rays ranges ray range h none))
+
+-- a ray is written: it is the one that is read there
+pub kept_set : (rays : List KeptSets) (n : ℕ) (ray : KeptSets) → n < length rays → kept_at (set rays n ray) n ≡ ray
+kept_set rays n ray lt = get_or-set_same rays n ray no_ray lt
+
+-- and where its range is settled still, so are all
+pub settled_set : (rays : List KeptSets) (ranges : List (ℕ × ℕ)) (n : ℕ) (ray : KeptSets) → AreSettled rays ranges → n < length rays
+    → ((range : ℕ × ℕ) → HasNoneWanted ray.sets (get_or ranges n range)) → AreSettled (set rays n ray) ranges
+settled_set rays ranges n ray h low none = record {
+  many = h.many ∙ sym (length-set rays n ray);
+  none = λ m d lt.
+      ⊎_elim
+      (λ (e : m ≡ n).
+      subst (λ (k : ℕ). HasNoneWanted (kept_at (set rays n ray) k).sets (get_or ranges k d)) (sym e)
+      (subst (λ (r : KeptSets). HasNoneWanted r.sets (get_or ranges n d)) (sym (kept_set rays n ray low)) (none d)))
+      (λ (other : m ≢ n).
+      subst (λ (r : KeptSets). HasNoneWanted r.sets (get_or ranges m d)) (sym (get_or-set_other rays n m ray no_ray other))
+      (h.none m d (omega (arith, lt, length-set rays n ray))))
+      (cases_eq m n);
+}
