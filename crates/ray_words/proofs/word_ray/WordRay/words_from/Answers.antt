@@ -1,6 +1,5 @@
 -- One word more: the words are those of the sets still.
 use Rattle.std.proofs.Common.{◌∷◌, [], length, length-append, arith, ap, subst, sym}
-use Rattle.dexel_rays.specs.declared.word_sets.WordSets.{WordSets}
 use Rattle.ray_words.specs.Kept.{AreWordsFrom}
 use Rattle.ray_words.proofs.Keeping.{words_more}
 use Rattle.ray_words.proofs.word_ray.WordRay.words_from.Goals as goal
