@@ -1,5 +1,5 @@
 ghost use Rattle.std.specs.Prelude.{◌≡◌, ℕ, ◌-◌, ◌<◌, ◌≤◌, [], ◌∷◌, ◌++◌, IfOk, OnOk, OnErr, IsOk, length, slice_index, slice_set};
-ghost use Rattle.vf_spans.specs.Edges.{edges_of, AreEdges};
+ghost use Rattle.vf_spans.specs.Edges.{edges_kept, edges_of, AreEdges};
 
 use std::alloc::{AllocError, Global};
 use std::mem::size_of;
@@ -61,10 +61,7 @@ impl Edges {
         let kept = match &self.kept {
             Kept::Empty => Kept::Empty,
             Kept::OneRange(edges) => Kept::OneRange(*edges),
-            Kept::Ranges(list) => {
-                let copy = Vec::from_slice(alloc, list.as_slice())?;
-                Kept::Ranges(Box::new(alloc, copy)?)
-            }
+            Kept::Ranges(list) => listed(alloc, list.as_slice())?,
         };
         Ok(Edges { kept, alloc })
     }
@@ -97,8 +94,7 @@ impl Edges {
         match &mut self.kept {
             Kept::Ranges(list) if !list.is_empty() => list.extend_from_slice(&[lo, hi]),
             Kept::OneRange(edges) => {
-                let list = Vec::from_slice(self.alloc, &[edges[0], edges[1], lo, hi])?;
-                self.kept = Kept::Ranges(Box::new(self.alloc, list)?);
+                self.kept = listed(self.alloc, &[edges[0], edges[1], lo, hi])?;
                 Ok(())
             }
             // There are no edges, however that is kept.
@@ -124,4 +120,12 @@ impl Edges {
             }
         }
     }
+}
+
+/// The edges in a list.
+fn listed(alloc: Global, edges: &[u32]) -> Result<Kept, AllocError>
+    ensures { IfOk result (λ r. edges_kept r ≡ edges.now) }
+{
+    let list = Vec::from_slice(alloc, edges)?;
+    Ok(Kept::Ranges(Box::new(alloc, list)?))
 }
