@@ -25,3 +25,8 @@ pub mod Parts
 pub mod Ahead
 pub mod Beside
 pub mod Below
+pub mod Kept
+pub mod Widened
+pub mod Coefficients2
+pub mod Behind
+pub mod SlabLengths
