@@ -123,19 +123,30 @@ left_is w v d e g n a b D U L hd hu =
 three_natural : (a b c : ℤ) → pos 0 ≤ℤ a → pos 0 ≤ℤ b → pos 0 ≤ℤ c → pos 0 ≤ℤ ((a +ℤ b) +ℤ c)
 three_natural a b c h k l = omega (arith, ints)
 
+natural : (n : ℕ) → pos 0 ≤ℤ pos n
+natural n = omega (arith, ints)
+
+-- what is left of a limit
+left_natural : (L s : ℤ) → (pos 4 *ℤ s) ≤ℤ L → pos 0 ≤ℤ (L -ℤ pos 4 *ℤ s)
+left_natural L s h = omega (arith, ints)
+
+within_limit : (L s : ℤ) → pos 0 ≤ℤ (L -ℤ pos 4 *ℤ s) → (pos 4 *ℤ s) ≤ℤ L
+within_limit L s h = omega (arith, ints)
+
+square_some : (n : ℕ) → 0 < n → 0 < n * n
+square_some n some = let k : 1 * 1 ≤ n * n = mul-le-mul some some in omega (arith, k)
+
 near_between : (w v : ℕ) (p q r a : List ℤ) (L : ℤ) → 0 < w + v → ((pos w +ℤ pos v) *ℤ (pos w +ℤ pos v)) *ℤ dot r r ≡ blend (pos w) (pos v) (dot p p) (dot p q) (dot q q)
     → (pos w +ℤ pos v) *ℤ dot r a ≡ pos w *ℤ dot p a +ℤ pos v *ℤ dot q a → (pos 4 *ℤ spread p a) ≤ℤ L → (pos 4 *ℤ spread q a) ≤ℤ L → (pos 4 *ℤ spread r a) ≤ℤ L
 near_between w v p q r a L some hd hu hp hq =
     let n = dot a a in
     let e = left_is (pos w) (pos v) (dot p p) (dot p q) (dot q q) n (dot p a) (dot q a) (dot r r) (dot r a) L hd hu in
-    let first = product_natural ((pos w +ℤ pos v) *ℤ pos w) (L -ℤ pos 4 *ℤ spread p a) (omega (arith, ints)) (omega (arith, ints, hp)) in
-    let last = product_natural ((pos w +ℤ pos v) *ℤ pos v) (L -ℤ pos 4 *ℤ spread q a) (omega (arith, ints)) (omega (arith, ints, hq)) in
+    let first = product_natural (pos ((w + v) * w)) (L -ℤ pos 4 *ℤ spread p a) (natural ((w + v) * w)) (left_natural L (spread p a) hp) in
+    let last = product_natural (pos ((w + v) * v)) (L -ℤ pos 4 *ℤ spread q a) (natural ((w + v) * v)) (left_natural L (spread q a) hq) in
     let far : pos 0 ≤ℤ (n *ℤ ((dot p p -ℤ pos 2 *ℤ dot p q) +ℤ dot q q) -ℤ (dot p a -ℤ dot q a) *ℤ (dot p a -ℤ dot q a)) = subst (λ z. pos 0 ≤ℤ z) (apart_is p q a) (spread_natural (apart p q) a) in
-    let more = product_natural (pos 4 *ℤ (pos w *ℤ pos v)) _ (omega (arith, ints)) far in
+    let more = product_natural (pos (4 * (w * v))) _ (natural (4 * (w * v))) far in
     let whole = subst (λ z. pos 0 ≤ℤ z) (sym e) (three_natural _ _ _ first last more) in
-    let square_some : 0 < (w + v) * (w + v) = let l : 1 ≤ w + v = omega (arith, some) in let k = mul-le-mul l l in omega (arith, k) in
-    let left = factor_natural ((w + v) * (w + v)) (L -ℤ pos 4 *ℤ spread r a) square_some whole in
-    omega (arith, ints, left)
+    within_limit L (spread r a) (factor_natural ((w + v) * (w + v)) (L -ℤ pos 4 *ℤ spread r a) (square_some (w + v) some) whole)
 
 -- of two places that a slab holds
 pub covers_between : (s : SlabSize) (B : ℤ) (w v : ℕ) (p q r a : List ℤ) → 0 < w + v

@@ -1,5 +1,5 @@
 -- Numbers of moments that fit.
-use Rattle.std.proofs.Common.{◌≡◌, ◌∙◌, ap, ap₂, subst, sym, pos, ◌<ℤ◌, FitsSigned, to_z, of_z, ℕ, ◌+◌, ◌*◌, ◌^◌, ◌<◌, ◌≤◌, List, ℤ, ◌+ℤ◌, ◌*ℤ◌, ◌-ℤ◌, unsigned_abs, arith}
+use Rattle.std.proofs.Common.{◌≡◌, ◌∙◌, ap, ap₂, subst, sym, pos, negsuc, ◌<ℤ◌, int_lt, true, FitsSigned, to_z, of_z, ℕ, ◌+◌, ◌*◌, ◌^◌, ◌<◌, ◌≤◌, List, ℤ, ◌+ℤ◌, ◌*ℤ◌, ◌-ℤ◌, unsigned_abs, arith}
 use Rattle.std.proofs.lemmas.Int.{fits_signed_from_abs, to_z-of_z}
 use mir.Syntax.{Width, w64, w128}
 use mir.Val.{hbits}
@@ -9,6 +9,7 @@ use Rattle.box_bisect.proofs.Reread.{back_of, product_fits, product_is, small_as
 use Rattle.ray_runs.specs.Sizes.{part_limit, turn_limit}
 use Rattle.space.specs.Vectors.{at, dot}
 use Rattle.space.proofs.Naturals.{abs_add, abs_mul, abs_sub}
+use Rattle.space.proofs.Tests.{decides_lt}
 
 pub three_small : (a b c : ℤ) (n : ℕ) → unsigned_abs a ≤ n → unsigned_abs b ≤ n → unsigned_abs c ≤ n → unsigned_abs ((a +ℤ b) +ℤ c) ≤ n + n + n
 three_small a b c n h k l = let x = abs_add (a +ℤ b) c in let y = abs_add a b in omega (arith, x, y, h, k, l)
@@ -57,6 +58,11 @@ wide_product_is a b x y m n e f h k p q r =
     let z = both_wider a b x y e f h k in
     ap₂ (λ s t. to_z w128 (of_z w128 (to_z w128 (of_z w128 s) *ℤ to_z w128 (of_z w128 t)))) z.0 z.1 ∙ product_is w128 x y m n (wider x h) (wider y k) p q r
 
+-- a number is no further from 0 than its type allows
+pub within_type : (w : Width) (x : ℤ) → FitsSigned w x → unsigned_abs x ≤ 2 ^ hbits w
+within_type w (pos n) h = omega (arith, h.sfits)
+within_type w (negsuc n) h = omega (arith, h.sfits)
+
 -- limits in 64 bits and in 128 bits
 pub offset_fits : offset_limit < 2 ^ hbits w64
 offset_fits = omega arith
@@ -78,6 +84,9 @@ turn_fits = omega arith
 
 pub square_fits : turn_limit * turn_limit < 2 ^ hbits w128
 square_fits = omega arith
+
+pub two_fit : 2 * (turn_limit * turn_limit) < 2 ^ hbits w128
+two_fit = omega arith
 
 pub squares_fit : 3 * (turn_limit * turn_limit) < 2 ^ hbits w128
 squares_fit = omega arith
@@ -114,6 +123,15 @@ small_within w z m n r s h = small_back w z n r (omega (arith, s, h))
 -- what stands at a place of a list, which a number is equal to
 pub at_place : (w : Width) (r : ℤ) (l : List ℤ) (i k m : ℕ) → i ≡ k → m < 2 ^ hbits w → unsigned_abs r ≤ m → r ≡ at l k → to_z w (of_z w r) ≡ at l i
 at_place w r l i k m same fits h e = back_of w r m fits h ∙ e ∙ ap (λ j. at l j) (sym same)
+
+-- components within a lesser limit
+pub turn_within : (l : List ℤ) → IsWithin (2 * part_limit) l → IsWithin turn_limit l
+turn_within l h = (omega (arith, h.0), omega (arith, h.1), omega (arith, h.2))
+
+-- a height that is found to be below 0
+pub below_told : (r x : ℤ) → unsigned_abs r ≤ 3 * part_limit → r ≡ x → int_lt (to_z w64 (of_z w64 r)) (pos 0) ≡ true → x <ℤ pos 0
+below_told r x h e told =
+    subst (λ (z : ℤ). z <ℤ pos 0) (back_of w64 r (3 * part_limit) height_fits h ∙ e) ((decides_lt (to_z w64 (of_z w64 r)) (pos 0)).0 told)
 
 pub squares_within : 3 * (turn_limit * turn_limit) ≤ 9 * (turn_limit * turn_limit)
 squares_within = omega arith
@@ -154,7 +172,8 @@ module _ (w : Width) (x y z : ℤ) (n : ℕ) (r : n + n + n < 2 ^ hbits w) (h : 
   pub sums_fit : FitsSigned w (to_z w (of_z w (to_z w (of_z w x) +ℤ to_z w (of_z w y))) +ℤ to_z w (of_z w z))
   sums_fit = subst (FitsSigned w) (sym all_summed) (fits_signed_from_abs w ((x +ℤ y) +ℤ z) (omega (arith, r, three_small x y z n h k l)))
 
+  pub sums_are : to_z w (of_z w (to_z w (of_z w (to_z w (of_z w x) +ℤ to_z w (of_z w y))) +ℤ to_z w (of_z w z))) ≡ (x +ℤ y) +ℤ z
+  sums_are = to_z-of_z w (to_z w (of_z w (to_z w (of_z w x) +ℤ to_z w (of_z w y))) +ℤ to_z w (of_z w z)) sums_fit ∙ all_summed
+
   pub sums_small : unsigned_abs (to_z w (of_z w (to_z w (of_z w (to_z w (of_z w x) +ℤ to_z w (of_z w y))) +ℤ to_z w (of_z w z)))) ≤ n + n + n
-  sums_small =
-      small_as _ ((x +ℤ y) +ℤ z) (n + n + n) (to_z-of_z w (to_z w (of_z w (to_z w (of_z w x) +ℤ to_z w (of_z w y))) +ℤ to_z w (of_z w z)) sums_fit ∙ all_summed)
-      (three_small x y z n h k l)
+  sums_small = small_as _ ((x +ℤ y) +ℤ z) (n + n + n) sums_are (three_small x y z n h k l)

@@ -1,8 +1,19 @@
-use Rattle.std.proofs.Common.{◌≡◌, ℤ, pos, ◌*ℤ◌, ◌≤ℤ◌, ◌<ℤ◌, FitsSigned, arith, refl, subst}
+use Rattle.std.proofs.Common.{◌≡◌, ◌*◌, ℤ, pos, ◌*ℤ◌, ◌≤ℤ◌, ◌<ℤ◌, FitsSigned, arith, refl, subst}
 use Rattle.std.proofs.lemmas.Int.{ints, to_z-of_z}
 use mir.Syntax.{w128}
-use Rattle.ray_runs.proofs.Fits.{above_fits}
+use Rattle.box_bisect.proofs.Reread.{small_back}
+use Rattle.ray_runs.specs.Sizes.{turn_limit}
+use Rattle.ray_runs.proofs.Fits.{above_fits, all_fit}
 use Rattle.ray_runs.proofs.apart.are_above.Goals as goal
+
+pub is_above-requires : goal.is_above-requires
+is_above-requires c = small_back w128 c.times.result (9 * (turn_limit * turn_limit)) all_fit c.times.ensures.small
+
+pub is_above-requires-2 : goal.is_above-requires-2
+is_above-requires-2 c = small_back w128 c.times-2.result (9 * (turn_limit * turn_limit)) all_fit c.times-2.ensures.small
+
+pub is_above-requires-3 : goal.is_above-requires-3
+is_above-requires-3 c = small_back w128 c.times-3.result (9 * (turn_limit * turn_limit)) all_fit c.times-3.ensures.small
 
 pub returns : goal.returns
 returns c = λ yes.

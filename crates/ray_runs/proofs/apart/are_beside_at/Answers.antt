@@ -1,10 +1,23 @@
-use Rattle.std.proofs.Common.{◌≡◌, ℤ, pos, ◌*ℤ◌, ◌<ℤ◌, FitsSigned, refl, ap, subst, ◌∙◌}
+use Rattle.std.proofs.Common.{◌≡◌, ◌*◌, ℤ, pos, ◌*ℤ◌, ◌<ℤ◌, FitsSigned, refl, ap, subst, ◌∙◌}
 use Rattle.std.proofs.lemmas.Int.{to_z-of_z}
 use mir.Syntax.{w64, w128}
 use Rattle.space.specs.Vectors.{dot}
 use Rattle.space.proofs.Naturals.{dot_natural}
-use Rattle.ray_runs.proofs.Fits.{above_fits}
+use Rattle.ray_runs.specs.Sizes.{turn_limit}
+use Rattle.ray_runs.proofs.Fits.{above_fits, all_fit, small_within, squares_within}
 use Rattle.ray_runs.proofs.apart.are_beside_at.Goals as goal
+
+pub is_above-requires : goal.is_above-requires
+is_above-requires c =
+    small_within w128 c.product.result (3 * (turn_limit * turn_limit)) (9 * (turn_limit * turn_limit)) all_fit squares_within c.product.ensures.small
+
+pub is_above-requires-2 : goal.is_above-requires-2
+is_above-requires-2 c =
+    small_within w128 c.product-2.result (3 * (turn_limit * turn_limit)) (9 * (turn_limit * turn_limit)) all_fit squares_within c.product-2.ensures.small
+
+pub is_above-requires-3 : goal.is_above-requires-3
+is_above-requires-3 c =
+    small_within w128 c.product-3.result (3 * (turn_limit * turn_limit)) (9 * (turn_limit * turn_limit)) all_fit squares_within c.product-3.ensures.small
 
 pub returns : goal.returns
 returns c = λ yes.

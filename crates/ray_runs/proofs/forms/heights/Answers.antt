@@ -1,9 +1,18 @@
-use Rattle.std.proofs.Common.{◌≡◌, ◌+ℤ◌, FitsSigned, sym, ◌∙◌}
+use Rattle.std.proofs.Common.{◌≡◌, ◌*◌, ◌+ℤ◌, FitsSigned, sym, ◌∙◌}
 use Rattle.std.proofs.lemmas.Int.{to_z-of_z}
 use mir.Syntax.{w64}
+use Rattle.box_bisect.proofs.Reread.{small_back}
+use Rattle.ray_runs.specs.Sizes.{part_limit}
 use Rattle.ray_runs.proofs.Boxes.{middle_is}
+use Rattle.ray_runs.proofs.Fits.{height_fits}
 use Rattle.ray_runs.proofs.StretchTests.{three_same}
 use Rattle.ray_runs.proofs.forms.heights.Goals as goal
+
+pub total-middle-requires : goal.total-middle-requires
+total-middle-requires c = record {
+  x = small_back w64 c.height.result (3 * part_limit) height_fits c.height.ensures.small;
+  y = small_back w64 c.height-2.result (3 * part_limit) height_fits c.height-2.ensures.small;
+}
 
 pub returns : goal.returns
 returns c =

@@ -1,18 +1,19 @@
-use Rattle.std.proofs.Common.{◌≤◌, ℤ, ◌*ℤ◌, FitsSigned, unsigned_abs, to_z, of_z, arith, ap₂, subst, sym, ◌∙◌}
-use Rattle.std.proofs.lemmas.Int.{ints, to_z-of_z}
-use borrow.Author.Differences.{abs_is}
+use Rattle.std.proofs.Common.{◌≤◌, ℤ, unsigned_abs, subst, sym}
 use mir.Syntax.{w64}
 use Rattle.space.proofs.Naturals.{abs_mul}
 use Rattle.bern_form.specs.Sizes.{axis_limit, offset_limit}
+use Rattle.box_bisect.proofs.Reread.{product_fits, product_is}
 use Rattle.ray_runs.specs.Sizes.{part_limit}
+use Rattle.ray_runs.proofs.Fits.{part_fits}
 use Rattle.ray_runs.proofs.moments.part.Goals as goal
+
+pub overflow_mul-result : goal.overflow_mul-result
+overflow_mul-result c =
+    product_fits w64 c.args.p c.args.a offset_limit axis_limit c.ranges.p c.ranges.a c.requires.p c.requires.a part_fits
 
 pub returns-clause-value : goal.returns-clause-value
 returns-clause-value c =
-    let p = c.args.p in let a = c.args.a in
-    let small : unsigned_abs (p *ℤ a) ≤ 209715200000000000 = abs_mul p a offset_limit axis_limit c.requires.p c.requires.a in
-    let fits : FitsSigned w64 (p *ℤ a) = omega (arith, ints, abs_is (p *ℤ a), small) in
-    ap₂ (λ x y. to_z w64 (of_z w64 (x *ℤ y))) (to_z-of_z w64 p c.ranges.p) (to_z-of_z w64 a c.ranges.a) ∙ to_z-of_z w64 (p *ℤ a) fits
+    product_is w64 c.args.p c.args.a offset_limit axis_limit c.ranges.p c.ranges.a c.requires.p c.requires.a part_fits
 
 pub returns-clause-small : goal.returns-clause-small
 returns-clause-small c =

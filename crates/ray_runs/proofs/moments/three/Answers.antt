@@ -1,20 +1,17 @@
-use Rattle.std.proofs.Common.{◌≤◌, ◌*◌, ℤ, unsigned_abs, arith, subst, sym}
-use Rattle.std.proofs.lemmas.Int.{ints}
-use borrow.Author.Differences.{abs_is}
+use Rattle.std.proofs.Common.{◌*◌}
+use mir.Syntax.{w128}
 use Rattle.ray_runs.specs.Sizes.{turn_limit}
-use Rattle.ray_runs.proofs.Fits.{three_small}
+use Rattle.ray_runs.proofs.Fits.{all_fit, both_fit, sum_fits, sums_are, sums_fit, sums_small}
 use Rattle.ray_runs.proofs.moments.three.Goals as goal
 
 pub overflow_add-result : goal.overflow_add-result
-overflow_add-result c = omega (arith, ints, abs_is c.args.x, abs_is c.args.y, c.requires.x, c.requires.y)
+overflow_add-result c = sum_fits w128 c.args.x c.args.y (3 * (turn_limit * turn_limit)) both_fit c.requires.x c.requires.y
 
 pub overflow_add-result-2 : goal.overflow_add-result-2
-overflow_add-result-2 c = omega (arith, ints, abs_is c.args.x, abs_is c.args.y, abs_is c.args.z, c.requires.x, c.requires.y, c.requires.z)
+overflow_add-result-2 c = sums_fit w128 c.args.x c.args.y c.args.z (3 * (turn_limit * turn_limit)) all_fit c.requires.x c.requires.y c.requires.z
 
 pub returns-clause-value : goal.returns-clause-value
-returns-clause-value c = omega (arith, ints, abs_is c.args.x, abs_is c.args.y, abs_is c.args.z, c.requires.x, c.requires.y, c.requires.z)
+returns-clause-value c = sums_are w128 c.args.x c.args.y c.args.z (3 * (turn_limit * turn_limit)) all_fit c.requires.x c.requires.y c.requires.z
 
 pub returns-clause-small : goal.returns-clause-small
-returns-clause-small c =
-    subst (λ (z : ℤ). unsigned_abs z ≤ 9 * (turn_limit * turn_limit)) (sym (returns-clause-value c))
-    (three_small c.args.x c.args.y c.args.z (3 * (turn_limit * turn_limit)) c.requires.x c.requires.y c.requires.z)
+returns-clause-small c = sums_small w128 c.args.x c.args.y c.args.z (3 * (turn_limit * turn_limit)) all_fit c.requires.x c.requires.y c.requires.z

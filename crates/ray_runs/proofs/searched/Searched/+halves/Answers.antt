@@ -2,12 +2,24 @@ use Rattle.std.proofs.Common.{rules, ◌+◌, ◌-◌, ◌^◌, ◌≡◌, arith
 use Rattle.ray_grid.specs.Lattice.{point_of}
 use Rattle.box_bisect.proofs.Searching.{halved}
 use Rattle.ray_runs.proofs.Open.{halves_open}
-use Rattle.ray_runs.proofs.Searching.{apart_between, around_whole, pair_at}
+use Rattle.ray_runs.proofs.Searching.{apart_between, around_whole, beside_by_word, pair_at}
 use Rattle.ray_runs.proofs.searched.Searched.+halves.Goals as goal
 
 pub returns-then-are_apart : goal.returns-then-are_apart
 returns-then-are_apart t c =
     let a = c.args in apart_between a.self.now a.j (a.j + 2 ^ a.levels) _ _ (search rules) c.requires.start c.requires.end (c.if-are_apart.ensures refl)
+
+pub are_apart-requires-clause-start : goal.are_apart-requires-clause-start
+are_apart-requires-clause-start t c = beside_by_word c.args.self.now _ _ (search rules) c.requires.start
+
+pub are_apart-requires-clause-end : goal.are_apart-requires-clause-end
+are_apart-requires-clause-end t c = beside_by_word c.args.self.now _ _ (search rules) c.requires.end
+
+pub returns-then-levels-self : goal.returns-then-levels-self
+returns-then-levels-self t c = around_whole c.args.self.now c.args.j c.args.levels c.requires.levels
+
+pub returns-then-are_open : goal.returns-then-are_open
+returns-then-are_open t c = around_whole c.args.self.now c.args.j c.args.levels c.requires.levels
 
 pub returns-then-is_open : goal.returns-then-is_open
 returns-then-is_open t c = around_whole c.args.self.now c.args.j c.args.levels c.requires.levels
