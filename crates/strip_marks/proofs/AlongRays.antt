@@ -1,5 +1,6 @@
 -- The window along the rays of a strip, on each of them.
 use Rattle.std.proofs.Common.{◌≡◌, ℕ, ◌<◌, ◌≤◌, length, sym, subst}
+use Rattle.ray_grid.specs.Grids.{GridSize}
 use Rattle.ray_grid.specs.declared.ray.Ray.{Ray}
 use Rattle.ray_grid.specs.Lattice.{points_of}
 use Rattle.ray_grid.specs.Strips.{strip_at}
@@ -34,3 +35,8 @@ along_on plan number strip n s window near lt w =
       within = subst (λ (r : Ray). window.1 ≤ points_of plan.grid r.family) (sym ray) w.within;
       holds = λ move has. subst (λ (r : Ray). HoldsPossible plan move r window.0 window.1) (sym ray) (w.holds move n has);
     }
+
+-- it ends on the rays that the cylinder is ready for
+pub along_points : (plan : PlanOf) (number strip : ℕ) (s : NearStripOf) (window : ℕ × ℕ) → IsNearStripOf plan number strip s → IsAlong plan number s window
+    → window.1 ≤ points_of s.grid s.family
+along_points plan number strip s window near w = subst (λ (g : GridSize). window.1 ≤ points_of g s.family) (sym near.grid) w.within

@@ -43,7 +43,7 @@ none_asked_next near d window n asked ahead inside is zero = record {
 }
 
 -- a range that has each wanted index of a window has each that the move has to be asked about
-asked_left : (near : NearRayOf) (d : Sets) (window left : ℕ × ℕ) (l : ℕ) → HasAllWanted d window left → IsAskedAt near d window l
+pub asked_left : (near : NearRayOf) (d : Sets) (window left : ℕ × ℕ) (l : ℕ) → HasAllWanted d window left → IsAskedAt near d window l
     → IsAskedAt near d left l
 asked_left near d window left l has at = record { wanted = at.wanted; in_window = has.all l at.in_window at.wanted; kept = at.kept }
 

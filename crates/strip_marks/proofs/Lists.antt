@@ -139,6 +139,11 @@ kept_between ray changes most count z h e kept k d lt =
     subst (λ (c : WordChange). IsKept ray c.word) (get_or_default changes k z d lt)
     (kept (get_or changes k z).word (h.order 0 k z (omega arith) lt) (omega arith))
 
+-- a list that goes on is no shorter
+pub tail_within : (before after added slice : List WordChange) (start : ℕ) → after ≡ before ++ added → slice ≡ after → start ≡ length before → start ≤ length slice
+tail_within before after added slice start joined same at =
+    let many = ap (λ (l : List WordChange). length l) (same ∙ joined) in omega (arith, at, many, length-append before added)
+
 -- what a list goes on with stands behind its length
 pub tail_of : (before after added slice : List WordChange) (start : ℕ) → after ≡ before ++ added → slice ≡ after → start ≡ length before
     → take (length slice - start) (drop start slice) ≡ added

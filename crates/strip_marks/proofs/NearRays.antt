@@ -12,6 +12,7 @@ use Rattle.ray_grid.proofs.Rows.{length-strip}
 use Rattle.vf_spans.specs.Words.{words_below}
 use Rattle.near_points.specs.Rays.{NearRayOf, NearStripOf, near_ray_at}
 use Rattle.ray_words.specs.Rays.{KeptSets}
+use Rattle.wanted_marks.specs.Rays.{RayOf}
 use Rattle.dexel_rays.specs.Sets.{Sets}
 use Rattle.job_model.specs.Tasks.{JobMove, PlanOf}
 use Rattle.strip_plan.specs.Plans.{HasNumber}
@@ -36,6 +37,11 @@ near_on plan number strip n move s h has within lt =
           subst (λ (x : Ray). IsInCylinder s.cylinder (point_of s.grid x l)) ray
           (subst (λ (g : GridSize). IsInCylinder s.cylinder (point_of g (ray_of plan.grid strip n) l)) (sym h.grid) met);
     }
+
+-- the rays of both have as many points
+pub near_points_on : (near : NearRayOf) (r : RayOf) (hi : ℕ) → IsNearOf near r → hi ≤ points_of r.grid r.ray.family → hi ≤ points_of near.grid near.ray.family
+near_points_on near r hi h le =
+    subst (λ (g : GridSize). hi ≤ points_of g near.ray.family) (sym h.grid) (subst (λ (x : Ray). hi ≤ points_of r.grid x.family) (sym h.ray) le)
 
 -- the strip has a ray at each of its nodes
 pub near_nodes : (plan : PlanOf) (number strip : ℕ) (s : NearStripOf) → IsNearStripOf plan number strip s

@@ -15,8 +15,7 @@ loop-n-preserved c =
     let left = c.unsettled-left.result in
     let none : IsUnasked near d left =
     elim c.else-left.branch [
-      | else-left-via-then-left+else-may_hold w ↦
-          unasked_unheld near d left (λ l in_left held. let yes = w.may_hold.ensures l in_left held in let no = w.if-may_hold.false in cc)
+      | else-left-via-then-left+else-may_hold w ↦ unasked_unheld near d left w.may_hold.result w.may_hold.ensures w.if-may_hold.false
       | else-left-via-else-left w ↦ unasked_empty near d left w.if-left.false
     ] in
     unasked_more a.near.now a.rays.now a.window a.from n c.loop-n.invariant

@@ -1,5 +1,6 @@
 use Rattle.std.proofs.Common.{◌≡◌, ◌*◌, ◌/◌, ◌≤◌, List, length, arith, sym, ap, ◌∙◌, subst}
 use Rattle.std.specs.List.{All}
+use Rattle.std.proofs.lemmas.List.{set-get_or}
 use Rattle.vf_spans.specs.Words.{words_below}
 use Rattle.dexel_rays.specs.Sets.{Sets}
 use Rattle.ray_words.specs.Rays.{KeptSets}
@@ -9,9 +10,36 @@ use Rattle.strip_marks.specs.declared.change.WordChange.{WordChange}
 use Rattle.strip_marks.specs.Marks.{sets_of}
 use Rattle.strip_marks.specs.RayMarks.{AreWordsMarked, HaveWordsBelow, IsAtKept}
 use Rattle.strip_marks.specs.Words.{AreSetsOf}
-use Rattle.strip_marks.proofs.Lists.{tail_of, words_ascend}
+use Rattle.strip_marks.proofs.Lists.{tail_of, tail_within, words_ascend}
+use Rattle.strip_marks.proofs.MoreRays.{no_sets}
 use Rattle.strip_marks.proofs.WholeRays.{ray_marked}
 use Rattle.strip_marks.proofs.ray.mark_ray.Goals as goal
+
+pub returns-in_err-mark_words-clause-others : goal.returns-in_err-mark_words-clause-others
+returns-in_err-mark_words-clause-others c = sym (set-get_or c.args.rays.now c.args.n no_sets)
+
+pub offset_bounds-as_slice-start : goal.offset_bounds-as_slice-start
+offset_bounds-as_slice-start c =
+    let h = c.in_ok-mark_words.ensures in
+    let before = c.args.marked.now.changes in
+    let le = tail_within before.items c.mark_words.new.marked.changes.items h.added c.as_slice.result.now c.len-start.result h.joined
+    c.as_slice.ensures.value (c.len-start.ensures ∙ before.ok.0) in
+    let slice_fits = c.as_slice.type_inv in
+    omega arith
+
+pub slice_bounds-keep_changed-start : goal.slice_bounds-keep_changed-start
+slice_bounds-keep_changed-start c =
+    let h = c.in_ok-mark_words.ensures in
+    let before = c.args.marked.now.changes in
+    tail_within before.items c.mark_words.new.marked.changes.items h.added c.as_slice.result.now c.len-start.result h.joined
+    c.as_slice.ensures.value (c.len-start.ensures ∙ before.ok.0)
+
+pub slice_bounds-keep_changed-count : goal.slice_bounds-keep_changed-count
+slice_bounds-keep_changed-count c =
+    let h = c.in_ok-mark_words.ensures in
+    let before = c.args.marked.now.changes in
+    tail_within before.items c.mark_words.new.marked.changes.items h.added c.as_slice.result.now c.len-start.result h.joined
+    c.as_slice.ensures.value (c.len-start.ensures ∙ before.ok.0)
 
 pub keep_changed-requires-clause-words : goal.keep_changed-requires-clause-words
 keep_changed-requires-clause-words c =

@@ -9,6 +9,7 @@ use Rattle.strip_marks.proofs.AtWords.{asked_of, idle_unasked}
 use Rattle.strip_marks.proofs.Counting.{within_more}
 use Rattle.strip_marks.proofs.Growing.{adds_none, adds_words, room_left}
 use Rattle.strip_marks.proofs.Idle.{idle_words}
+use Rattle.strip_marks.proofs.NearRays.{near_points_on}
 use Rattle.strip_marks.proofs.ray.mark_words.Goals as goal
 
 pub mark_word-requires-clause-asked : goal.mark_word-requires-clause-asked
@@ -26,6 +27,16 @@ mark_word-requires-clause-within c = omega (arith, c.requires.first.inside, c.re
 pub mark_word-requires-in-loop-window-clause-within : goal.mark_word-requires-in-loop-window-clause-within
 mark_word-requires-in-loop-window-clause-within c =
     omega (arith, c.requires.window.within, c.requires.ray.bound.stock)
+
+pub mark_word-requires-in-loop-window-clause-few : goal.mark_word-requires-in-loop-window-clause-few
+mark_word-requires-in-loop-window-clause-few c = omega arith
+
+pub asked_in-points-requires-clause-on : goal.asked_in-points-requires-clause-on
+asked_in-points-requires-clause-on c =
+    near_points_on (near_ray_at c.args.near.now c.args.n) c.args.marker.now c.args.window.1 c.requires.near c.requires.window.within
+
+pub overflow_add-word : goal.overflow_add-word
+overflow_add-word c = omega arith
 
 pub mark_word-requires-clause-room : goal.mark_word-requires-clause-room
 mark_word-requires-clause-room c = within_more (most_count - 2 ^ 33) (most_count - 64) c.args.marked.now.counts (omega arith) c.requires.room

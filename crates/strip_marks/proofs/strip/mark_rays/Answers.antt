@@ -11,7 +11,7 @@ use Rattle.strip_marks.specs.Marks.{possible_there, sure_there}
 use Rattle.wanted_marks.specs.Strips.{ray_at}
 use Rattle.strip_marks.specs.RayMarks.{Adds, IsRayMarked}
 use Rattle.strip_marks.specs.RowMarks.{AreRaysMarked}
-use Rattle.strip_marks.proofs.AlongRays.{along_of, along_on}
+use Rattle.strip_marks.proofs.AlongRays.{along_of, along_on, along_points}
 use Rattle.strip_marks.proofs.Counting.{within_more}
 use Rattle.strip_marks.proofs.IdleRays.{first_found, none_found}
 use Rattle.strip_marks.proofs.MoreRays.{no_rays_to, same_self, same_set, sets_at}
@@ -55,6 +55,55 @@ first_in-next-requires-in-Some-clause-nodes c =
     let near = near_of a.plan.now a.number a.strip c.new-near.result c.cylinder.result.now c.grid-grid.result.now c.strip_ray-row.result
     c.new-near.ensures c.grid-grid.ensures c.strip_ray-row.ensures.there c.strip_ray-row.ensures.ray c.cylinder.ensures in
     omega (arith, c.requires.within, c.requires.rays.many, near_nodes a.plan.now a.number a.strip c.new-near.result near)
+
+pub first_in-next-requires-clause-on : goal.first_in-next-requires-clause-on
+first_in-next-requires-clause-on c =
+    let a = c.args in
+    let near = near_of a.plan.now a.number a.strip c.new-near.result c.cylinder.result.now c.grid-grid.result.now c.strip_ray-row.result
+    c.new-near.ensures c.grid-grid.ensures c.strip_ray-row.ensures.there c.strip_ray-row.ensures.ray c.cylinder.ensures in
+    let window = c.strip_along-along.result in
+    along_points a.plan.now a.number a.strip c.new-near.result window near
+    (along_of a.plan.now a.number c.new-near.result _ window c.new-near.ensures c.strip_along-along.ensures)
+
+pub first_in-next-requires-in-Some-clause-on : goal.first_in-next-requires-in-Some-clause-on
+first_in-next-requires-in-Some-clause-on c =
+    let a = c.args in
+    let near = near_of a.plan.now a.number a.strip c.new-near.result c.cylinder.result.now c.grid-grid.result.now c.strip_ray-row.result
+    c.new-near.ensures c.grid-grid.ensures c.strip_ray-row.ensures.there c.strip_ray-row.ensures.ray c.cylinder.ensures in
+    let window = c.strip_along-along.result in
+    along_points a.plan.now a.number a.strip c.new-near.result window near
+    (along_of a.plan.now a.number c.new-near.result _ window c.new-near.ensures c.strip_along-along.ensures)
+
+pub overflow_add-n : goal.overflow_add-n
+overflow_add-n c =
+    let a = c.args in
+    let k = c.loop-next in
+    let n = c.in-Some.n in
+    let next = some_told (IsNextRay a.plan.now a.number a.strip c.new-near.result c.strip_along-along.result a.rays.now k.rays k.marked a.window.0 a.window.1) k.next
+    (n, c.in-Some.first) k.invariant.some c.in-Some.is in
+    omega (arith, next.below)
+
+pub first_in-next-requires-in-Some-clause-some : goal.first_in-next-requires-in-Some-clause-some
+first_in-next-requires-in-Some-clause-some c =
+    let a = c.args in
+    let k = c.loop-next in
+    let n = c.in-Some.n in
+    let next = some_told (IsNextRay a.plan.now a.number a.strip c.new-near.result c.strip_along-along.result a.rays.now k.rays k.marked a.window.0 a.window.1) k.next
+    (n, c.in-Some.first) k.invariant.some c.in-Some.is in
+    omega (arith, next.below)
+
+pub first_in-next-requires-in-Some-clause-within : goal.first_in-next-requires-in-Some-clause-within
+first_in-next-requires-in-Some-clause-within c =
+    let a = c.args in
+    let k = c.loop-next in
+    let n = c.in-Some.n in
+    let next = some_told (IsNextRay a.plan.now a.number a.strip c.new-near.result c.strip_along-along.result a.rays.now k.rays k.marked a.window.0 a.window.1) k.next
+    (n, c.in-Some.first) k.invariant.some c.in-Some.is in
+    let rays = c.mark_asked.new.rays in
+    let e = c.in_ok-mark_asked.ensures in
+    let same = same_set a.rays.now k.rays rays n (kept_at rays n) k.invariant.same (omega (arith, next.below, c.requires.within)) e.same
+    e.others in
+    omega (arith, c.requires.within, same.many)
 
 pub returns-then-is_none-clause-marked : goal.returns-then-is_none-clause-marked
 returns-then-is_none-clause-marked c = λ move has.
