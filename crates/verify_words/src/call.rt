@@ -1,4 +1,4 @@
-ghost use Rattle.std.specs.Prelude.{◌≡◌, ◌≤◌, IfOk, IfSome, map, option_map, string_bytes};
+ghost use Rattle.std.specs.Prelude.{◌≡◌, ◌≤◌, IfOk, IfSome, map, option_and_then, option_map, string_bytes};
 ghost use Rattle.verify_words.specs.Call.{call_in, call_of, most_workers, named, script_in, workers_in};
 ghost use Rattle.verify_words.specs.Seen.{call_seen, values_seen};
 
@@ -47,11 +47,18 @@ fn read_call<'a>(values: &Values<'a>) -> Option<VerifyWords<'a>>
     ensures few { IfSome result (λ said. said.workers ≤ most_workers) }
 {
     Some(VerifyWords {
-        file: read_name(values.file?)?,
-        setup: read_name(values.setup?)?,
+        file: read_given(values.file)?,
+        setup: read_given(values.setup)?,
         script: read_script(values.script)?,
         workers: read_workers(values.workers)?,
     })
+}
+
+/// A word that has to be there, and is a name.
+fn read_given(word: Option<&str>) -> Option<&str>
+    ensures { option_map (λ name. name.now) result ≡ option_and_then named (option_map (λ word. word.now) word.entry) }
+{
+    read_name(word?)
 }
 
 /// A word that is a name.

@@ -1,10 +1,12 @@
 ghost use Rattle.std.specs.Prelude.{◌≡◌, IfOk, map, option_map, string_bytes};
+ghost use Rattle.clap.specs.Matches.{found_of};
 ghost use Rattle.clap.specs.Simple.{app_of, with_rule};
-ghost use Rattle.verify_words.specs.Command.{option, place, verify_command, values_of};
+ghost use Rattle.clap.specs.Walk.{rows_of};
+ghost use Rattle.verify_words.specs.Command.{option, place, values_in, values_of, verify_command};
 ghost use Rattle.verify_words.specs.Seen.{values_seen};
 
 use clap::error::ErrorKind;
-use clap::{Arg, Command};
+use clap::{Arg, ArgMatches, Command};
 use std::alloc::{AllocError, Global};
 use vf_io::NoMemory;
 
@@ -48,6 +50,18 @@ fn verify_command<'a>(alloc: Global) -> Result<Command<'a>, AllocError>
     with_option(alloc, with_option(alloc, placed, "script")?, "workers")
 }
 
+/// The values of the four that were found.
+fn found_values<'a>(matches: &ArgMatches<'a>) -> Values<'a>
+    ensures { values_seen result ≡ values_in (rows_of (found_of matches.now)) }
+{
+    Values {
+        file: matches.get_str("CL"),
+        setup: matches.get_str("SETUP"),
+        script: matches.get_str("script"),
+        workers: matches.get_str("workers"),
+    }
+}
+
 /// The values that the words give, where the parser takes them.
 pub(crate) fn read_values<'a>(
     alloc: Global,
@@ -59,12 +73,7 @@ pub(crate) fn read_values<'a>(
         return Err(NoMemory);
     };
     match command.try_get_matches_from(words) {
-        Ok(matches) => Ok(Some(Values {
-            file: matches.get_str("CL"),
-            setup: matches.get_str("SETUP"),
-            script: matches.get_str("script"),
-            workers: matches.get_str("workers"),
-        })),
+        Ok(matches) => Ok(Some(found_values(&matches))),
         Err(error) if error.kind() == ErrorKind::OutOfMemory => Err(NoMemory),
         Err(_) => Ok(None),
     }
