@@ -7,9 +7,6 @@ use Rattle.report_text.specs.Verdict.{text_of_lines}
 pub three_texts : (page a b c : List ℕ) → ((page ++ a) ++ b) ++ c ≡ page ++ ((a ++ b) ++ c)
 three_texts page a b c = simp append_assoc
 
-pub four_texts : (page a b c d : List ℕ) → (((page ++ a) ++ b) ++ c) ++ d ≡ page ++ (((a ++ b) ++ c) ++ d)
-four_texts page a b c d = simp append_assoc
-
 -- lines behind lines
 pub more_lines : (page : List ℕ) (xs ys : List (List ℕ)) → (page ++ text_of_lines xs) ++ text_of_lines ys ≡ page ++ text_of_lines (xs ++ ys)
 more_lines page xs ys = append_assoc page (text_of_lines xs) (text_of_lines ys) ∙ ap (λ text. page ++ text) (sym (flat_map-append line xs ys))

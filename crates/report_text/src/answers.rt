@@ -6,6 +6,7 @@ ghost use Rattle.report_text.specs.Answers.{answer_text, count_text, family_name
 ghost use Rattle.report_text.specs.Report.{answer_lines};
 ghost use Rattle.report_text.specs.Verdict.{text_of_lines};
 
+use crate::counted::write_counted;
 use crate::verdict::write_points;
 use edit_plan::Ask;
 use job_facts::{Answer, PointState, Totals};
@@ -47,12 +48,9 @@ fn write_probe(page: &mut Page, ray: &Ray, l: u32, state: PointState) -> Result<
 {
     page.text(b"probe ")?;
     page.text(name_of_family(ray.family))?;
-    page.space()?;
-    page.count(ray.i as usize)?;
-    page.space()?;
-    page.count(ray.j as usize)?;
-    page.space()?;
-    page.count(l as usize)?;
+    write_counted(page, b" ", ray.i as usize)?;
+    write_counted(page, b" ", ray.j as usize)?;
+    write_counted(page, b" ", l as usize)?;
     page.space()?;
     page.text(name_of_state(state))
 }

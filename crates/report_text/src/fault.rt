@@ -1,6 +1,7 @@
 ghost use Rattle.std.specs.Prelude.{◌≡◌, ◌++◌, IfOk, OnOk};
 ghost use Rattle.report_text.specs.Refusals.{refusal_of, fault_text, input_name, refused_word, why_name};
 
+use crate::counted::write_counted;
 use crate::script_fault::write_script_fault;
 use crate::setup_fault::write_setup_fault;
 use cl_lines::{ClFault, ClWhy};
@@ -56,13 +57,11 @@ fn write_fault(page: &mut Page, fault: &Fault) -> Result<(), NoMemory>
             page.text(b": TooLong")
         }
         Fault::CutterHeight(line) => {
-            page.text(b"cl line ")?;
-            page.count(*line as usize)?;
+            write_counted(page, b"cl line ", *line as usize)?;
             page.text(b": CutterHeight")
         }
         Fault::Cl(fault) => {
-            page.text(b"cl line ")?;
-            page.count(fault.line as usize)?;
+            write_counted(page, b"cl line ", fault.line as usize)?;
             page.text(b": ")?;
             page.text(name_of_why(fault.why))?;
             write_refused_word(page, fault.why)

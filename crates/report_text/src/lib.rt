@@ -2,6 +2,7 @@
 #![tactic(auto)]
 
 mod answers;
+mod counted;
 mod fault;
 mod listing;
 mod marking;

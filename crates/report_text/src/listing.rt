@@ -1,6 +1,8 @@
-ghost use Rattle.std.specs.Prelude.{◌≡◌, ◌++◌, IfOk, OnOk};
+ghost use Rattle.std.specs.Prelude.{◌≡◌, ◌++◌, IfOk, OnOk, codes};
+ghost use Rattle.vf_text.specs.Pages.{numbers};
 ghost use Rattle.report_text.specs.Listing.{list_of, move_lines, move_line, move_head, cutter_text, flank_text, height_text};
 
+use crate::counted::write_counted;
 use cl_moves::{CutterText, Move, Program};
 use std::alloc::Global;
 use vf_io::NoMemory;
@@ -17,10 +19,8 @@ pub fn list_text(alloc: Global, program: &Program) -> Result<Vec<u8>, NoMemory>
     let mut page = Page::with_room(alloc, room)?;
     page.text(b"clverify list 1\n")?;
     write_moves(&mut page, program.moves.as_slice())?;
-    page.text(b"moves ")?;
-    page.count(program.moves.len())?;
-    page.text(b" passed ")?;
-    page.count(program.passed as usize)?;
+    write_counted(&mut page, b"moves ", program.moves.len())?;
+    write_counted(&mut page, b" passed ", program.passed as usize)?;
     page.end_line()?;
     Ok(page.into_vec())
 }
@@ -38,14 +38,8 @@ fn write_move(page: &mut Page, number: usize, next: &Move) -> Result<(), NoMemor
     ensures { OnOk result (page.new ≡ page.old ++ move_line number next.now) }
 {
     write_head(page, number, next.line, next.rapid)?;
-    page.text(b" from")?;
-    page.point(&next.from)?;
-    page.text(b" to")?;
-    page.point(&next.to)?;
-    page.text(b" axis")?;
-    page.point(&next.axis_from)?;
-    page.text(b" to")?;
-    page.point(&next.axis_to)?;
+    write_ends(page, b" from", &next.from, &next.to)?;
+    write_ends(page, b" axis", &next.axis_from, &next.axis_to)?;
     page.text(b" cutter ")?;
     write_cutter(page, &next.cutter)?;
     page.end_line()
@@ -60,11 +54,19 @@ pub(crate) fn write_head(
 ) -> Result<(), NoMemory>
     ensures { OnOk result (page.new ≡ page.old ++ move_head number line rapid) }
 {
-    page.text(b"move ")?;
-    page.count(number)?;
-    page.text(b" line ")?;
-    page.count(line as usize)?;
+    write_counted(page, b"move ", number)?;
+    write_counted(page, b" line ", line as usize)?;
     page.text(if rapid { b" rapid" } else { b" cut" })
+}
+
+/// Writes what leads from one point to another, and both.
+fn write_ends(page: &mut Page, name: &[u8], from: &[i32; 3], to: &[i32; 3]) -> Result<(), NoMemory>
+    ensures { OnOk result (page.new ≡ page.old ++ (name.now ++ numbers from.now ++ codes " to" ++ numbers to.now)) }
+{
+    page.text(name)?;
+    page.point(from)?;
+    page.text(b" to")?;
+    page.point(to)
 }
 
 fn write_cutter(page: &mut Page, cutter: &Option<CutterText>) -> Result<(), NoMemory>
@@ -97,6 +99,5 @@ fn write_flank(page: &mut Page, flank: u32) -> Result<(), NoMemory>
     if flank == 0 {
         return Ok(());
     }
-    page.text(b" flank ")?;
-    page.count(flank as usize)
+    write_counted(page, b" flank ", flank as usize)
 }

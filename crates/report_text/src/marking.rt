@@ -1,6 +1,7 @@
 ghost use Rattle.std.specs.Prelude.{◌≡◌, ◌++◌, length, IfOk, OnOk};
 ghost use Rattle.report_text.specs.Marking.{marking_of, mark_line, mark_lines, mark_name};
 
+use crate::counted::write_counted;
 use axis_cells::Mark;
 use cl_moves::{Move, Program};
 use std::alloc::Global;
@@ -19,8 +20,7 @@ pub fn point_text(
     let mut page = Page::new(alloc);
     page.text(b"clverify point 1\n")?;
     write_marks(&mut page, program.moves.as_slice(), marks)?;
-    page.text(b"moves ")?;
-    page.count(program.moves.len())?;
+    write_counted(&mut page, b"moves ", program.moves.len())?;
     page.end_line()?;
     Ok(page.into_vec())
 }
@@ -43,10 +43,8 @@ fn write_mark(
 ) -> Result<(), NoMemory>
     ensures { OnOk result (page.new ≡ page.old ++ mark_line number next.now mark.now) }
 {
-    page.text(b"move ")?;
-    page.count(number)?;
-    page.text(b" line ")?;
-    page.count(next.line as usize)?;
+    write_counted(page, b"move ", number)?;
+    write_counted(page, b" line ", next.line as usize)?;
     page.space()?;
     page.text(name_of_mark(*mark))?;
     page.end_line()

@@ -5,6 +5,7 @@ ghost use Rattle.report_text.specs.Report.{counts_text, found_lines, found_text,
 ghost use Rattle.report_text.specs.Verdict.{text_of_lines};
 
 use crate::answers::write_answers;
+use crate::counted::write_counted;
 use crate::listing::write_head;
 use crate::verdict::{write_total, write_verdict};
 use job_facts::{Counts, Facts, Found};
@@ -48,12 +49,9 @@ fn room_for(facts: &Facts) -> usize {
 fn write_heading(page: &mut Page, moves: u32, left: usize, passed: u32) -> Result<(), NoMemory>
     ensures { OnOk result (page.new ≡ page.old ++ line (heading_text moves left passed)) }
 {
-    page.text(b"moves ")?;
-    page.count(moves as usize)?;
-    page.text(b" left ")?;
-    page.count(left)?;
-    page.text(b" passed ")?;
-    page.count(passed as usize)?;
+    write_counted(page, b"moves ", moves as usize)?;
+    write_counted(page, b" left ", left)?;
+    write_counted(page, b" passed ", passed as usize)?;
     page.end_line()
 }
 
@@ -82,16 +80,19 @@ fn write_found(page: &mut Page, found: &Found) -> Result<(), NoMemory>
 fn write_counts(page: &mut Page, counts: &Counts) -> Result<(), NoMemory>
     ensures { OnOk result (page.new ≡ page.old ++ counts_text counts.now) }
 {
-    page.text(b" removed ")?;
-    page.count(counts.removed as usize)?;
-    page.text(b" possible ")?;
-    page.count(counts.possible as usize)?;
-    page.text(b" part ")?;
-    write_pair(page, counts.part_sure, counts.part_possible)?;
-    page.text(b" fixture ")?;
-    write_pair(page, counts.fix_sure, counts.fix_possible)?;
-    page.text(b" rapid ")?;
-    write_pair(page, counts.rapid_sure, counts.rapid_possible)
+    write_counted(page, b" removed ", counts.removed as usize)?;
+    write_counted(page, b" possible ", counts.possible as usize)?;
+    write_both(page, b" part ", counts.part_sure, counts.part_possible)?;
+    write_both(page, b" fixture ", counts.fix_sure, counts.fix_possible)?;
+    write_both(page, b" rapid ", counts.rapid_sure, counts.rapid_possible)
+}
+
+/// Writes what two counts are of, and the counts.
+fn write_both(page: &mut Page, name: &[u8], sure: u64, possible: u64) -> Result<(), NoMemory>
+    ensures { OnOk result (page.new ≡ page.old ++ (name.now ++ pair_text sure possible)) }
+{
+    page.text(name)?;
+    write_pair(page, sure, possible)
 }
 
 /// Writes two counts: the points that are sure, and those that are possible.
@@ -99,6 +100,5 @@ fn write_pair(page: &mut Page, sure: u64, possible: u64) -> Result<(), NoMemory>
     ensures { OnOk result (page.new ≡ page.old ++ pair_text sure possible) }
 {
     page.count(sure as usize)?;
-    page.space()?;
-    page.count(possible as usize)
+    write_counted(page, b" ", possible as usize)
 }

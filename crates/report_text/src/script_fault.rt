@@ -1,6 +1,7 @@
 ghost use Rattle.std.specs.Prelude.{◌≡◌, ◌++◌, OnOk};
 ghost use Rattle.report_text.specs.ScriptFaults.{depths_text, script_fault_text, script_why_text};
 
+use crate::counted::write_counted;
 use edit_plan::{ScriptFault, ScriptWhy};
 use vf_io::NoMemory;
 use vf_text::Page;
@@ -9,8 +10,7 @@ use vf_text::Page;
 pub(crate) fn write_script_fault(page: &mut Page, fault: &ScriptFault) -> Result<(), NoMemory>
     ensures { OnOk result (page.new ≡ page.old ++ script_fault_text fault.now) }
 {
-    page.text(b"script line ")?;
-    page.count(fault.line as usize)?;
+    write_counted(page, b"script line ", fault.line as usize)?;
     page.text(b": ")?;
     write_why(page, fault.why)
 }
@@ -39,8 +39,6 @@ fn write_why(page: &mut Page, why: ScriptWhy) -> Result<(), NoMemory>
 fn write_depths(page: &mut Page, asked: u32, left: u32) -> Result<(), NoMemory>
     ensures { OnOk result (page.new ≡ page.old ++ depths_text asked left) }
 {
-    page.space()?;
-    page.count(asked as usize)?;
-    page.space()?;
-    page.count(left as usize)
+    write_counted(page, b" ", asked as usize)?;
+    write_counted(page, b" ", left as usize)
 }

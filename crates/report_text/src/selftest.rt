@@ -1,6 +1,7 @@
 ghost use Rattle.std.specs.Prelude.{◌≡◌, IfOk};
 ghost use Rattle.report_text.specs.Selftest.{selftest_of};
 
+use crate::counted::write_counted;
 use crate::verdict::{write_total, write_verdict};
 use job_facts::Totals;
 use std::alloc::Global;
@@ -17,8 +18,7 @@ pub fn selftest_text(
     ensures { IfOk result (λ v. v.items ≡ selftest_of number totals.now clean) }
 {
     let mut page = Page::new(alloc);
-    page.text(b"clverify selftest ")?;
-    page.count(number as usize)?;
+    write_counted(&mut page, b"clverify selftest ", number as usize)?;
     page.end_line()?;
     write_total(&mut page, totals)?;
     write_verdict(&mut page, clean)?;

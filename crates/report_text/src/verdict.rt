@@ -2,6 +2,7 @@ ghost use Rattle.std.specs.Prelude.{◌≡◌, ◌++◌, OnOk};
 ghost use Rattle.vf_text.specs.Pages.{line};
 ghost use Rattle.report_text.specs.Verdict.{points_text, total_text, verdict_text};
 
+use crate::counted::write_counted;
 use job_facts::Totals;
 use vf_io::NoMemory;
 use vf_text::Page;
@@ -10,12 +11,9 @@ use vf_text::Page;
 pub(crate) fn write_points(page: &mut Page, totals: &Totals) -> Result<(), NoMemory>
     ensures { OnOk result (page.new ≡ page.old ++ points_text totals.now) }
 {
-    page.text(b" removed ")?;
-    page.count(totals.removed as usize)?;
-    page.text(b" possible ")?;
-    page.count(totals.possible as usize)?;
-    page.text(b" of ")?;
-    page.count(totals.of as usize)
+    write_counted(page, b" removed ", totals.removed as usize)?;
+    write_counted(page, b" possible ", totals.possible as usize)?;
+    write_counted(page, b" of ", totals.of as usize)
 }
 
 /// Writes the line of the totals.
