@@ -44,3 +44,4 @@ pub mod Sent
 pub mod Unentered
 pub mod StoodBy
 pub mod Multiples
+pub mod TakenOver

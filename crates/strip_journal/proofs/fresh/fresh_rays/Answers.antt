@@ -1,7 +1,9 @@
 -- The count fits, since a strip has few points; and one ray more is fresh.
-use Rattle.std.proofs.Common.{◌≡◌, ◌<◌, ◌∙◌, length, arith, sym, subst}
+use Rattle.std.proofs.Common.{◌≡◌, ◌<◌, ◌∙◌, length, ap, arith, sym, subst}
+use Rattle.ray_grid.specs.Grids.{GridSize}
+use Rattle.ray_grid.specs.Lattice.{IsRay}
 use Rattle.ray_grid.specs.Strips.{strip_at}
-use Rattle.strip_journal.specs.Fresh.{AreFreshRays}
+use Rattle.strip_journal.specs.Fresh.{AreFreshRays, stock_points}
 use Rattle.strip_journal.proofs.FreshRays.{few_more, fresh_more, fresh_on, stock_more}
 use Rattle.strip_journal.proofs.fresh.fresh_rays.Goals as goal
 
@@ -64,3 +66,15 @@ returns-clause-rays g c =
 
 pub returns-clause-stock : goal.returns-clause-stock
 returns-clause-stock g c = c.loop-n.invariant.points
+
+pub loop-n-init : goal.loop-n-init
+loop-n-init g c =
+    let none = c.in_ok-rays.ensures in
+    record {
+      rays = record { many = ap length none; each = λ n lt. absurd (omega (arith, lt)) };
+      points = sym (ap stock_points none);
+    }
+
+pub fresh_ray-requires-clause-ray : goal.fresh_ray-requires-clause-ray
+fresh_ray-requires-clause-ray g c =
+    subst (λ (grid : GridSize). IsRay grid c.strip_ray.result) (sym c.requires.stock_grid) c.strip_ray.ensures.ray

@@ -1,9 +1,13 @@
 -- The room that was made is still there when the edit stands.
-use Rattle.std.proofs.Common.{◌∙◌, ℕ, sym, subst}
+use Rattle.std.proofs.Common.{◌∙◌, ℕ, ◌+◌, ◌^◌, ◌<◌, All, List, length, sym, subst}
+use Rattle.ray_words.specs.Rays.{KeptSets}
+use Rattle.strip_marks.specs.declared.change.WordChange.{WordChange}
+use Rattle.strip_marks.specs.Marks.{IsChangeOn}
 use Rattle.strip_journal.specs.declared.entry.Hits.{Hits}
 use Rattle.strip_journal.specs.Entries.{hits_of}
 use Rattle.strip_journal.specs.Steps.{HasRoom}
 use Rattle.strip_journal.proofs.MovedAt.{on_ok}
+use Rattle.strip_journal.proofs.TakenOver.{fits_still, stands_still, taken_over}
 use Rattle.strip_journal.proofs.Unentered.{idle_applied}
 use Rattle.strip_journal.proofs.journal.Journal.take_over.Goals as goal
 
@@ -29,3 +33,30 @@ returns-then-does_nothing-clause-applied c =
       at = stood.at;
       done = stood.done;
     })) c.stand.ensures.ok
+
+pub stand-requires-2 : goal.stand-requires-2
+stand-requires-2 c = stands_still c.args.self.now c.make_room.new.self c.requires.stands c.make_room.ensures.edits
+
+pub enter-requires-clause-on : goal.enter-requires-clause-on
+enter-requires-clause-on c =
+    subst (λ (rays : List KeptSets). All (IsChangeOn rays) c.args.marked.changes.items)
+    (sym (c.in_ok-stand.ensures.ok.rays ∙ c.in_ok-make_room.ensures.rays)) c.requires.on
+
+pub enter-requires-clause-fits : goal.enter-requires-clause-fits
+enter-requires-clause-fits c =
+    fits_still c.args.self.now c.make_room.new.self c.stand-2.new.self c.args.marked.counts c.requires.fits c.make_room.ensures.edits
+    c.in_ok-stand.ensures.ok
+
+pub enter-requires-clause-some : goal.enter-requires-clause-some
+enter-requires-clause-some c = sym c.does_nothing.ensures ∙ c.if-does_nothing.false
+
+pub returns-clause-applied : goal.returns-clause-applied
+returns-clause-applied c =
+    taken_over c.args.self.now c.make_room.new.self c.stand-2.new.self c.enter.new.self c.args.marked.changes.items c.args.marked.counts
+    (sym c.does_nothing.ensures ∙ c.if-does_nothing.false) c.make_room.ensures.edits c.in_ok-make_room.ensures.rays
+    c.in_ok-stand.ensures.ok c.enter.ensures
+
+pub returns-clause-few : goal.returns-clause-few
+returns-clause-few c =
+    subst (λ (n : ℕ). length c.args.self.now.changes.items + n < 2 ^ 32) (c.len.ensures ∙ c.args.marked.changes.ok.0)
+    (subst (λ (l : List WordChange). length l + c.len.result < 2 ^ 32) c.make_room.ensures.edits.changes c.in_ok-make_room.ensures.room.few)
