@@ -4,3 +4,4 @@ pub mod CountLemmas
 pub mod SoundLemmas
 pub mod VersionLemmas
 pub mod LineLemmas
+pub mod CountedAhead
