@@ -1,11 +1,15 @@
-ghost use Rattle.std.specs.Prelude.{◌≡◌, map, length, IfOk, Some};
+ghost use Rattle.std.specs.Prelude.{◌≡◌, [], map, length, true, IfOk, Some};
 ghost use Rattle.turn_core.specs.World.{AreOfPlan};
-ghost use Rattle.strip_turns.specs.Starts.{AreHome, AreWithin, Starts};
+ghost use Rattle.strip_turns.specs.Cards.{card_of};
+ghost use Rattle.strip_turns.specs.Sound.{word_of};
+ghost use Rattle.strip_turns.specs.Starts.{card_with, AreHome, AreWithin, Starts};
+ghost use Rattle.strip_turns.specs.Views.{fresh};
 
 use crate::board::{Board, Pass};
 use crate::moves::{APART, home_word, word_at};
-use crate::view::Key;
-use atomic_table::Table;
+use crate::rule::Sound;
+use crate::view::{Key, View};
+use atomic_table::{Seat, Table};
 use std::alloc::Global;
 use std::snapshot::Snapshot;
 use strip_journal::Strip;
@@ -18,18 +22,41 @@ impl Board {
         requires { AreOfPlan plan strips.items }
         ensures { IfOk result (λ b. Starts plan strips.items b.0 b.1) }
     {
-        let key = Key {
-            plan: Snapshot::of(&plan),
-            strips: Snapshot::of(&strips),
-        };
         // The edits are few.
         let _edits = plan.edits();
-        let words = home_words(alloc, &plan, &strips)?;
-        let slots = filled_slots(alloc, strips)?;
-        match Table::new(alloc, words.as_slice(), slots, &key) {
-            Ok((table, seat)) => Ok((Board { plan, table }, Pass { seat })),
-            Err(_) => Err(NoMemory),
-        }
+        let (table, seat) = laid_out(alloc, &plan, strips)?;
+        Ok((Board { plan, table }, Pass { seat }))
+    }
+}
+
+/// A table on which each strip is home, and the first seat at it.
+fn laid_out(
+    alloc: Global,
+    plan: &Plan,
+    strips: Vec<Strip>,
+) -> Result<
+    (
+        Table<Option<Strip>, View, Key, Sound, Global>,
+        Seat<Option<Strip>, View>,
+    ),
+    NoMemory,
+>
+    requires { AreOfPlan plan.now strips.items }
+    ensures words { IfOk result (λ t. t.0.shared.table_id.words ≡ word_of t.0.shared.table_id.slots) }
+    ensures slots { IfOk result (λ t. t.0.shared.table_id.slots ≡ length strips.items) }
+    ensures card { IfOk result (λ t. card_of t.0.shared.key ≡ card_with plan.now strips.items) }
+    ensures own { IfOk result (λ t. t.1.table_id ≡ t.0.shared.table_id) }
+    ensures me { IfOk result (λ t. t.1.me ≡ (fresh true 0 (Some (card_with plan.now strips.items)), [])) }
+{
+    let key = Key {
+        plan: Snapshot::of(plan),
+        strips: Snapshot::of(&strips),
+    };
+    let words = home_words(alloc, plan, &strips)?;
+    let slots = filled_slots(alloc, strips)?;
+    match Table::new(alloc, words.as_slice(), slots, &key) {
+        Ok(laid) => Ok(laid),
+        Err(_) => Err(NoMemory),
     }
 }
 
