@@ -14,7 +14,7 @@ sign : (g : ℤ) → (pos 0 ≤ℤ g) ⊎ (g <ℤ pos 0)
 sign (pos n) = inl (omega (arith, ints))
 sign (negsuc n) = inr (omega (arith, ints))
 
-no_more : (a b y : ℤ) → a ≤ℤ b → b ≤ℤ y → a ≤ℤ y
+pub no_more : (a b y : ℤ) → a ≤ℤ b → b ≤ℤ y → a ≤ℤ y
 no_more a b y h k = omega (arith, ints, h, k)
 
 -- where it falls it grows backwards

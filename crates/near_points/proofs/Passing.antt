@@ -5,10 +5,17 @@ use Rattle.near_points.specs.declared.hold.Hold.{Hold}
 use Rattle.near_points.specs.declared.stance.Stance.{Stance}
 use Rattle.near_points.specs.declared.step.Step.{Step}
 use Rattle.near_points.specs.Lines.{height_at, is_held_after, is_narrow_after, side_at, width_at}
-use Rattle.near_points.specs.Trimmed.{IsLeftOut, IsPassed, IsPassedAfter}
+use Rattle.near_points.specs.Trimmed.{IsLeftOut, IsOut, IsPassed, IsPassedAfter}
 use Rattle.near_points.proofs.Growing.{growth_at}
 use Rattle.near_points.proofs.Leaving.{left_on}
 use Rattle.near_points.proofs.Told.{unheld_wide}
+
+-- what leaves out a point with some numbers leaves out one with equal numbers
+pub out_by : (levels : List Level) (y z w height side width : ℤ) → y ≡ height → z ≡ side → w ≡ width → IsOut levels y z w
+    → IsOut levels height side width
+out_by levels y z w height side width ey ez ew h =
+    subst (λ (v : ℤ). IsOut levels height side v) ew
+    (subst (λ (v : ℤ). IsOut levels height v w) ez (subst (λ (v : ℤ). IsOut levels v z w) ey h))
 
 -- what the code finds of a point's numbers is so of the point that has them
 pub passed_by : (hold : Hold) (levels : List Level) (s : Stance) (t : Step) (l y z w : ℤ) → y ≡ height_at s t l → z ≡ side_at s t l

@@ -1,14 +1,17 @@
 -- The moments between two points are too long where the nearest that both allow is.
-use Rattle.std.proofs.Common.{◌≡◌, inl, inr, [], ◌∷◌, Bool, true, false, not, ℕ, ◌≤◌, ℤ, pos, ◌+ℤ◌, ◌-ℤ◌, ◌*ℤ◌, ◌≤ℤ◌, ◌<ℤ◌, arith, refl, sym, ap, ap₂, subst, ◌∙◌}
+use Rattle.std.proofs.Common.{◌≡◌, inl, inr, [], ◌∷◌, Bool, true, false, not, cond, ℕ, ◌≤◌, ℤ, pos, ◌+ℤ◌, ◌-ℤ◌, ◌*ℤ◌, ◌≤ℤ◌, ◌<ℤ◌, int_lt, unsigned_abs, arith, refl, sym, ap, ap₂, subst, ◌∙◌}
+use Rattle.std.specs.Int.{int_max, int_min}
 use Rattle.std.proofs.lemmas.Int.{ints}
+use borrow.Author.Differences.{abs_is}
 use Rattle.space.proofs.Naturals.{square_not_negative}
 use Rattle.space.proofs.Solver.{var, num, add, mul, ring}
 use Rattle.space.proofs.Terms.{sub, square}
 use Rattle.near_points.specs.declared.hold.Hold.{Hold}
 use Rattle.near_points.specs.declared.stance.Stance.{Stance}
 use Rattle.near_points.specs.declared.step.Step.{Step}
+use Rattle.near_points.specs.Limits.{moment_limit}
 use Rattle.near_points.specs.Lines.{IsLeastSize, is_narrow_after, second_at, third_at, width_at}
-use Rattle.near_points.proofs.Between.{at_least_between, at_most_between}
+use Rattle.near_points.proofs.Between.{at_least_between, at_most_between, no_more}
 use Rattle.near_points.proofs.Growing.{product_some}
 use Rattle.near_points.proofs.Told.{above_false}
 
@@ -77,3 +80,82 @@ near_between a p q x y s h some k other l =
 pub not_not : (b : Bool) → not b ≡ false → b ≡ true
 not_not true h = refl
 not_not false h = sym h
+
+-- how far from zero whatever lies between two numbers is at the least
+pub record IsLeastOf (a b r : ℤ) : Type 0 where
+  pub least : IsLeastSize a b r
+  pub most : (q : ℤ) → IsLeastSize a b q → q ≤ℤ r
+  pub small : unsigned_abs r ≤ moment_limit
+
+-- as far as the lower one where both are positive
+most_above : (low high q : ℤ) → pos 0 <ℤ low → IsLeastSize low high q → q ≤ℤ low
+most_above low high q some (from, inl none) = omega (arith, ints, some, none)
+most_above low high q some (from, inr (inl above)) = above.0
+most_above low high q some (from, inr (inr below)) = let under = below.0 in absurd (omega (arith, ints, some, from, under))
+
+pub least_above : (low high : ℤ) → low ≤ℤ high → pos 0 <ℤ low → unsigned_abs low ≤ moment_limit → IsLeastOf low high low
+least_above low high order some small = record {
+  least = (omega (arith, ints, some), inr (inl (omega (arith, ints), order)));
+  most = λ q h. most_above low high q some h;
+  small = small;
+}
+
+-- as far as the higher one where both are negative
+most_below : (low high q : ℤ) → high <ℤ pos 0 → IsLeastSize low high q → q ≤ℤ (pos 0 -ℤ high)
+most_below low high q none (from, inl zero) = omega (arith, ints, none, zero)
+most_below low high q none (from, inr (inl above)) = let over = above.1 in absurd (omega (arith, ints, none, from, over))
+most_below low high q none (from, inr (inr below)) = let under = below.1 in omega (arith, ints, under)
+
+pub least_below : (low high : ℤ) → low ≤ℤ high → high <ℤ pos 0 → unsigned_abs high ≤ moment_limit → IsLeastOf low high (pos 0 -ℤ high)
+least_below low high order none small = record {
+  least = (omega (arith, ints, none), inr (inr (omega (arith, ints, order), omega (arith, ints))));
+  most = λ q h. most_below low high q none h;
+  small = omega (arith, ints, abs_is high, abs_is (pos 0 -ℤ high), small);
+}
+
+-- and else not at all
+most_about : (low high q : ℤ) → low ≤ℤ pos 0 → pos 0 ≤ℤ high → IsLeastSize low high q → q ≤ℤ pos 0
+most_about low high q under over (from, inl zero) = omega (arith, ints, zero)
+most_about low high q under over (from, inr (inl above)) = let least = above.0 in omega (arith, ints, least, under)
+most_about low high q under over (from, inr (inr below)) = let least = below.1 in omega (arith, ints, least, over)
+
+pub least_about : (low high : ℤ) → low ≤ℤ pos 0 → pos 0 ≤ℤ high → IsLeastOf low high (pos 0)
+least_about low high under over = record {
+  least = (omega (arith, ints), inl refl);
+  most = λ q h. most_about low high q under over h;
+  small = omega arith;
+}
+
+-- the lower and the higher of two numbers
+pub record AreEnds (a b low high : ℤ) : Type 0 where
+  pub order : low ≤ℤ high
+  pub low_small : unsigned_abs low ≤ moment_limit
+  pub high_small : unsigned_abs high ≤ moment_limit
+  pub least : (r : ℤ) → IsLeastOf low high r → IsLeastOf a b r
+
+swapped : (a b r : ℤ) → IsLeastSize a b r → IsLeastSize b a r
+swapped a b r (from, inl none) = (from, inl none)
+swapped a b r (from, inr (inl above)) = (from, inr (inl (above.1, above.0)))
+swapped a b r (from, inr (inr below)) = (from, inr (inr (below.1, below.0)))
+
+ends_by : (t : Bool) (a b low high : ℤ) → unsigned_abs a ≤ moment_limit → unsigned_abs b ≤ moment_limit → low ≡ cond t b a → high ≡ cond t a b
+    → low ≤ℤ high → AreEnds a b low high
+ends_by true a b low high ha hb el eh order = record {
+  order = order;
+  low_small = subst (λ (z : ℤ). unsigned_abs z ≤ moment_limit) (sym el) hb;
+  high_small = subst (λ (z : ℤ). unsigned_abs z ≤ moment_limit) (sym eh) ha;
+  least = λ r is.
+      let of = subst (λ (z : ℤ). IsLeastOf b z r) eh (subst (λ (z : ℤ). IsLeastOf z high r) el is) in
+      record { least = swapped b a r of.least; most = λ q h. of.most q (swapped a b q h); small = of.small };
+}
+ends_by false a b low high ha hb el eh order = record {
+  order = order;
+  low_small = subst (λ (z : ℤ). unsigned_abs z ≤ moment_limit) (sym el) ha;
+  high_small = subst (λ (z : ℤ). unsigned_abs z ≤ moment_limit) (sym eh) hb;
+  least = λ r is. subst (λ (z : ℤ). IsLeastOf a z r) eh (subst (λ (z : ℤ). IsLeastOf z high r) el is);
+}
+
+pub ends : (a b x y low high : ℤ) → unsigned_abs a ≤ moment_limit → unsigned_abs b ≤ moment_limit → x ≡ a → y ≡ b → low ≡ int_min x y
+    → high ≡ int_max x y → low ≤ℤ x → x ≤ℤ high → AreEnds a b low high
+ends a b x y low high ha hb ex ey el eh under over =
+    ends_by (int_lt b a) a b low high ha hb (el ∙ ap₂ int_min ex ey) (eh ∙ ap₂ int_max ex ey) (no_more low x high under over)

@@ -1,7 +1,20 @@
-ghost use Rattle.std.specs.Prelude.{◌≡◌, ◌<ℤ◌, not, Contains, IfSome, IsTrue};
+ghost use Rattle.std.specs.Prelude.{◌≡◌, ◌<◌, ◌≤◌, ◌<ℤ◌, not, Contains, IfSome, IsTrue};
 ghost use Rattle.near_points.specs.Trimmed.{IsOut, is_within};
 
 use sweep_boxes::{LEVELS, Level};
+
+/// How many levels to pass over from a place on: so many where the one there isn't above a height, and else none.
+#[inline]
+fn passed_over(levels: &[Level; LEVELS], place: usize, height: i64, many: usize) -> usize
+    requires { place < 8 }
+    ensures { result ≤ many }
+{
+    if levels[place].height <= height {
+        many
+    } else {
+        0
+    }
+}
 
 /// The lowest level above a height, where they are in order and the last one is above it. It is found by halving, in three steps that a
 /// processor need not guess.
@@ -9,17 +22,9 @@ use sweep_boxes::{LEVELS, Level};
 fn level_above(levels: &[Level; LEVELS], height: i64) -> Option<&Level>
     ensures { IfSome result (λ level. Contains levels.now level.now × (height <ℤ level.now.height)) }
 {
-    let half = if levels[3].height <= height { 4 } else { 0 };
-    let quarter = if levels[half + 1].height <= height {
-        2
-    } else {
-        0
-    };
-    let rest = if levels[half + quarter].height <= height {
-        1
-    } else {
-        0
-    };
+    let half = passed_over(levels, 3, height, 4);
+    let quarter = passed_over(levels, half + 1, height, 2);
+    let rest = passed_over(levels, half + quarter, height, 1);
     let level = &levels[half + quarter + rest];
     if height < level.height {
         Some(level)

@@ -15,7 +15,8 @@ fn least_size(a: i64, b: i64) -> i64
     ensures most { (r : ℤ) → IsLeastSize a b r → r ≤ℤ result }
     ensures small { unsigned_abs result ≤ moment_limit }
 {
-    let (low, high) = if a < b { (a, b) } else { (b, a) };
+    let low = a.min(b);
+    let high = a.max(b);
     if 0 < low {
         low
     } else if high < 0 {

@@ -15,6 +15,17 @@ tilted-side-requires c =
     let l = c.args.l in let fits = c.requires.fits l (omega arith) c.requires.order in
     (step_moves c.args.first.now c.args.step.now (pos l) fits).side.passed
 
+pub loop-at-init : goal.loop-at-init
+loop-at-init c =
+    let l = c.args.l in let fits = c.requires.fits l (omega arith) c.requires.order in
+    let moves = step_moves c.args.first.now c.args.step.now (pos l) fits in record {
+      from = omega arith;
+      to = let order = c.requires.order in omega (arith, order);
+      height_is = moves.height.value c.moved-height.result c.moved-height.ensures;
+      side_is = moves.side.value c.tilted-side.result c.tilted-side.ensures;
+      ahead = λ x from to. absurd (omega (arith, from, to));
+    }
+
 pub overflow_add-height : goal.overflow_add-height
 overflow_add-height c =
     let at = c.loop-at.at in let inv = c.loop-at.invariant in
@@ -38,3 +49,9 @@ loop-at-preserved c =
       side_is = (side_on first t _ at fits inv.side_is).value;
       ahead = one_ahead (λ (x : ℕ). is_amid_after hold first t (pos x)) c.args.l at inv.ahead here;
     }
+
+pub returns-then-has_place-clause-there : goal.returns-then-has_place-clause-there
+returns-then-has_place-clause-there c = λ within.
+    let inv = c.loop-at.invariant in
+    sym (amid_by c.args.hold.now c.args.first.now c.args.step.now (pos c.loop-at.at) _ _ c.has_place.result c.has_place.ensures inv.height_is inv.side_is)
+    ∙ c.if-has_place.true

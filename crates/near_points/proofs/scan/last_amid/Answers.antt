@@ -15,6 +15,17 @@ tilted-side-requires c =
     let m = c.args.m in let fits = c.requires.fits m c.requires.order (omega arith) in
     (step_moves c.args.first.now c.args.step.now (pos m) fits).side.passed
 
+pub loop-at-init : goal.loop-at-init
+loop-at-init c =
+    let m = c.args.m in let fits = c.requires.fits m c.requires.order (omega arith) in
+    let moves = step_moves c.args.first.now c.args.step.now (pos m) fits in record {
+      from = c.requires.order;
+      to = omega arith;
+      height_is = moves.height.value c.moved-height.result c.moved-height.ensures;
+      side_is = moves.side.value c.tilted-side.result c.tilted-side.ensures;
+      behind = λ x from to. absurd (omega (arith, from, to));
+    }
+
 pub overflow_sub-height : goal.overflow_sub-height
 overflow_sub-height c =
     let at = c.loop-at.at in let inv = c.loop-at.invariant in let some : 0 < at = omega (arith, c.loop-at-test.true) in
@@ -44,3 +55,9 @@ pub returns-clause-there : goal.returns-clause-there
 returns-clause-there c =
     let e : c.args.l ≡ c.loop-at.at = omega (arith, c.loop-at.invariant.from, c.loop-at-test.false) in
     subst (λ (x : ℕ). is_amid_after c.args.hold.now c.args.first.now c.args.step.now (pos x) ≡ true) e c.requires.amid
+
+pub returns-then-has_place-clause-there : goal.returns-then-has_place-clause-there
+returns-then-has_place-clause-there c =
+    let inv = c.loop-at.invariant in
+    sym (amid_by c.args.hold.now c.args.first.now c.args.step.now (pos c.loop-at.at) _ _ c.has_place.result c.has_place.ensures inv.height_is inv.side_is)
+    ∙ c.if-has_place.true

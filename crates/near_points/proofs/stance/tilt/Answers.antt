@@ -4,12 +4,21 @@ use mir.Syntax.{w64}
 use Rattle.space.specs.Vectors.{at}
 use Rattle.sweep_boxes.specs.Limits.{aim_limit, side_limit}
 use Rattle.near_points.specs.Limits.{tilt_limit}
-use Rattle.near_points.proofs.Bits.{as_bits, pair_sum, small_fits, sum_fits, triple_fits, triple_sum}
+use Rattle.near_points.proofs.Bits.{as_bits, pair_sum, small_fits, small_passed, sum_fits, triple_fits, triple_sum}
 use Rattle.near_points.proofs.Growing.{three_by, three_small}
 use Rattle.near_points.proofs.stance.tilt.Goals as goal
 
 share_is : (d r p m : ℤ) → unsigned_abs r ≤ 2 * (side_limit * side_limit) → p ≡ d *ℤ to_z w64 (of_z w64 r) → r ≡ m → p ≡ d *ℤ m
 share_is d r p m h e f = e ∙ ap (λ w. d *ℤ w) (to_z-of_z w64 r (small_fits (2 * (side_limit * side_limit)) r (omega arith) h) ∙ f)
+
+pub share-along-requires-clause-part : goal.share-along-requires-clause-part
+share-along-requires-clause-part c = small_passed (2 * (side_limit * side_limit)) c.minor.result (omega arith) c.minor.ensures.small
+
+pub share-second-requires-clause-part : goal.share-second-requires-clause-part
+share-second-requires-clause-part c = small_passed (2 * (side_limit * side_limit)) c.minor-2.result (omega arith) c.minor-2.ensures.small
+
+pub share-third-requires-clause-part : goal.share-third-requires-clause-part
+share-third-requires-clause-part c = small_passed (2 * (side_limit * side_limit)) c.minor-3.result (omega arith) c.minor-3.ensures.small
 
 pub overflow_add-result : goal.overflow_add-result
 overflow_add-result c =

@@ -1,12 +1,18 @@
-use Rattle.std.proofs.Common.{◌<◌, ◌+◌, ◌<ℤ◌, length, get_or, rules}
+use Rattle.std.proofs.Common.{ℕ, ◌≡◌, ◌<◌, ◌≤◌, ◌+◌, ◌<ℤ◌, length, get_or, arith, rules}
 use Rattle.std.proofs.lemmas.List.Elements.{Contains-get_or}
 use Rattle.sweep_boxes.specs.declared.level.Level.{Level}
 use Rattle.near_points.proofs.trim.level_above.Goals as goal
 
+-- the steps stay among eight levels
+within_eight : (n half quarter rest : ℕ) → n ≡ 8 → half ≤ 4 → quarter ≤ 2 → rest ≤ 1 → (half + quarter) + rest < n
+within_eight n half quarter rest e a b c = omega arith
+
 pub returns-then-height-level : goal.returns-then-height-level
 returns-then-height-level c =
-    let levels = c.args.levels.now in let place = c.if-levels-height.half + c.if-levels-half.quarter + c.if-levels-half-2.rest in
-    let within : place < length levels = search rules in
-    let level : Level = get_or levels place c.index-levels-half-3.result in
-    let above : c.args.height <ℤ level.height = search rules in
-    (Contains-get_or levels place c.index-levels-half-3.result within, above)
+    let levels = c.args.levels.now in let half = c.passed_over-half in let quarter = c.passed_over-quarter in let rest = c.passed_over-rest in
+    let level : Level = get_or levels ((half.result + quarter.result) + rest.result) c.index-levels-half.result in
+    let above : c.args.height <ℤ level.height = search rules in (
+      Contains-get_or levels _ c.index-levels-half.result
+          (within_eight (length levels) half.result quarter.result rest.result c.told-levels half.ensures quarter.ensures rest.ensures),
+      above,
+    )

@@ -1,4 +1,4 @@
-use Rattle.std.proofs.Common.{◌≤◌, ◌<◌, ◌+ℤ◌, ◌≤ℤ◌, ◌<ℤ◌, ℕ, ℤ, pos, arith, ⊎_elim, subst, ap, ◌∙◌}
+use Rattle.std.proofs.Common.{◌≡◌, ◌≤◌, ◌<◌, ◌+ℤ◌, ◌≤ℤ◌, ◌<ℤ◌, ℕ, ℤ, pos, true, int_le, arith, ⊎_elim, subst, ap, ◌∙◌}
 use Rattle.std.proofs.lemmas.Bool.{cases_lt}
 use Rattle.near_points.specs.Trimmed.{IsPassedAfter}
 use Rattle.near_points.proofs.Bits.{moment_bits, tilt_bits}
@@ -52,6 +52,13 @@ pub overflow_add-growth-in-loop-at : goal.overflow_add-growth-in-loop-at
 overflow_add-growth-in-loop-at c =
     let at = c.loop-at.at in let inv = c.loop-at.invariant in let fits = c.requires.fits at inv.from c.loop-at-test.true in
     (growth_on c.args.first.now c.args.step.now _ at fits inv.growth_is).fits
+
+pub returns-then-not-is_passed-clause-there : goal.returns-then-not-is_passed-clause-there
+returns-then-not-is_passed-clause-there c = λ within.
+    subst (λ (w : ℤ). int_le w c.args.hold.now.square ≡ true) c.loop-at.invariant.width_is (c.is_passed.ensures.kept c.if-not-is_passed.true)
+
+pub returns-clause-there : goal.returns-clause-there
+returns-clause-there c = λ within. let after = c.loop-at-test.false in absurd (omega (arith, within, after))
 
 pub returns-then-not-is_passed-clause-ahead : goal.returns-then-not-is_passed-clause-ahead
 returns-then-not-is_passed-clause-ahead c = λ x from to less. c.loop-at.invariant.ahead x from less

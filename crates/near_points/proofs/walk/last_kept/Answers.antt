@@ -1,4 +1,4 @@
-use Rattle.std.proofs.Common.{◌≡◌, ◌<◌, ◌-ℤ◌, ℕ, pos, true, arith, subst, ap, ◌∙◌}
+use Rattle.std.proofs.Common.{◌≡◌, ◌<◌, ◌-ℤ◌, ℕ, ℤ, pos, true, int_le, arith, subst, ap, ◌∙◌}
 use Rattle.near_points.specs.Lines.{is_narrow_after}
 use Rattle.near_points.specs.Trimmed.{IsPassedAfter}
 use Rattle.near_points.proofs.Bits.{moment_bits, tilt_bits}
@@ -49,6 +49,19 @@ pub overflow_sub-side : goal.overflow_sub-side
 overflow_sub-side c =
     let at = c.loop-at.at in let inv = c.loop-at.invariant in let some : 0 < at = omega (arith, c.loop-at-test.true) in
     (side_back c.args.first.now c.args.step.now _ at (c.requires.fits at inv.from inv.to) inv.side_is some).fits
+
+pub after-to-requires : goal.after-to-requires
+after-to-requires c = c.requires.fits c.args.m c.requires.order (omega arith)
+
+pub returns-then-not-is_passed-clause-behind : goal.returns-then-not-is_passed-clause-behind
+returns-then-not-is_passed-clause-behind c = c.loop-at.invariant.behind
+
+pub returns-then-not-is_passed-clause-there : goal.returns-then-not-is_passed-clause-there
+returns-then-not-is_passed-clause-there c =
+    subst (λ (w : ℤ). int_le w c.args.hold.now.square ≡ true) c.loop-at.invariant.width_is (c.is_passed.ensures.kept c.if-not-is_passed.true)
+
+pub returns-clause-behind : goal.returns-clause-behind
+returns-clause-behind c = c.loop-at.invariant.behind
 
 pub returns-clause-there : goal.returns-clause-there
 returns-clause-there c =

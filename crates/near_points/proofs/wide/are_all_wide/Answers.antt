@@ -1,10 +1,32 @@
-use Rattle.std.proofs.Common.{ℤ, ◌<ℤ◌, ◌≤ℤ◌, sym, subst, ◌∙◌}
+use Rattle.std.proofs.Common.{ℤ, ◌<ℤ◌, ◌≤ℤ◌, arith, sym, subst, ◌∙◌}
 use Rattle.space.proofs.Tests.{decides_le}
-use Rattle.near_points.proofs.Bits.{moment_bits}
+use Rattle.near_points.proofs.Bits.{moment_bits, moment_passed}
 use Rattle.near_points.proofs.Curving.{width_kept}
 use Rattle.near_points.proofs.Told.{below_if_not}
 use Rattle.near_points.proofs.Widened.{least_by, near_between, not_not, not_so, squares_by, wide_between}
 use Rattle.near_points.proofs.wide.are_all_wide.Goals as goal
+
+pub least_size-requires-clause-a : goal.least_size-requires-clause-a
+least_size-requires-clause-a c = let low = c.after-low.result in moment_passed low.second low.second_small
+
+pub least_size-requires-clause-b : goal.least_size-requires-clause-b
+least_size-requires-clause-b c = let high = c.after-high.result in moment_passed high.second high.second_small
+
+pub least_size-requires-2-clause-a : goal.least_size-requires-2-clause-a
+least_size-requires-2-clause-a c = let low = c.after-low.result in moment_passed low.third low.third_small
+
+pub least_size-requires-2-clause-b : goal.least_size-requires-2-clause-b
+least_size-requires-2-clause-b c = let high = c.after-high.result in moment_passed high.third high.third_small
+
+pub invariant_of-nearest : goal.invariant_of-nearest
+invariant_of-nearest c =
+    let first = c.args.first.now in record {
+      along_small = moment_passed first.along first.along_small;
+      second_small = moment_passed c.least_size.result c.least_size.ensures.small;
+      third_small = moment_passed c.least_size-2.result c.least_size-2.ensures.small;
+      side_small = omega arith;
+      height_small = omega arith;
+    }
 
 pub returns-clause-wide : goal.returns-clause-wide
 returns-clause-wide c = λ yes x from to.
