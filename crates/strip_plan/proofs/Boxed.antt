@@ -60,12 +60,12 @@ of_none grid slabs depth moves = record {
   each = λ n move d ray x l at is. absurd (omega (arith, l));
 }
 
-pub no_boxes : (grid : GridSize) (slabs depth : ℕ) (moves : List JobMove) (hulls boxes : List IndexBox) (before starts : List ℕ) → hulls ≡ [] → boxes ≡ [] → before ≡ []
-    → starts ≡ before ++ 0 ∷ [] → HasBoxes grid slabs depth moves hulls boxes starts 0
-no_boxes grid slabs depth moves hulls boxes before starts no_hulls none empty first =
+pub no_boxes : (grid : GridSize) (slabs depth : ℕ) (moves : List JobMove) (hulls boxes : List IndexBox) (starts : List ℕ) → hulls ≡ [] → boxes ≡ []
+    → starts ≡ 0 ∷ [] → HasBoxes grid slabs depth moves hulls boxes starts 0
+no_boxes grid slabs depth moves hulls boxes starts no_hulls none first =
     subst (λ (xs : List IndexBox). HasBoxes grid slabs depth moves xs boxes starts 0) (sym no_hulls)
     (subst (λ (xs : List IndexBox). HasBoxes grid slabs depth moves [] xs starts 0) (sym none)
-    (subst (λ (xs : List ℕ). HasBoxes grid slabs depth moves [] [] xs 0) (sym (first ∙ ap (λ (xs : List ℕ). xs ++ 0 ∷ []) empty)) (of_none grid slabs depth moves)))
+    (subst (λ (xs : List ℕ). HasBoxes grid slabs depth moves [] [] xs 0) (sym first) (of_none grid slabs depth moves)))
 
 -- one box more
 one_box : (grid : GridSize) (boxes : List IndexBox) (box : IndexBox) → AreBoxesOf grid boxes → IsBoxOf grid box → AreBoxesOf grid (boxes ++ box ∷ [])

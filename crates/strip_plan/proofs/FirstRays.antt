@@ -1,10 +1,11 @@
 -- Boxes by their indices: what the first ray along each axis tells of all rays along it.
-use Rattle.std.proofs.Common.{◌≡◌, ◌∙◌, ℕ, ◌+◌, ◌*◌, ◌/◌, ◌%◌, ◌<◌, ◌≤◌, [], ◌∷◌, ⊎_elim, ℤ, pos, ◌+ℤ◌, min, unsigned_abs, arith, ap, subst, sym}
+use Rattle.std.proofs.Common.{◌≡◌, ◌∙◌, ℕ, ◌+◌, ◌*◌, ◌/◌, ◌%◌, ◌<◌, ◌≤◌, [], ◌∷◌, ⊎_elim, ℤ, pos, ◌+ℤ◌, ◌≤ℤ◌, FitsSigned, to_z, of_z, min, unsigned_abs, arith, ap, subst, sym, w32}
 use Rattle.std.proofs.lemmas.Bool.{cases_lt}
 use Rattle.std.proofs.lemmas.Grind.{div_ceil_times}
-use Rattle.std.proofs.lemmas.Int.{ints}
+use Rattle.std.specs.Int.{div_ceil}
+use Rattle.std.proofs.lemmas.Int.{ints, to_z-of_z}
 use Rattle.std.proofs.Math.Nat.{mul-le-mul_right}
-use Rattle.space.specs.Ranges.{IsBetween}
+use Rattle.space.specs.Ranges.{IsBetween, metre}
 use Rattle.space.specs.Vectors.{at}
 use Rattle.ray_grid.specs.Families.{first_axis, second_axis}
 use Rattle.ray_grid.specs.Grids.{GridSize}
@@ -17,6 +18,7 @@ use Rattle.sweep_boxes.specs.declared.point_box.PointBox.{PointBox}
 use Rattle.sweep_boxes.specs.Pieces.{IsAmong}
 use Rattle.strip_plan.specs.declared.index_box.IndexBox.{IndexBox}
 use Rattle.strip_plan.specs.IndexBoxes.{AreOnAxis, HasPoint, IsBoxOf, IsIndexed}
+use Rattle.strip_plan.specs.Ranges.{IsRangeOf}
 
 -- fewer times as many are fewer
 fewer : (a b k : ℕ) → a * k < b * k → a < b
@@ -34,6 +36,34 @@ pub not_reached : (b k n : ℕ) → 1 ≤ k → n * k < b → n < (b / k + min 1
 not_reached b k n some lt =
     let near = div_ceil_times b k (omega arith) in
     fewer n (b / k + min 1 (b % k)) k (omega (arith, near.0))
+
+-- a range of nodes by one of points
+pub rounded_range : (a b k count m n : ℕ) → 1 ≤ k → m ≡ div_ceil a k → n ≡ div_ceil b k → IsRangeOf (count * k) (a, b) → IsRangeOf count (m, n)
+rounded_range a b k count m n some first last is =
+    let near = div_ceil_times b k (omega arith) in let ordered = is.order in
+    let order = rounded_up a k (b / k + min 1 (b % k)) some (omega (arith, ordered, near.0)) in
+    let within = rounded_up b k count some is.within in
+    record { order = omega (arith, first, last, order); within = omega (arith, last, within) }
+
+-- the sizes of a grid, read from their bits
+size_read : (z : ℤ) (n : ℕ) → pos 1 ≤ℤ z → z ≤ℤ pos metre → n ≡ unsigned_abs (to_z w32 (of_z w32 z)) → n ≡ unsigned_abs z
+size_read z n from to read = let fits : FitsSigned w32 z = omega (arith, ints, from, to) in read ∙ ap unsigned_abs (to_z-of_z w32 z fits)
+
+pub sizes_read : (h g : GridSize) (m n : ℕ) → h ≡ g → IsGrid h → m ≡ unsigned_abs (to_z w32 (of_z w32 h.pitch))
+    → n ≡ unsigned_abs (to_z w32 (of_z w32 h.step)) → (m ≡ unsigned_abs g.pitch) × (n ≡ unsigned_abs g.step)
+sizes_read h g m n same is pitch step =
+    let one = is.pitch_in.from_least in let far = is.pitch_in.to_most in let least = is.step_in.from_least in let most = is.step_in.to_most in (
+      size_read h.pitch m one far pitch ∙ ap (λ (k : GridSize). unsigned_abs k.pitch) same,
+      size_read h.step n least (omega (arith, ints, most, far)) step ∙ ap (λ (k : GridSize). unsigned_abs k.step) same,
+    )
+
+pub some_step : (g : GridSize) → IsGrid g → 0 < unsigned_abs g.step
+some_step g is = let a = is.step_in.from_least in omega (arith, ints, a)
+
+pub some_points_per_node : (g : GridSize) → IsGrid g → 1 ≤ per_node g
+some_points_per_node g is =
+    let one = is.pitch_in.from_least in let a = is.step_in.from_least in let b = is.step_in.to_most in
+    (some_per_node (unsigned_abs g.pitch) (unsigned_abs g.step) (omega (arith, ints, a)) (omega (arith, ints, one, a, b)) is.divides).0
 
 -- a node is the point of a ray with as many points as there are for each node before it
 pub node_is : (g : GridSize) (axis n : ℕ) → IsGrid g → node_at g axis n ≡ place_at g axis (n * per_node g)

@@ -85,3 +85,14 @@ group_off hulls edits groups n o group family i are low is none k d ge lt =
     let here = subst (λ (x : Option IndexBox). IfSome x (λ group. AllWithin (IsAppliedIn hulls group) edits (8 * n) (8 * n + 8)))
     (get_or_default groups n None o low ∙ is) (are n low) in
     held_off hulls group family i (get_or edits k d) none (here k d ge lt)
+
+-- one edit more that leaves a strip alone
+pub one_alone : (hulls : List IndexBox) (edits : List Edit) (family : Family) (i from at : ℕ) (e : Edit) → AllWithin (AppliesNone hulls family i) edits from at
+    → at < length edits → AppliesNone hulls family i (get_or edits at e) → AllWithin (AppliesNone hulls family i) edits from (at + 1)
+one_alone hulls edits family i from at e before within is k d ge lt =
+    ⊎_elim (λ less. before k d ge less)
+    (λ most.
+    let place : k ≡ at = omega (arith, lt, most) in
+    let there : get_or edits k d ≡ get_or edits at e = ap (λ j. get_or edits j d) place ∙ get_or_default edits at d e within in
+    subst (AppliesNone hulls family i) (sym there) is)
+    (cases_lt k at)

@@ -1,4 +1,4 @@
-ghost use Rattle.std.specs.Prelude.{◌≡◌, ◌<◌, ◌≤◌, ℕ, IfOk, OnOk, length};
+ghost use Rattle.std.specs.Prelude.{◌≡◌, ◌<◌, ◌≤◌, ℕ, [], ◌∷◌, IfOk, OnOk, length};
 ghost use Rattle.space.specs.Ranges.{IsWithin};
 ghost use Rattle.ray_grid.specs.declared.ray.Ray.{Ray};
 ghost use Rattle.ray_grid.specs.Grids.{GridSize};
@@ -86,6 +86,22 @@ fn push_several(
     Ok(hull)
 }
 
+/// The boxes of no moves, with room for those of so many. Fails only for want of memory.
+fn no_boxes(alloc: Global, many: usize) -> Result<Boxes, NoMemory>
+    ensures hulls { IfOk result (λ made. made.hulls.items ≡ []) }
+    ensures boxes { IfOk result (λ made. made.boxes.items ≡ []) }
+    ensures starts { IfOk result (λ made. made.starts.items ≡ 0 ∷ []) }
+{
+    let hulls = Vec::with_capacity(alloc, many)?;
+    let mut starts = Vec::new(alloc);
+    starts.push(0)?;
+    Ok(Boxes {
+        hulls,
+        boxes: Vec::new(alloc),
+        starts,
+    })
+}
+
 /// The boxes of moves. Fails only for want of memory.
 pub(crate) fn boxes_of(
     alloc: Global,
@@ -100,20 +116,14 @@ pub(crate) fn boxes_of(
         made.starts.items (length moves.now)) }
 {
     let region = bounds(grid);
-    let mut hulls = Vec::with_capacity(alloc, moves.len())?;
-    let mut boxes = Vec::new(alloc);
-    let mut starts = Vec::new(alloc);
-    starts.push(0)?;
+    let mut made = no_boxes(alloc, moves.len())?;
     for n in 0..moves.len() {
         let next = &moves[n];
         let place = cutters.places[n];
         let held = boxes_in(alloc, &next.sweep, &cutters.stacks[place], depth, &region)?;
-        hulls.push(push_several(&mut boxes, grid, &held)?)?;
-        starts.push(boxes.len())?;
+        let hull = push_several(&mut made.boxes, grid, &held)?;
+        made.hulls.push(hull)?;
+        made.starts.push(made.boxes.len())?;
     }
-    Ok(Boxes {
-        hulls,
-        boxes,
-        starts,
-    })
+    Ok(made)
 }

@@ -10,8 +10,9 @@ use Rattle.strip_plan.proofs.boxes.boxes_of.Goals as goal
 
 pub loop-n-init : goal.loop-n-init
 loop-n-init c =
-    no_boxes c.args.grid.now c.args.cutters.now.slabs c.args.depth c.args.moves.now c.in_ok-hulls.hulls.items c.new-boxes.result.items c.new-starts.result.items c.push.new.self.items
-    c.in_ok-hulls.ensures.items c.new-boxes.ensures.items c.new-starts.ensures.items c.in_ok-push.ensures.items
+    let made = c.in_ok-made.made in
+    no_boxes c.args.grid.now c.args.cutters.now.slabs c.args.depth c.args.moves.now made.hulls.items made.boxes.items made.starts.items
+    c.in_ok-made.ensures.hulls c.in_ok-made.ensures.boxes c.in_ok-made.ensures.starts
 
 pub loop-n-preserved : goal.loop-n-preserved
 loop-n-preserved c =
@@ -19,7 +20,7 @@ loop-n-preserved c =
     let moves = c.args.moves.now in
     let next = c.index-moves-n.result in
     let slabs = c.args.cutters.now.slabs in
-    let old = c.loop-n.boxes.items in
+    let old = c.loop-n.made.boxes.items in
     let new = c.push_several.new.boxes.items in
     let region = c.bounds-region.result in
     let held = c.deref.result.now in
@@ -30,14 +31,14 @@ loop-n-preserved c =
     let by_list = subst (λ (xs : List PointBox). Covers xs region c.index.result.now c.next.inside.sweep c.args.depth) (sym c.deref.ensures.value) c.in_ok-held.ensures in
     let by_stacks = subst (λ (s : StacksOf). Covers held region s c.next.inside.sweep c.args.depth) own by_list in
     let covers = subst (λ (m : Motion). Covers held region (record { cutter = next.cutter; slabs = slabs }) m c.args.depth) (ap (λ (m : JobMove). m.motion) c.next.view_is) by_stacks in
-    let more = more_boxes grid slabs c.args.depth moves c.loop-n.hulls.items old new c.loop-n.starts.items c.loop-n.n next region held c.in_ok-push_several.field-0 c.len.result c.loop-n.invariant
-    ends c.index-moves-n.is c.bounds-region.ensures.holds covers c.in_ok-push_several.ensures in
-    rw (c.in_ok-push-2.ensures.items, c.in_ok-push-3.ensures.items) more
+    let more = more_boxes grid slabs c.args.depth moves c.loop-n.made.hulls.items old new c.loop-n.made.starts.items c.loop-n.n next region held c.in_ok-hull.hull c.len.result c.loop-n.invariant
+    ends c.index-moves-n.is c.bounds-region.ensures.holds covers c.in_ok-hull.ensures in
+    rw (c.in_ok-push.ensures.items, c.in_ok-push-2.ensures.items) more
 
 pub returns : goal.returns
 returns c =
     let all : c.loop-n.n ≡ length c.args.moves.now = search rules in
-    subst (HasBoxes c.args.grid.now c.args.cutters.now.slabs c.args.depth c.args.moves.now c.loop-n.hulls.items c.loop-n.boxes.items c.loop-n.starts.items) all c.loop-n.invariant
+    subst (HasBoxes c.args.grid.now c.args.cutters.now.slabs c.args.depth c.args.moves.now c.loop-n.made.hulls.items c.loop-n.made.boxes.items c.loop-n.made.starts.items) all c.loop-n.invariant
 
 pub index-requires : goal.index-requires
 index-requires c =

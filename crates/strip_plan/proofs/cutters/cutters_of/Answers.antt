@@ -1,4 +1,4 @@
-use Rattle.std.proofs.Common.{List, ℕ, ◌+◌, ◌<◌, ◌≤◌, All, arith, length, rules, subst, sym}
+use Rattle.std.proofs.Common.{◌≡◌, List, ℕ, ◌+◌, ◌<◌, ◌≤◌, All, arith, length, rules, subst, sym}
 use Rattle.std.proofs.lemmas.List.{take_all}
 use Rattle.std.proofs.lemmas.List.Elements.{All-more}
 use Rattle.job_model.specs.Tasks.{IsJobMove, JobMove}
@@ -33,3 +33,12 @@ returns-clause-valid c =
     let moves = c.args.moves.now in
     let all : length moves ≤ c.loop-next.next-index = search rules in
     subst (All IsJobMove) (take_all c.loop-next.next-index moves all) c.loop-next.invariant.2
+
+pub returns-clause-stacks : goal.returns-clause-stacks
+returns-clause-stacks c =
+    let moves = c.args.moves.now in
+    let all : c.loop-next.next-index ≡ length moves = search rules in
+    subst (HasStacks c.args.slabs moves c.loop-next.stacks.items c.loop-next.places.items) all c.loop-next.invariant.1
+
+pub place_of-requires-clause-all : goal.place_of-requires-clause-all
+place_of-requires-clause-all c = c.loop-next.invariant.0

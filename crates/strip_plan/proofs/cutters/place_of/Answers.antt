@@ -1,6 +1,19 @@
-use Rattle.std.proofs.Common.{◌∙◌, ap₂}
+use Rattle.std.proofs.Common.{◌∙◌, List, ap₂, arith, length, subst}
+use Rattle.std.proofs.lemmas.List.{take_all}
+use Rattle.cutter_slabs.specs.Stacks.{StacksOf}
+use Rattle.strip_plan.specs.Cutters.{IsStackPlace}
 use Rattle.strip_plan.proofs.Places.{all_pushed, kept_pushed, place_pushed}
 use Rattle.strip_plan.proofs.cutters.place_of.Goals as goal
+
+pub returns-in-Some-clause-all : goal.returns-in-Some-clause-all
+returns-in-Some-clause-all c = c.requires.all
+
+pub returns-in-Some-clause-kept : goal.returns-in-Some-clause-kept
+returns-in-Some-clause-kept c = let stacks = c.args.stacks.now.items in take_all (length stacks) stacks (omega arith)
+
+pub returns-in-Some-clause-place : goal.returns-in-Some-clause-place
+returns-in-Some-clause-place c =
+    subst (λ (stacks : List StacksOf). IsStackPlace stacks c.args.cutter c.args.slabs c.in-Some.place) c.deref.ensures.value c.in-Some.ensures
 
 pub returns-clause-all : goal.returns-clause-all
 returns-clause-all c =

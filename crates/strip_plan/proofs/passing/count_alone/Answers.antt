@@ -1,5 +1,6 @@
-use Rattle.std.proofs.Common.{◌≡◌, ◌*◌, ◌/◌, ⊎_elim, arith}
+use Rattle.std.proofs.Common.{◌≡◌, ◌*◌, ◌/◌, ◌<◌, ⊎_elim, arith, length}
 use Rattle.std.proofs.lemmas.Bool.{cases_lt}
+use Rattle.strip_plan.proofs.Grouped.{one_alone}
 use Rattle.strip_plan.proofs.passing.count_alone.Goals as goal
 
 pub loop-at-preserved-then-group_leaves_alone : goal.loop-at-preserved-then-group_leaves_alone
@@ -18,3 +19,23 @@ loop-at-preserved-then-group_leaves_alone c =
       alone = λ k d ge lt.
           ⊎_elim (λ less. inv.alone k d ge less) (λ most. eight k d (omega (arith, first, most)) (omega (arith, first, lt))) (cases_lt k at);
     }
+
+pub loop-at-init : goal.loop-at-init
+loop-at-init c = record { after = omega arith; before = c.requires.order; alone = λ k d ge lt. absurd (omega (arith, ge, lt)) }
+
+pub loop-at-preserved : goal.loop-at-preserved
+loop-at-preserved c =
+    let at = c.loop-at.at in
+    let inv = c.loop-at.invariant in
+    let after = inv.after in
+    let low = c.loop-at-test.true in
+    let end = c.requires.within in
+    let within : at < length c.args.edits.now = omega (arith, low, end) in
+    record {
+      after = omega (arith, after);
+      before = omega (arith, low);
+      alone = one_alone c.args.hulls.now c.args.edits.now c.args.family c.args.i c.args.from at _ inv.alone within (c.leaves_alone.ensures c.if-leaves_alone.true);
+    }
+
+pub returns-clause-alone : goal.returns-clause-alone
+returns-clause-alone c k d ge lt = let after = c.loop-at.invariant.after in c.loop-at.invariant.alone k d ge (omega (arith, lt, after))
