@@ -15,3 +15,4 @@ pub mod OutAndBack
 pub mod ReadBack
 pub mod Asking
 pub mod Sent
+pub mod Asked
