@@ -31,3 +31,12 @@ returns-clause-ok c =
     let turned = subst (λ u. IsTurnedFrom c.args.self.now c.turn.new.self u false) source c.in_ok-turn.ensures.ok in
     redone_at c.args.self.now c.turn.new.self c.move_to-2.new.self c.requires.journal c.requires.edit (omega arith) turned
     (moved_on c.turn.new.self c.move_to-2.new.self _ _ c.args.self.now.done c.turn.ensures.line.done c.move_to-2.ensures)
+
+pub move_to-requires : goal.move_to-requires
+move_to-requires c = (stands_next c.args.self.now Redo c.requires.journal c.requires.edit).next
+
+pub get-source-requires : goal.get-source-requires
+get-source-requires c = omega (arith, c.if-at-len.false, c.len.ensures)
+
+pub turn-requires : goal.turn-requires
+turn-requires c = record { journal = c.requires.journal }

@@ -31,3 +31,9 @@ returns-clause-ok c =
     let turned = subst (λ u. IsTurnedFrom c.args.self.now c.turn.new.self u true) source c.in_ok-turn.ensures.ok in
     undone_at c.args.self.now c.turn.new.self c.move_to-2.new.self c.requires.journal c.requires.edit (omega arith) turned
     (moved_on c.turn.new.self c.move_to-2.new.self _ _ c.args.self.now.done c.turn.ensures.line.done c.move_to-2.ensures)
+
+pub move_to-requires : goal.move_to-requires
+move_to-requires c = (stands_next c.args.self.now Undo c.requires.journal c.requires.edit).next
+
+pub turn-requires : goal.turn-requires
+turn-requires c = record { journal = c.requires.journal }
