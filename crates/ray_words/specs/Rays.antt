@@ -5,7 +5,7 @@ use Rattle.vf_spans.specs.Words.{has_bit, in_word}
 use Rattle.dexel_rays.specs.declared.word_sets.WordDelta.{WordDelta}
 use Rattle.dexel_rays.specs.declared.word_sets.WordSets.{WordSets}
 use Rattle.dexel_rays.specs.Asked.{is_wanted}
-use Rattle.dexel_rays.specs.Sets.{Sets, seen_at}
+use Rattle.dexel_rays.specs.Sets.{HaveBound, Sets, seen_at}
 
 -- the sets, and of which words the stretch consists: so many from the first on
 pub record KeptSets : Type 0 where
@@ -64,3 +64,12 @@ pub record IsTaken (before : Sets) (n : ℕ) (delta : WordDelta) (after : Sets) 
   pub possible_bound : length after.possible ≡ length before.possible
   pub sure : (i : ℕ) → has after.sure i ≡ (has before.sure i && not (in_word n delta.sure i))
   pub possible : (i : ℕ) → has after.possible i ≡ (has before.possible i && not (in_word n delta.possible i))
+
+-- the sets where no move was sure or possible at any point; the bodies stay
+pub record IsCleared (before after : Sets) : Type 0 where
+  pub stock : after.stock ≡ before.stock
+  pub part : after.part ≡ before.part
+  pub fixture : after.fixture ≡ before.fixture
+  pub sure : (i : ℕ) → has after.sure i ≡ false
+  pub possible : (i : ℕ) → has after.possible i ≡ false
+  pub bound : HaveBound (length before.stock) after

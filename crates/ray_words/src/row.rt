@@ -1,6 +1,6 @@
 ghost use Rattle.std.specs.Prelude.{◌≡◌, ℕ, ◌<◌, ◌≤◌, [], ◌∷◌, ◌++◌, IfOk, OnErr, OnOk, length, slice_set};
 ghost use Rattle.vf_spans.specs.Words.{words_below};
-ghost use Rattle.ray_words.specs.Rays.{HasAllWanted, HasNoneWanted, IsBelow, IsGiven, IsKept, IsTaken};
+ghost use Rattle.ray_words.specs.Rays.{HasAllWanted, HasNoneWanted, IsBelow, IsCleared, IsGiven, IsKept, IsTaken};
 ghost use Rattle.ray_words.specs.Rows.{kept_at};
 
 use crate::settled::Settled;
@@ -123,5 +123,16 @@ impl RayRow {
         let at = n as usize;
         self.rays[at].take(word, delta);
         self.settled[at] = Settled::none();
+    }
+
+    /// Forgets what moves were sure of or possible at on ray n: no word of it is kept. It takes no memory.
+    pub fn clear(&mut self, n: u32)
+        requires { n < length self.old }
+        ensures others { self.new ≡ slice_set self.old n (kept_at self.new n) }
+        ensures cleared { IsCleared (kept_at self.old n).sets (kept_at self.new n).sets }
+        ensures none { (kept_at self.new n).count ≡ 0 }
+    {
+        self.rays[n as usize].clear();
+        self.settled[n as usize] = Settled::none();
     }
 }

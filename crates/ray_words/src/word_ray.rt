@@ -3,7 +3,7 @@ ghost use Rattle.vf_spans.specs.Members.{count_of, has};
 ghost use Rattle.vf_spans.specs.Words.{has_bit, words_below};
 ghost use Rattle.dexel_rays.specs.Sets.{HaveBound};
 ghost use Rattle.ray_words.specs.Kept.{AreWordsFrom, IsStretch, IsUnmarked};
-ghost use Rattle.ray_words.specs.Rays.{IsBelow, IsGiven, IsKept, IsTaken, IsWordAt, is_wanted_at};
+ghost use Rattle.ray_words.specs.Rays.{IsBelow, IsCleared, IsGiven, IsKept, IsTaken, IsWordAt, is_wanted_at};
 
 use crate::range_word::word_of;
 use dexel_rays::{WordDelta, WordSets};
@@ -161,6 +161,15 @@ impl WordRay {
     {
         let at = (n - self.first) as usize;
         self.words[at] = self.words[at].without(delta);
+    }
+
+    /// Forgets what moves were sure of or possible at: no word is kept. It takes no memory.
+    pub fn clear(&mut self)
+        ensures cleared { IsCleared self.old.sets self.new.sets }
+        ensures none { self.new.count ≡ 0 }
+    {
+        self.first = 0;
+        self.words.clear();
     }
 
     /// Word n, if it is kept; else no move was sure or possible there.
