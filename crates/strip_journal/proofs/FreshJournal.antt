@@ -60,7 +60,7 @@ abbrev pub AreFirstRays : Job → ℕ → List KeptSets → Type 0
 AreFirstRays job strip kept =
     AreFreshRays job.plan.grid strip (length (strip_at job.plan.grid strip)) job.stock job.part job.fixture kept
 
-first_stock : (job : Job) (strip : ℕ) (kept : List KeptSets) → AreFirstRays job strip kept
+pub first_stock : (job : Job) (strip : ℕ) (kept : List KeptSets) → AreFirstRays job strip kept
     → stock_points kept ≡ (totals_over job (strip_points job.plan.grid strip) (left_moves job.plan 0)).of
 first_stock job strip kept fresh =
     stock_sum job.plan.grid (is_stock job) (strip_at job.plan.grid strip) kept fresh.many

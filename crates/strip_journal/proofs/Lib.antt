@@ -39,6 +39,7 @@ pub mod ToldFound
 pub mod ToldStates
 pub mod FreshRays
 pub mod FreshJournal
+pub mod Cleared
 pub mod ToldNext
 pub mod Sent
 pub mod Unentered

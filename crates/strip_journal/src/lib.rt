@@ -13,6 +13,7 @@ mod packed;
 mod passing;
 mod rays;
 mod room;
+mod starting;
 mod strip;
 mod turning;
 

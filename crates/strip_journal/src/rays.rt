@@ -1,6 +1,7 @@
-ghost use Rattle.std.specs.Prelude.{◌≡◌, ◌∷◌, [], All, false, slice_set};
+ghost use Rattle.std.specs.Prelude.{◌≡◌, ◌∷◌, ◌≤◌, [], All, false, length, slice_set};
 ghost use Rattle.ray_words.specs.Rows.{kept_at};
 ghost use Rattle.strip_marks.specs.Marks.{IsChangeOn};
+ghost use Rattle.strip_journal.specs.Fresh.{AreCleared};
 ghost use Rattle.strip_journal.specs.Steps.{AreRaysTurned, IsRayTurned};
 
 use crate::changes::ChangesPart;
@@ -38,5 +39,15 @@ pub fn turn_all(rays: &mut RayRow, changes: &ChangesPart<'_>, is_undo: bool)
 {
     for k in 0..changes.len() {
         turn_ray(rays, &changes.get(k), is_undo);
+    }
+}
+
+/// Forgets what moves marked on the first so many rays. It takes no memory.
+pub fn clear_all(rays: &mut RayRow, count: u32)
+    requires { count ≤ length rays.old }
+    ensures { AreCleared count rays.old rays.new }
+{
+    for n in 0..count {
+        rays.clear(n);
     }
 }

@@ -135,6 +135,16 @@ impl Strip {
         self.journal.pass_over(plan, most)
     }
 
+    /// The strip before the first edit again. It takes no memory.
+    pub fn start_over(self, plan: &Plan) -> Strip
+        requires plan { self.job.plan ≡ plan.now }
+        ensures { result ≡ record self { done = 0 } }
+    {
+        Strip {
+            journal: self.journal.start_over(plan),
+        }
+    }
+
     /// The state of point l of ray n at a version, in at most one step for each edit since.
     pub fn mark_at<L: Ledger>(
         &self,
