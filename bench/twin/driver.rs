@@ -184,7 +184,13 @@ fn main() {
         totals = totals.plus(&strip.counts_at(many));
         strip.add_found(&mut counts);
     }
-    println!("{totals:?} sum {:016x}", sum_of(&counts));
+    println!(
+        "removed {} possible {} of {} sum {:016x}",
+        totals.removed,
+        totals.possible,
+        totals.of,
+        sum_of(&counts)
+    );
     println!(
         "plan {:?} strips {:?} turns {:?}",
         planned - begun,

@@ -3,7 +3,7 @@ use Rattle.std.proofs.Common.{◌≡◌, ℕ, zero, suc, ◌+◌, ◌<◌, ⊎_e
 use Rattle.std.proofs.Math.ListN.{length-append}
 use Rattle.std.proofs.lemmas.Grind.{common_steps}
 use Rattle.std.proofs.lemmas.List.{get_or-set_other}
-use Rattle.std.proofs.lemmas.Option.{slice_get_within}
+use Rattle.std.proofs.lemmas.Option.{slice_get-get_or, slice_get_within}
 use Rattle.std.specs.Mem.Slots.Ownership.{Filled}
 use mathlib.Core.Logic.{dite}
 use native.Mathlib.Decide.{ℕ_discrete}
@@ -136,3 +136,8 @@ pub emptied_after : (fs gs : List Bool) (i : ℕ) → gs ≡ set fs i false → 
 emptied_after fs gs i e h = λ k lt. dite (ℕ_discrete k i)
     (λ same. ap (λ l. get_or l k false) e ∙ emptied fs k i same)
     (λ ne. ap (λ l. get_or l k false) e ∙ get_or-set_other fs i k false false (λ q. ne (omega arith)) ∙ h k (omega arith))
+
+-- each strip of a plan is of it
+pub all_of_plan : (plan : PlanOf) (strips : List StripOf) → AreOfPlan plan strips
+    → (k : ℕ) (d : StripOf) → k < length strips → (get_or strips k d).job.plan ≡ plan
+all_of_plan plan strips are k d low = are.plans k (get_or strips k d) (slice_get-get_or strips k d low)

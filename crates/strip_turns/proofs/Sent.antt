@@ -16,17 +16,17 @@ use Rattle.atomic_table.proofs.owned.Table.TheSendSync as table
 use Rattle.atomic_table.proofs.shared.Seat.TheSendSync as seat
 use Rattle.atomic_table.specs.contracts.owned.Table as table_row
 use Rattle.strip_plan.proofs.plan.Plan.TheSendSync as plan
-use Rattle.strip_journal.proofs.Sent.{strip_send}
-use Rattle.strip_journal.specs.contracts.strip.Strip as strip
+use Rattle.turn_core.proofs.Sent.{ahead_send}
+use Rattle.turn_core.specs.contracts.ahead.AheadStrip as ahead
 use Rattle.strip_turns.specs.contracts.board.Board as board
 use Rattle.strip_turns.specs.contracts.board.Pass as pass
 use Rattle.strip_turns.specs.contracts.rule.Sound as sound
-use Rattle.strip_turns.specs.contracts.rule.SoundTableRuleOptionStripViewKey.TheImpl as rule
+use Rattle.strip_turns.specs.contracts.rule.SoundTableRuleOptionAheadStripViewKey.TheImpl as rule
 use Rattle.strip_turns.specs.contracts.view.Key as key
 use Rattle.strip_turns.specs.contracts.view.View as view
 
-slot_send : IsSend (option.the_row strip.the_row)
-slot_send = search (sendable, strip_send) depth 20
+slot_send : IsSend (option.the_row ahead.the_row)
+slot_send = search (sendable, ahead_send) depth 20
 
 -- the same of a pass that is a field of something
 pub pass_field_send : IsSend (pass.the_field).row
@@ -35,9 +35,9 @@ pass_field_send = struct_send (shape pass.the_type) (seat.the_send _ view.the_ro
 pub pass_send : IsSend pass.the_row
 pass_send = recorded_send (pass.the_field).row _ _ (pass.the_type).to_one pass_field_send
 
-slots_sync : IsSync (table_row.the_field (option.the_row strip.the_row) view.the_row key.the_row sound.the_row global.the_row rule.ghosts
+slots_sync : IsSync (table_row.the_field (option.the_row ahead.the_row) view.the_row key.the_row sound.the_row global.the_row rule.ghosts
     allocator.ghosts).row
-slots_sync = table.the_field_sync (option.the_row strip.the_row) view.the_row key.the_row sound.the_row global.the_row rule.ghosts
+slots_sync = table.the_field_sync (option.the_row ahead.the_row) view.the_row key.the_row sound.the_row global.the_row rule.ghosts
     allocator.ghosts slot_send heap.send heap.sync heap.frees
 
 pub board_sync : IsSync board.the_row

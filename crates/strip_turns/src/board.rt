@@ -8,14 +8,14 @@ use crate::rule::Sound;
 use crate::view::{Key, View};
 use atomic_table::{Seat, Table};
 use std::alloc::Global;
-use strip_journal::Strip;
 use strip_plan::Plan;
+use turn_core::AheadStrip;
 
 /// A slot and a version word for each strip, and a ticket word.
 #[derive(Drop)]
 pub struct Board {
     pub(crate) plan: Plan,
-    pub(crate) table: Table<Option<Strip>, View, Key, Sound, Global>,
+    pub(crate) table: Table<Option<AheadStrip>, View, Key, Sound, Global>,
     ghost words: { table.shared.table_id.words ≡ word_of table.shared.table_id.slots },
     ghost slots: { table.shared.table_id.slots ≡ length (strips_of plan.grid) },
     ghost card: { table.shared.key.plan.value ≡ plan },
@@ -26,5 +26,5 @@ pub struct Board {
 /// A seat at a board. It has no bytes.
 #[derive(Drop)]
 pub struct Pass {
-    pub(crate) seat: Seat<Option<Strip>, View>,
+    pub(crate) seat: Seat<Option<AheadStrip>, View>,
 }

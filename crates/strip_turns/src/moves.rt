@@ -13,7 +13,7 @@ use crate::view::View;
 use atomic_table::Seat;
 use std::sync::Wait;
 use std::thread;
-use strip_journal::Strip;
+use turn_core::AheadStrip;
 
 /// The unit of a version in a strip's word, below which misses are counted.
 const VERSION: u64 = 1 << 40;
@@ -38,7 +38,7 @@ pub(crate) fn home_word(done: u32) -> u64
 }
 
 /// Takes the strip where it is home, and else counts a miss. A strip that was taken lies in its slot, which the seat holds.
-pub(crate) fn hold(board: &Board, seat: &mut Seat<Option<Strip>, View>, strip: u32) -> bool
+pub(crate) fn hold(board: &Board, seat: &mut Seat<Option<AheadStrip>, View>, strip: u32) -> bool
     requires idle { IsIdle board.now seat.old }
     requires strip { strip < length (strips_of board.now.plan.grid) }
     requires few { seat.old.me.0.missed < 2 ^ 32 }
@@ -55,9 +55,9 @@ pub(crate) fn hold(board: &Board, seat: &mut Seat<Option<Strip>, View>, strip: u
 pub(crate) fn wait_and_take<R: Wait>(
     rt: &R,
     board: &Board,
-    seat: &mut Seat<Option<Strip>, View>,
+    seat: &mut Seat<Option<AheadStrip>, View>,
     strip: u32,
-) -> Strip
+) -> AheadStrip
     requires idle { IsIdle board.now seat.old }
     requires strip { strip < length (strips_of board.now.plan.grid) }
     ensures { TookOut board.now strip seat.old seat.new result }
@@ -72,7 +72,11 @@ pub(crate) fn wait_and_take<R: Wait>(
 }
 
 /// Takes the strip where it is home, and else does nothing.
-fn try_take(board: &Board, seat: &mut Seat<Option<Strip>, View>, strip: u32) -> Option<Strip>
+fn try_take(
+    board: &Board,
+    seat: &mut Seat<Option<AheadStrip>, View>,
+    strip: u32,
+) -> Option<AheadStrip>
     requires idle { IsIdle board.now seat.old }
     requires strip { strip < length (strips_of board.now.plan.grid) }
     ensures own { seat.new.table_id ≡ seat.old.table_id }
@@ -96,10 +100,10 @@ fn try_take(board: &Board, seat: &mut Seat<Option<Strip>, View>, strip: u32) -> 
 /// Puts the strip back, that was taken at `from`.
 pub(crate) fn put(
     board: &Board,
-    seat: &mut Seat<Option<Strip>, View>,
+    seat: &mut Seat<Option<AheadStrip>, View>,
     strip: u32,
     from: u32,
-    piece: Strip,
+    piece: AheadStrip,
 )
     requires out { IsOut board.now strip from seat.old }
     requires strip { strip < length (strips_of board.now.plan.grid) }
@@ -118,7 +122,7 @@ pub(crate) fn put(
 /// Gives back the strip in the seat's slot, that was taken at `from` and now is at `to`.
 pub(crate) fn give_back(
     board: &Board,
-    seat: &mut Seat<Option<Strip>, View>,
+    seat: &mut Seat<Option<AheadStrip>, View>,
     strip: u32,
     from: u32,
     to: u32,
@@ -132,7 +136,7 @@ pub(crate) fn give_back(
 }
 
 /// Learns what the pass may know. Nothing changes.
-pub(crate) fn look(board: &Board, seat: &mut Seat<Option<Strip>, View>)
+pub(crate) fn look(board: &Board, seat: &mut Seat<Option<AheadStrip>, View>)
     requires idle { IsIdle board.now seat.old }
     ensures idle { IsIdle board.now seat.new }
     ensures looked { Looked seat.old.me seat.new.me }

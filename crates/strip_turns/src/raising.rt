@@ -8,18 +8,17 @@ use crate::moves::{put, wait_and_take};
 use crate::view::View;
 use atomic_table::Seat;
 use std::sync::Wait;
-use strip_journal::Strip;
-use turn_core::raise;
+use turn_core::AheadStrip;
 use vf_io::NoMemory;
 
 /// Takes a strip and raises it to a version, and tells the version at which it was taken. After want of memory it is back.
 pub(crate) fn raised<R: Wait>(
     rt: &R,
     board: &Board,
-    seat: &mut Seat<Option<Strip>, View>,
+    seat: &mut Seat<Option<AheadStrip>, View>,
     strip: u32,
     version: u32,
-) -> Result<(Strip, u32), NoMemory>
+) -> Result<(AheadStrip, u32), NoMemory>
     requires idle { IsIdle board.now seat.old }
     requires strip { strip < length (strips_of board.now.plan.grid) }
     requires version { version ≤ length board.now.plan.edits }
@@ -29,7 +28,7 @@ pub(crate) fn raised<R: Wait>(
 {
     let mut piece = wait_and_take(rt, board, seat, strip);
     let from = piece.done();
-    match raise(&mut piece, &board.plan, version) {
+    match piece.raise(&board.plan, version) {
         Ok(()) => Ok((piece, from)),
         Err(NoMemory) => {
             put(board, seat, strip, from, piece);
@@ -42,7 +41,7 @@ pub(crate) fn raised<R: Wait>(
 pub(crate) fn all_raised<R: Wait>(
     rt: &R,
     board: &Board,
-    seat: &mut Seat<Option<Strip>, View>,
+    seat: &mut Seat<Option<AheadStrip>, View>,
     version: u32,
 ) -> Result<(), NoMemory>
     requires idle { IsIdle board.now seat.old }

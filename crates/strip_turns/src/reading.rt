@@ -15,15 +15,14 @@ use atomic_table::Seat;
 use job_facts::{PointState, Totals};
 use ray_grid::Ray;
 use std::sync::Wait;
-use strip_journal::Strip;
-use turn_core::state_at;
+use turn_core::AheadStrip;
 use vf_io::NoMemory;
 
 /// The state of a point at a version, to which its strip is raised first.
 pub(crate) fn probed<R: Wait>(
     rt: &R,
     board: &Board,
-    seat: &mut Seat<Option<Strip>, View>,
+    seat: &mut Seat<Option<AheadStrip>, View>,
     ray: &Ray,
     l: u32,
     version: u32,
@@ -42,7 +41,7 @@ pub(crate) fn probed<R: Wait>(
 {
     let (strip, n) = board.plan.grid().place(ray);
     let (piece, from) = raised(rt, board, seat, strip, version)?;
-    let state = state_at(&piece, version, n, l);
+    let state = piece.state_at(version, n, l);
     put(board, seat, strip, from, piece);
     Ok(state)
 }
@@ -51,7 +50,7 @@ pub(crate) fn probed<R: Wait>(
 pub(crate) fn counted<R: Wait>(
     rt: &R,
     board: &Board,
-    seat: &mut Seat<Option<Strip>, View>,
+    seat: &mut Seat<Option<AheadStrip>, View>,
     version: u32,
 ) -> Result<Totals, NoMemory>
     requires idle { IsIdle board.now seat.old }

@@ -6,12 +6,12 @@ ghost use Rattle.strip_turns.specs.Plays.{Drawn, TakesOrMisses, TakesOrNot, Look
 
 use crate::view::{Key, View};
 use atomic_table::{Join, Play, Split, TableRule};
-use strip_journal::Strip;
+use turn_core::AheadStrip;
 
 /// What holds between any two steps.
 pub(crate) struct Sound;
 
-impl TableRule<Option<Strip>, View, Key> for Sound {
+impl TableRule<Option<AheadStrip>, View, Key> for Sound {
     ghost holds = { λ key s. IsSound (card_of key) s };
 
     ghost first = { λ key. fresh true 0 (Some (card_of key)) };
@@ -20,35 +20,35 @@ impl TableRule<Option<Strip>, View, Key> for Sound {
 /// A ticket is drawn.
 pub(crate) struct Drawing;
 
-impl Play<Option<Strip>, View> for Drawing {
+impl Play<Option<AheadStrip>, View> for Drawing {
     ghost then = { λ _ before found after. Drawn before found after };
 }
 
 /// One is added to a strip's word: the strip is taken, or a miss is counted.
 pub(crate) struct Adding;
 
-impl Play<Option<Strip>, View> for Adding {
+impl Play<Option<AheadStrip>, View> for Adding {
     ghost then = { TakesOrMisses };
 }
 
 /// A strip is taken where its word is as expected.
 pub(crate) struct Trying;
 
-impl Play<Option<Strip>, View> for Trying {
+impl Play<Option<AheadStrip>, View> for Trying {
     ghost then = { TakesOrNot };
 }
 
 /// A word is read.
 pub(crate) struct Looking;
 
-impl Play<Option<Strip>, View> for Looking {
+impl Play<Option<AheadStrip>, View> for Looking {
     ghost then = { Looks };
 }
 
 /// A strip is put back.
 pub(crate) struct Giving;
 
-impl Play<Option<Strip>, View> for Giving {
+impl Play<Option<AheadStrip>, View> for Giving {
     ghost then = { Gives };
 }
 

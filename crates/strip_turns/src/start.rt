@@ -14,6 +14,7 @@ use std::alloc::Global;
 use std::snapshot::Snapshot;
 use strip_journal::Strip;
 use strip_plan::Plan;
+use turn_core::AheadStrip;
 use vf_io::NoMemory;
 
 impl Board {
@@ -36,8 +37,8 @@ fn laid_out(
     strips: Vec<Strip>,
 ) -> Result<
     (
-        Table<Option<Strip>, View, Key, Sound, Global>,
-        Seat<Option<Strip>, View>,
+        Table<Option<AheadStrip>, View, Key, Sound, Global>,
+        Seat<Option<AheadStrip>, View>,
     ),
     NoMemory,
 >
@@ -77,11 +78,18 @@ fn home_words(alloc: Global, plan: &Plan, strips: &Vec<Strip>) -> Result<Vec<u64
     Ok(words)
 }
 
+/// A slot with a strip in it, as it is.
+fn put_in(strip: Strip) -> Option<AheadStrip>
+    ensures { result ≡ Some strip }
+{
+    Some(AheadStrip::of(strip))
+}
+
 /// Each strip in its slot.
-fn filled_slots(alloc: Global, strips: Vec<Strip>) -> Result<Vec<Option<Strip>>, NoMemory>
+fn filled_slots(alloc: Global, strips: Vec<Strip>) -> Result<Vec<Option<AheadStrip>>, NoMemory>
     ensures { IfOk result (λ slots. slots.items ≡ map Some strips.items) }
 {
-    match strips.into_iter().map(Some).collect(alloc) {
+    match strips.into_iter().map(put_in).collect(alloc) {
         Ok(slots) => Ok(slots),
         Err(_) => Err(NoMemory),
     }

@@ -7,9 +7,8 @@ use crate::board::{Board, Pass};
 use crate::moves::{give_back, hold};
 use crate::view::View;
 use atomic_table::Seat;
-use strip_journal::Strip;
 use strip_plan::Plan;
-use turn_core::turn_strip;
+use turn_core::AheadStrip;
 
 /// How a turn ended.
 #[derive(Clone, Copy, PartialEq, Eq)]
@@ -50,7 +49,7 @@ impl Board {
 /// Does the next edits on the strip in the seat's slot.
 fn turn_held(
     board: &Board,
-    seat: &mut Seat<Option<Strip>, View>,
+    seat: &mut Seat<Option<AheadStrip>, View>,
     strip: u32,
 ) -> Result<(u32, u32), (u32, u32)>
     requires own { seat.old.table_id ≡ board.now.table.shared.table_id }
@@ -65,12 +64,12 @@ fn turn_held(
 }
 
 /// Does the next edits on the strip in a slot.
-fn turn_slot(slot: &mut Option<Strip>, plan: &Plan) -> Result<(u32, u32), (u32, u32)>
+fn turn_slot(slot: &mut Option<AheadStrip>, plan: &Plan) -> Result<(u32, u32), (u32, u32)>
     requires { IsSomeAnd slot.old (λ piece. piece.job.plan ≡ plan.now) }
     ensures { IsSomeAnd slot.old (λ before. IsSomeAnd slot.new (λ after. Worked plan.now before after result)) }
 {
     match slot {
-        Some(piece) => turn_strip(piece, plan),
+        Some(piece) => piece.turn(plan),
         None => unreachable!(),
     }
 }

@@ -4,3 +4,5 @@ pub mod Parts
 pub mod ReadBack
 pub mod Steps
 pub mod Between
+pub mod Seen
+pub mod Sent

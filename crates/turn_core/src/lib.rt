@@ -1,11 +1,13 @@
 //! The core over every list of steps: turns of strips, and queries, each at a version of its own.
 #![tactic(auto)]
 
+mod ahead;
 mod asking;
 mod playing;
 mod step;
 mod turning;
 
+pub use ahead::AheadStrip;
 pub use asking::state_at;
 pub use playing::play;
 pub use step::Step;

@@ -6,7 +6,7 @@ use strip_plan::Plan;
 use vf_io::NoMemory;
 
 /// The edits that a turn does at the most.
-const EDITS: u32 = 8;
+pub(crate) const EDITS: u32 = 8;
 
 /// Takes a strip to a version, unless it is there or past it. After want of memory it stands at a version in between.
 pub fn raise(strip: &mut Strip, plan: &Plan, version: u32) -> Result<(), NoMemory>

@@ -4,6 +4,8 @@
 #[cfg(test)]
 mod again;
 #[cfg(test)]
+mod ahead;
+#[cfg(test)]
 mod boards;
 #[cfg(test)]
 mod crews;

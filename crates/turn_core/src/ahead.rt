@@ -1,0 +1,167 @@
+ghost use Rattle.std.specs.Prelude.{◌≡◌, ◌+◌, ◌<◌, ◌≤◌, Some, IfErr, IfOk, OnErr, OnOk, length, max, min, slice_get};
+ghost use Rattle.ray_grid.specs.declared.ray.Ray.{Ray};
+ghost use Rattle.ray_grid.specs.Lattice.{points_of};
+ghost use Rattle.ray_grid.specs.Strips.{strip_at};
+ghost use Rattle.edit_plan.specs.Limits.{most_edits};
+ghost use Rattle.job_model.specs.Points.{left_moves, point_in, state_after, strip_points, totals_over};
+ghost use Rattle.turn_core.specs.Turns.{IsRaised, IsStopped};
+
+use crate::asking::state_at;
+use crate::turning::{EDITS, raise};
+use job_facts::{PointState, Totals};
+use std::marker::Model;
+use strip_journal::Strip;
+use strip_plan::Plan;
+use vf_io::NoMemory;
+
+/// How many edits lie between a strip's stops: that many are done in one go.
+const STRETCH: u32 = 128;
+
+/// The first of a strip's stops that isn't ahead of a version. Strips whose numbers follow one another stop at different versions: so
+/// of those that a move enters only a few have long turns at a time, and the workers meanwhile pass over the others.
+fn stop_from(number: u32, version: u32) -> u32
+    requires { version ≤ most_edits }
+    ensures { version ≤ result }
+{
+    let first = number % (STRETCH / EDITS) * EDITS;
+    version + (first + STRETCH - version % STRETCH) % STRETCH
+}
+
+/// A strip that works ahead. It is seen at a version, and its edits are done up to that one or past it: so its words come into a
+/// processor's cache once for many turns.
+#[derive(Drop)]
+pub struct AheadStrip {
+    /// The version at which it is seen.
+    done: u32,
+    /// Whether there was no memory for an edit past that version. The turn that needs the edit tells it.
+    is_short: bool,
+    strip: Strip,
+}
+
+impl Model for AheadStrip {
+    ghost use Rattle.std.specs.Prelude.{◌≤◌};
+    ghost use Rattle.strip_journal.specs.Strips.{StripOf};
+
+    ghost Value = { StripOf };
+
+    ghost view = { λ s. record s.strip { done = s.done } };
+
+    ghost invariant = { λ s. s.done ≤ s.strip.done };
+}
+
+impl AheadStrip {
+    /// A strip that is seen as it is.
+    pub fn of(strip: Strip) -> AheadStrip
+        ensures { result ≡ strip }
+    {
+        AheadStrip {
+            done: strip.done(),
+            is_short: false,
+            strip,
+        }
+    }
+
+    /// How many edits were done on the strip as it is seen.
+    pub fn done(&self) -> u32
+        ensures done { result ≡ self.now.done }
+        ensures within { result ≤ length self.now.job.plan.edits }
+    {
+        // It is no more than how many were done.
+        let _done = self.strip.done();
+        self.done
+    }
+
+    /// Comes to be seen at a version. Where the edits up to it aren't done yet, they are done up to a stop.
+    fn move_on(&mut self, plan: &Plan, version: u32, stop: u32) -> Result<(), NoMemory>
+        requires plan { self.old.job.plan ≡ plan.now }
+        requires further { self.old.done ≤ version }
+        requires order { version ≤ stop }
+        requires within { stop ≤ length plan.now.edits }
+        ensures ok { OnOk result (IsRaised self.old self.new version) }
+        ensures err { OnErr result (IsStopped self.old self.new version) }
+    {
+        if self.strip.done() < version {
+            if !self.is_short {
+                self.is_short = raise(&mut self.strip, plan, stop).is_err();
+            }
+            if self.strip.done() < version {
+                self.is_short = false;
+                self.done = self.strip.done();
+                return Err(NoMemory);
+            }
+        }
+        self.done = version;
+        Ok(())
+    }
+
+    /// Takes the strip to a version, unless it is there or past it. After want of memory it stands at a version in between.
+    pub fn raise(&mut self, plan: &Plan, version: u32) -> Result<(), NoMemory>
+        requires plan { self.old.job.plan ≡ plan.now }
+        requires version { version ≤ length plan.now.edits }
+        ensures ok { OnOk result (IsRaised self.old self.new (max self.old.done version)) }
+        ensures err { OnErr result (IsStopped self.old self.new version) }
+    {
+        if version <= self.done {
+            return Ok(());
+        }
+        self.move_on(plan, version, version)
+    }
+
+    /// Does the next edits, at most eight, or only comes to be seen behind them where they are done. Both answers tell from which
+    /// version to which; after want of memory it stands short of where the turn would end.
+    pub fn turn(&mut self, plan: &Plan) -> Result<(u32, u32), (u32, u32)>
+        requires plan { self.old.job.plan ≡ plan.now }
+        ensures ok { IfOk result (λ turn. (turn.0 ≡ self.old.done) × (turn.1 ≡ self.new.done)
+            × IsRaised self.old self.new (min (self.old.done + 8) (length plan.now.edits))) }
+        ensures err { IfErr result (λ turn. (turn.0 ≡ self.old.done) × (turn.1 ≡ self.new.done)
+            × IsStopped self.old self.new (min (self.old.done + 8) (length plan.now.edits))) }
+    {
+        let from = self.done();
+        let edits = plan.edits();
+        let to = (from + EDITS).min(edits);
+        let stop = stop_from(self.strip.number(), to).min(edits);
+        match self.move_on(plan, to, stop) {
+            Ok(()) => Ok((from, to)),
+            Err(NoMemory) => Err((from, self.done)),
+        }
+    }
+
+    /// The state of point l of ray n at a version.
+    pub fn state_at(&self, version: u32, n: u32, l: u32) -> PointState
+        requires version { version ≤ self.now.done }
+        requires ray { n < length (strip_at self.now.job.plan.grid self.now.number) }
+        requires point { (ray : Ray) → slice_get (strip_at self.now.job.plan.grid self.now.number) n ≡ Some ray
+            → l < points_of self.now.job.plan.grid ray.family }
+        ensures { (ray : Ray) → slice_get (strip_at self.now.job.plan.grid self.now.number) n ≡ Some ray
+            → result ≡ state_after self.now.job (left_moves self.now.job.plan version) (point_in self.now.job.plan.grid ray l) }
+    {
+        state_at(&self.strip, version, n, l)
+    }
+
+    /// How many stock points of the strip are removed at a version, at how many a move is possible, and how many there are.
+    pub fn counts_at(&self, version: u32) -> Totals
+        requires { version ≤ self.now.done }
+        ensures { result ≡ totals_over self.now.job (strip_points self.now.job.plan.grid self.now.number)
+            (left_moves self.now.job.plan version) }
+    {
+        self.strip.counts_at(version)
+    }
+
+    /// The strip as it is seen. Where it worked past that, it starts over and is raised again.
+    pub fn into_strip(self, plan: &Plan) -> Result<Strip, NoMemory>
+        requires plan { self.job.plan ≡ plan.now }
+        ensures { IfOk result (λ strip. strip ≡ self) }
+    {
+        let AheadStrip {
+            done,
+            is_short: _,
+            strip,
+        } = self;
+        if done == strip.done() {
+            return Ok(strip);
+        }
+        let mut again = strip.start_over(plan);
+        raise(&mut again, plan, done)?;
+        Ok(again)
+    }
+}
