@@ -1,9 +1,10 @@
-use Rattle.std.proofs.Common.{arith, ap, subst, ◌∙◌, ◌+◌, length, ◌≡◌}
+use Rattle.std.proofs.Common.{arith, ap, subst, ◌∙◌, ◌+◌, ℕ, length, ◌≡◌}
 use Rattle.std.specs.Option.{IfSome}
 use Rattle.std.proofs.lemmas.List.Elements.{All-pop}
 use Rattle.std.proofs.lemmas.Grind.{common_steps}
 use Rattle.strip_turns.specs.Passes.{card}
 use Rattle.worker_gate.specs.Workers.{IsDone}
+use Rattle.worker_gate.specs.Crew.{Merged}
 use Rattle.worker_gate.proofs.Merging.{merged_none, merged_more}
 use Rattle.worker_gate.proofs.Teams.{pop_len, team_pop, team_none}
 use Rattle.worker_gate.proofs.team.merge_all.Goals as goal
@@ -40,3 +41,13 @@ pub returns-clause-out : goal.returns-clause-out
 returns-clause-out c =
     let none_left : length c.loop-worker.team.items ≡ 0 = grind (arith, common_steps, c.in_default.ensures.cases, c.pop.ensures.cases) in
     team_none c.loop-worker.pass.seat.me.0 c.loop-worker.team.items c.loop-worker.invariant.3 none_left
+
+pub returns-clause-pass : goal.returns-clause-pass
+returns-clause-pass c = c.loop-worker.invariant.0
+
+pub returns-clause-merged : goal.returns-clause-merged
+returns-clause-merged c =
+    let none_left : length c.loop-worker.team.items ≡ 0 = grind (arith, common_steps, c.in_default.ensures.cases, c.pop.ensures.cases) in
+    let m = c.loop-worker.invariant.4 in
+    let all : m.0 ≡ length c.args.team.items = omega (arith, m.1, none_left) in
+    subst (λ (n : ℕ). Merged (card c.args.board.now) n c.loop-worker.short c.args.pass.now.seat.me.0 c.loop-worker.pass.seat.me.0) all m.2

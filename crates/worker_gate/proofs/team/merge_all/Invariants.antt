@@ -8,7 +8,7 @@ abbrev pub invariant-loop-worker : goal.invariant-loop-worker
 invariant-loop-worker l =
     IsPass l.board l.pass × (l.pass.seat.me.0.first ≡ true) × AreDone l.board l.team.items
     × IsTeam l.pass.seat.me.0 l.team.items
-    × ((n : ℕ) × (n + length l.team.items ≡ length l.initial.team.items) × Merged (card l.board) n l.short l.initial.pass.seat.me.0 l.pass.seat.me.0)
+    × ((n : ℕ) × (n + length l.team.items ≡ length l.fn.team.items) × Merged (card l.board) n l.short l.initial.pass.seat.me.0 l.pass.seat.me.0)
 
 abbrev pub decreases-loop-worker : goal.decreases-loop-worker
 decreases-loop-worker l = length l.team.items
