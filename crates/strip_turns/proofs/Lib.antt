@@ -13,6 +13,7 @@ pub mod Starting
 pub mod Closing
 pub mod OutAndBack
 pub mod ReadBack
+pub mod Turning
 pub mod Asking
 pub mod Sent
 pub mod Asked
