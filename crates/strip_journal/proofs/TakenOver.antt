@@ -1,5 +1,7 @@
 -- A move is taken over: there is room for it, its edit stands, and what it changes is entered.
 use Rattle.std.proofs.Common.{◌≡◌, ◌∙◌, ℕ, ◌+◌, ◌^◌, ◌<◌, ◌≤◌, Bool, false, List, [], ◌∷◌, ◌++◌, length, take, ap, subst, sym}
+use Rattle.std.specs.Prelude.{Result, Ok, Err, OnErr}
+use Rattle.vf_io.specs.declared.answers.NoMemory.{NoMemory}
 use Rattle.edit_plan.specs.Limits.{most_edits}
 use Rattle.job_facts.specs.declared.counts.Counts.{Counts}
 use Rattle.ray_words.specs.Rays.{KeptSets}
@@ -16,6 +18,26 @@ stands_still j m stands same = record {
       subst (λ (n : ℕ). n ≤ length m.line) (sym same.at) (subst (λ (line : List ℕ). j.at ≤ length line) (sym same.line) stands.left);
   few = subst (λ (line : List ℕ). length line ≤ most_edits) (sym same.line) stands.few;
   next = subst (λ (n : ℕ). n < most_edits) (sym same.done) stands.next;
+}
+
+-- what holds in any case holds of an Err
+pub on_err_held : (r : Result (Unit {0}) NoMemory) (P : Type 0) → P → OnErr r P
+on_err_held (Ok u) P p = tt
+on_err_held (Err e) P p = p
+
+-- what kept the edits twice kept them
+pub edits_still : (j m k : Journal) → HasSameEdits j m → HasSameEdits m k → HasSameEdits j k
+edits_still j m k first then = record {
+  strip = record {
+    job = then.strip.job ∙ first.strip.job;
+    number = then.strip.number ∙ first.strip.number;
+    of = then.strip.of ∙ first.strip.of;
+  };
+  changes = then.changes ∙ first.changes;
+  entries = then.entries ∙ first.entries;
+  line = then.line ∙ first.line;
+  at = then.at ∙ first.at;
+  done = then.done ∙ first.done;
 }
 
 -- nor does the edit for its entry

@@ -7,7 +7,7 @@ use Rattle.strip_journal.specs.declared.entry.Hits.{Hits}
 use Rattle.strip_journal.specs.Entries.{hits_of}
 use Rattle.strip_journal.specs.Steps.{HasRoom}
 use Rattle.strip_journal.proofs.MovedAt.{on_ok}
-use Rattle.strip_journal.proofs.TakenOver.{fits_still, stands_still, taken_over}
+use Rattle.strip_journal.proofs.TakenOver.{edits_still, fits_still, on_err_held, stands_still, taken_over}
 use Rattle.strip_journal.proofs.Unentered.{idle_applied}
 use Rattle.strip_journal.proofs.journal.Journal.take_over.Goals as goal
 
@@ -60,3 +60,18 @@ pub returns-clause-few : goal.returns-clause-few
 returns-clause-few c =
     subst (λ (n : ℕ). length c.args.self.now.changes.items + n < 2 ^ 32) (c.len.ensures ∙ c.args.marked.changes.ok.0)
     (subst (λ (l : List WordChange). length l + c.len.result < 2 ^ 32) c.make_room.ensures.edits.changes c.in_ok-make_room.ensures.room.few)
+
+pub returns-in_err-make_room-clause-edits : goal.returns-in_err-make_room-clause-edits
+returns-in_err-make_room-clause-edits c = on_err_held c.from_residual.result _ c.make_room.ensures.edits
+
+pub returns-in_err-make_room-clause-rays : goal.returns-in_err-make_room-clause-rays
+returns-in_err-make_room-clause-rays c = on_err_held c.from_residual.result _ c.make_room.ensures.rays
+
+pub returns-in_err-stand-clause-edits : goal.returns-in_err-stand-clause-edits
+returns-in_err-stand-clause-edits c =
+    on_err_held c.from_residual-in_err-stand.result _
+    (edits_still c.args.self.now c.make_room.new.self c.stand-2.new.self c.make_room.ensures.edits c.in_err-stand.ensures.edits)
+
+pub returns-in_err-stand-clause-rays : goal.returns-in_err-stand-clause-rays
+returns-in_err-stand-clause-rays c =
+    on_err_held c.from_residual-in_err-stand.result _ (c.in_err-stand.ensures.rays ∙ c.make_room.ensures.rays)
