@@ -9,7 +9,7 @@ use Rattle.job_facts.specs.Counts.{no_counts}
 use Rattle.dexel_rays.specs.declared.delta.Delta.{Delta}
 use Rattle.dexel_rays.specs.Findings.{Seen, met, none_met, findings, is_settled, is_outside}
 use Rattle.dexel_rays.specs.Sets.{Sets, HaveBound, seen_at}
-use Rattle.dexel_rays.specs.Steps.{IsDelta, IsUnited, IsWithout}
+use Rattle.dexel_rays.specs.Steps.{IsDelta, IsUnited, IsWithout, StaysAt}
 
 -- stock, part, fixture; sure and possible before; sure and possible now; rapid
 abbrev pub point : Bool → Bool → Bool → Bool → Bool → Bool → Bool → Bool → Seen
@@ -48,6 +48,14 @@ pub settled_possible : (a b c S P s p rapid : Bool) → IsTrue (is_settled (poin
 settled_possible a b c true true s p rapid t = refl
 settled_possible a b c true false s p rapid t = cc
 settled_possible a b c false P s p rapid t = cc
+
+-- so a settled point stays as it is in the united sets, and meets no rule
+pub settled_stays : (before after : Sets) (sure possible : List Bool) (rapid : Bool) → IsUnited before sure possible after
+    → (i : ℕ) → IsTrue (is_settled (seen_at before sure possible rapid i)) → StaysAt before after i × (met (seen_at before sure possible rapid i) ≡ none_met)
+settled_stays before after sure possible rapid u i t =
+    let a = has before.stock i in let b = has before.part i in let c = has before.fixture i in
+    let S = has before.sure i in let P = has before.possible i in let s = has sure i in let p = has possible i in
+    (record { sure = u.all_sure i ∙ settled_sure a b c S P s p rapid t; possible = u.all_possible i ∙ settled_possible a b c S P s p rapid t }, settled_meets_none a b c S P s p rapid t)
 
 -- a point outside the bodies meets no rule
 pub outside_meets_none : (a b c S P s p rapid : Bool) → IsTrue (is_outside (point a b c S P s p rapid)) → met (point a b c S P s p rapid) ≡ none_met
@@ -94,7 +102,18 @@ taken_back before all after sure possible rapid delta w u d =
     let is_possible = left_again before.possible possible all.possible delta.possible after.possible (w.bound_after.possible ∙ n ∙ sym u.bound_before.possible) u.all_possible d.new_possible w.left_possible in
     same_sets_of after.stock before.stock after.part before.part after.fixture before.fixture after.sure before.sure after.possible before.possible stock part fixture is_sure is_possible
 
--- the same for a ray that is seen through its parts
+-- the sets of a ray that is seen through its parts, with the united ones in place of its marks
+pub united_inside : (i d : Sets) → i ≡ d → (all_sure all_possible sure possible : List Bool) → HaveBound (length i.stock) i
+    → length all_sure ≡ length i.sure → length all_possible ≡ length i.possible
+    → ((k : ℕ) → has all_sure k ≡ (has i.sure k || has sure k)) → ((k : ℕ) → has all_possible k ≡ (has i.possible k || has possible k))
+    → let after : Sets = record { stock = i.stock; part = i.part; fixture = i.fixture; sure = all_sure; possible = all_possible } in IsUnited d sure possible after
+united_inside i d is all_sure all_possible sure possible size ns np s p =
+    let after : Sets = record { stock = i.stock; part = i.part; fixture = i.fixture; sure = all_sure; possible = all_possible } in
+    let bound : HaveBound (length i.stock) after = record { stock = refl; part = size.part; fixture = size.fixture; sure = ns ∙ size.sure; possible = np ∙ size.possible } in
+    subst (λ (z : Sets). IsUnited z sure possible after) is
+    (record { bound_before = size; bound_after = bound; stock = refl; part = refl; fixture = refl; all_sure = s; all_possible = p })
+
+-- taking a delta back, for a ray that is seen so
 pub back_inside : (i d before : Sets) → i ≡ d → (new_sure new_possible sure possible : List Bool) (rapid : Bool) (delta : Delta) → HaveBound (length i.stock) i
     → length new_sure ≡ length i.sure → length new_possible ≡ length i.possible
     → ((k : ℕ) → has new_sure k ≡ (has i.sure k && not (has delta.sure k))) → ((k : ℕ) → has new_possible k ≡ (has i.possible k && not (has delta.possible k)))
