@@ -19,4 +19,5 @@ pub mod RayTests
 pub mod RayHalves
 pub mod RayWhole
 pub mod Reread
+pub mod Ends
 pub mod SlabBySlab

@@ -16,4 +16,4 @@ invariant_of-result c =
 pub returns : goal.returns
 returns c =
     let first = c.at_sample-first.ensures in let last = c.at_sample-last.ensures in
-    forms_of_poses c.args.sweep.now c.args.point.now c.args.scale _ _ _ _ _ _ _ first.offset last.offset first.axis last.axis c.scalar_product_on_cell.ensures c.scalar_product_on_cell-2.ensures c.scalar_product_on_cell-3.ensures
+    forms_of_poses c.args.sweep.now c.args.point.now 0 c.args.scale c.args.scale _ _ _ _ _ _ _ first.offset last.offset first.axis last.axis c.scalar_product_on_cell.ensures c.scalar_product_on_cell-2.ensures c.scalar_product_on_cell-3.ensures
