@@ -1,3 +1,5 @@
+pub mod Behind
+pub mod Planes
 pub mod Programs
 pub mod Readied
 pub mod Scripts
