@@ -3,3 +3,4 @@ pub mod Planes
 pub mod Programs
 pub mod Readied
 pub mod Scripts
+pub mod Twice
