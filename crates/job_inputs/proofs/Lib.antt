@@ -1,4 +1,5 @@
 pub mod Behind
+pub mod Highs
 pub mod Planes
 pub mod Programs
 pub mod Readied
