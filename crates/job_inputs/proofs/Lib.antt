@@ -1,3 +1,4 @@
+pub mod Allowed
 pub mod Behind
 pub mod Highs
 pub mod Planes
