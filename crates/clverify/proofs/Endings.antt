@@ -1,5 +1,5 @@
 -- How a call ends: what is due to a command is its report, or the refusal of what stopped it.
-use Rattle.std.proofs.Common.{◌≡◌, ◌⊎◌, ℕ, List, Option, Some, None, Result, Ok, Err, true, IfSome, IfOk, inl, inr, refl, ap, subst, sym, ⊎_elim, rules}
+use Rattle.std.proofs.Common.{◌≡◌, ◌⊎◌, ℕ, List, Option, Some, None, Result, Ok, Err, true, false, IfSome, IfOk, inl, inr, refl, ap, subst, sym, ⊎_elim, rules}
 use Rattle.std.specs.Io.KnownBytes.{Keeps}
 use Rattle.vf_io.specs.Files.{Files}
 use Rattle.report_text.specs.Refusals.{refusal_of}
@@ -189,3 +189,10 @@ module _ {K : Type 0} (written : K → Option (List ℕ)) (pieces : K → Option
   settled_read_fault (Err (Refused fault)) verdict h failed = absurd (refused_not_read_fault fault status h.1 failed)
   settled_read_fault (Err ReadFault) verdict h failed = refl
   settled_read_fault (Err NoMemory) verdict h failed = let e = h.0 in cc
+
+  -- where one is settled by another status, none failed to be read
+  pub settled_calm : (report : Result Answer Stopped) → Settles written pieces faults report status old new → (status ≡ ends.ReadFault → ⊥) → is_read_fault report ≡ false
+  settled_calm (Ok answer) h calm = refl
+  settled_calm (Err (Refused fault)) h calm = refl
+  settled_calm (Err ReadFault) h calm = absurd (calm h.0)
+  settled_calm (Err NoMemory) h calm = refl

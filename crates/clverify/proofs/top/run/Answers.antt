@@ -5,7 +5,7 @@ use Rattle.clverify.specs.Commands.{Command, files_of}
 use Rattle.clverify.specs.Due.{command_due, due}
 use Rattle.clverify.specs.Headline.{Answers, Hands, IsComplete}
 use Rattle.clverify.specs.Truth.{TellsTruth}
-use Rattle.clverify.proofs.Endings.{answers_due, complete_from, settled_not_usage, settled_read_fault, tells_truth, usage_complete}
+use Rattle.clverify.proofs.Endings.{answers_due, complete_from, settled_calm, settled_not_usage, settled_read_fault, tells_truth, usage_complete}
 use Rattle.clverify.proofs.top.run.Goals as goal
 
 pub report_on-report-requires-clause-allowed : goal.report_on-report-requires-clause-allowed
@@ -37,6 +37,24 @@ pub returns-in-Ok-Some-clause-usage_only : goal.returns-in-Ok-Some-clause-usage_
 returns-in-Ok-Some-clause-usage_only g c = λ usage.
     absurd (settled_not_usage g.K.Sink.written g.K.Sink.pieces g.K.Sink.faults c.settle.result c.args.sink.now c.settle.new.sink c.report_on-report.result
     c.report_on-report.ensures.verdict c.settle.ensures usage)
+
+pub returns-in-Ok-Some-clause-read_fault : goal.returns-in-Ok-Some-clause-read_fault
+returns-in-Ok-Some-clause-read_fault g c = λ failed.
+    c.report_on-report.ensures.read.rose
+    (settled_read_fault g.K.Sink.written g.K.Sink.pieces g.K.Sink.faults c.settle.result c.args.sink.now c.settle.new.sink c.report_on-report.result c.report_on-report.ensures.verdict c.settle.ensures failed)
+
+pub returns-in-Ok-Some-clause-one_failure : goal.returns-in-Ok-Some-clause-one_failure
+returns-in-Ok-Some-clause-one_failure g c = λ failed.
+    c.report_on-report.ensures.read.one
+    (settled_read_fault g.K.Sink.written g.K.Sink.pieces g.K.Sink.faults c.settle.result c.args.sink.now c.settle.new.sink c.report_on-report.result c.report_on-report.ensures.verdict c.settle.ensures failed)
+
+pub returns-in-Ok-Some-clause-calm : goal.returns-in-Ok-Some-clause-calm
+returns-in-Ok-Some-clause-calm g c = λ calm.
+    c.report_on-report.ensures.read.calm
+    (settled_calm g.K.Sink.written g.K.Sink.pieces g.K.Sink.faults c.settle.result c.args.sink.now c.settle.new.sink c.report_on-report.result c.settle.ensures calm)
+
+pub returns-in-Ok-Some-clause-files : goal.returns-in-Ok-Some-clause-files
+returns-in-Ok-Some-clause-files g c = c.report_on-report.ensures.read.kept
 
 pub returns-in-Ok-Some-clause-complete : goal.returns-in-Ok-Some-clause-complete
 returns-in-Ok-Some-clause-complete g c = λ reads_calm writes_calm.
