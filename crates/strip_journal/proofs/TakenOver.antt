@@ -25,22 +25,7 @@ pub on_err_held : (r : Result (Unit {0}) NoMemory) (P : Type 0) → P → OnErr 
 on_err_held (Ok u) P p = tt
 on_err_held (Err e) P p = p
 
--- what kept the edits twice kept them
-pub edits_still : (j m k : Journal) → HasSameEdits j m → HasSameEdits m k → HasSameEdits j k
-edits_still j m k first then = record {
-  strip = record {
-    job = then.strip.job ∙ first.strip.job;
-    number = then.strip.number ∙ first.strip.number;
-    of = then.strip.of ∙ first.strip.of;
-  };
-  changes = then.changes ∙ first.changes;
-  entries = then.entries ∙ first.entries;
-  line = then.line ∙ first.line;
-  at = then.at ∙ first.at;
-  done = then.done ∙ first.done;
-}
-
--- nor does the edit for its entry
+-- nor for its entry
 pub fits_still : (j m k : Journal) (counts : Counts) → FitsEntry j counts → HasSameEdits j m → IsStood m k → FitsEntry k counts
 fits_still j m k counts fits same stood =
     let entries = sym (stood.entries ∙ same.entries) in

@@ -6,8 +6,9 @@ use Rattle.strip_marks.specs.Marks.{IsChangeOn}
 use Rattle.strip_journal.specs.declared.entry.Hits.{Hits}
 use Rattle.strip_journal.specs.Entries.{hits_of}
 use Rattle.strip_journal.specs.Steps.{HasRoom}
+use Rattle.strip_journal.proofs.KeptSame.{same_edits_through}
 use Rattle.strip_journal.proofs.MovedAt.{on_ok}
-use Rattle.strip_journal.proofs.TakenOver.{edits_still, fits_still, on_err_held, stands_still, taken_over}
+use Rattle.strip_journal.proofs.TakenOver.{fits_still, on_err_held, stands_still, taken_over}
 use Rattle.strip_journal.proofs.Unentered.{idle_applied}
 use Rattle.strip_journal.proofs.journal.Journal.take_over.Goals as goal
 
@@ -70,7 +71,7 @@ returns-in_err-make_room-clause-rays c = on_err_held c.from_residual.result _ c.
 pub returns-in_err-stand-clause-edits : goal.returns-in_err-stand-clause-edits
 returns-in_err-stand-clause-edits c =
     on_err_held c.from_residual-in_err-stand.result _
-    (edits_still c.args.self.now c.make_room.new.self c.stand-2.new.self c.make_room.ensures.edits c.in_err-stand.ensures.edits)
+    (same_edits_through c.args.self.now c.make_room.new.self c.stand-2.new.self c.make_room.ensures.edits c.in_err-stand.ensures.edits)
 
 pub returns-in_err-stand-clause-rays : goal.returns-in_err-stand-clause-rays
 returns-in_err-stand-clause-rays c =
