@@ -42,9 +42,9 @@ abbrev pub times : ℕ → List ℕ → ℕ
 times n [] = 0
 times n (x ∷ xs) = (if x == n then 1 else 0) + times n xs
 
--- The words stand so far apart that no two share a line of the processor's cache: the ticket word first, then each strip's.
+-- The words stand so far apart that no two share a line of the processor's cache, or a pair of lines: the ticket word first, then each strip's.
 abbrev pub word_of : ℕ → ℕ
-word_of k = 8 * (k + 1)
+word_of k = 16 * (k + 1)
 
 -- 1. Of the first pass: it has the first seat, and was split once for each other seat. Beside it there is exactly one pass for each
 -- number that it has out.

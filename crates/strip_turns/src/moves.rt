@@ -18,9 +18,9 @@ use turn_core::AheadStrip;
 /// The unit of a version in a strip's word, below which misses are counted.
 const VERSION: u64 = 1 << 40;
 
-/// The words in use stand so many words apart: no two share a line of the processor's cache, so steps on different strips don't
-/// slow each other.
-pub(crate) const APART: usize = 8;
+/// The words in use stand so many words apart: no two share a line of the processor's cache, nor a pair of lines, which some processors
+/// fetch together. So steps on different strips don't slow each other.
+pub(crate) const APART: usize = 16;
 
 /// The place of a strip's word. The first word is that of the tickets.
 pub(crate) fn word_at(strip: u32) -> usize
