@@ -1,4 +1,4 @@
-use super::{USAGE, is_answered};
+use crate::answered::{USAGE, is_answered};
 use std::test::Fail;
 
 /// The longest move that there is, with the largest cutter.

@@ -1,4 +1,4 @@
-use super::{Door, is_answered_by, owned_files, stock_with};
+use crate::answered::{Door, is_answered_by, owned_files, stock_with};
 use std::alloc::Global;
 use std::sync::Wait;
 use std::sync::atomic::Ordering::SeqCst;

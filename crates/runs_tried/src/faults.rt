@@ -1,4 +1,4 @@
-use super::{CLEAN, Door, FLAT, STOCK, is_answered, is_answered_by, owned_files};
+use crate::answered::{CLEAN, Door, FLAT, STOCK, is_answered, is_answered_by, owned_files};
 use std::alloc::Global;
 use std::sync::Wait;
 use std::test::Fail;

@@ -1,4 +1,4 @@
-use super::{CLEAN, FLAT, STOCK, USAGE, is_answered, part_setup, stock_with};
+use crate::answered::{CLEAN, FLAT, STOCK, USAGE, is_answered, part_setup, stock_with};
 use std::alloc::Global;
 use std::sync::Wait;
 use std::test::Fail;

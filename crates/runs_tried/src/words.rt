@@ -1,18 +1,29 @@
-use super::{USAGE, is_answered};
-use crate::arguments::read_words;
-use crate::commands::read_command;
+use crate::answered::{USAGE, is_answered};
+use clverify::arguments::read_words;
+use clverify::status::Status;
+use clverify::verdict::verdict_of;
 use std::alloc::Global;
 use std::env::{Env, FillError};
+use std::sync::Wait;
 use std::test::Fail;
+use std::thread::Threads;
 use vf_io::NoMemory;
 
-/// Whether these words, parted by blanks, are a command.
-fn is_command(alloc: Global, words: &str) -> Result<bool, NoMemory> {
+/// Whether these words, parted by blanks, are a command: over no files, which stand for empty ones, a call that is none gets the usage
+/// line, and no other does.
+fn is_command<R: Threads + Wait + Sync>(
+    rt: &R,
+    alloc: Global,
+    words: &str,
+) -> Result<bool, NoMemory> {
     let mut texts = Vec::new(alloc);
     for word in words.split(' ') {
         texts.push(String::from_str(alloc, word)?)?;
     }
-    Ok(read_command(alloc, &texts)?.is_some())
+    match verdict_of(rt, alloc, &texts, Vec::new(alloc)) {
+        Status::NoMemory => Err(NoMemory),
+        status => Ok(status.code() != 2),
+    }
 }
 
 /// Words that are a command.
@@ -73,7 +84,7 @@ const NO_COMMANDS: [&str; 33] = [
 #[test]
 fn words_of_commands(rt: HostRuntime) -> Result<(), Fail> {
     for words in &COMMANDS {
-        assert!(rt; is_command(rt.alloc(), words)?, "the words {words:?}");
+        assert!(rt; is_command(&rt, rt.alloc(), words)?, "the words {words:?}");
     }
     Ok(())
 }
@@ -81,7 +92,7 @@ fn words_of_commands(rt: HostRuntime) -> Result<(), Fail> {
 #[test]
 fn words_of_no_command(rt: HostRuntime) -> Result<(), Fail> {
     for words in &NO_COMMANDS {
-        assert!(rt; !is_command(rt.alloc(), words)?, "the words {words:?}");
+        assert!(rt; !is_command(&rt, rt.alloc(), words)?, "the words {words:?}");
     }
     Ok(())
 }

@@ -1,19 +1,9 @@
-//! The verifier of cutter location files: its commands, from the words to the texts.
+//! The program: the verifier over the words behind its path, the current folder and standard output.
 #![tactic(auto)]
 
-mod answer;
-mod arguments;
-mod commands;
-mod job;
-mod status;
-#[cfg(test)]
-mod tests;
-mod top;
-pub mod verdict;
-
-use crate::arguments::read_words;
-use crate::status::Status;
-use crate::top::run;
+use clverify::arguments::read_words;
+use clverify::status::Status;
+use clverify::top::run;
 use std::io;
 use std::process::ExitCode;
 use vf_io::{FolderShelf, StdSink};

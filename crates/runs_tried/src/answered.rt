@@ -1,11 +1,4 @@
-mod crews;
-mod faults;
-mod points;
-mod reports;
-mod verdicts;
-mod words;
-
-use crate::top::run;
+use clverify::top::run;
 use std::alloc::Global;
 use std::sync::Wait;
 use std::sync::atomic::AtomicBool;
@@ -15,12 +8,12 @@ use vf_io::{CutShelf, MemSink, NoMemory};
 use worker_gate::Gate;
 
 /// The usage line.
-const USAGE: &str =
+pub(crate) const USAGE: &str =
     "usage: clverify list CL | point CL X Y Z --depth M [--slabs N] | verify CL SETUP [--script F] [--workers N] | selftest N\n";
 
 /// Whether a call over files with these names ends with this code and writes this text. The calls of the shelf and the puts with these
 /// numbers fail.
-fn is_answered<R: Threads + Wait + Sync>(
+pub(crate) fn is_answered<R: Threads + Wait + Sync>(
     rt: &R,
     alloc: Global,
     words: &[&str],
@@ -37,7 +30,7 @@ fn is_answered<R: Threads + Wait + Sync>(
 
 /// The same over a shelf, with workers that go through a gate. The shelf and the gate have one type in all tests, since the program is
 /// built anew for each.
-fn is_answered_by<R: Threads + Wait + Sync>(
+pub(crate) fn is_answered_by<R: Threads + Wait + Sync>(
     rt: &R,
     alloc: Global,
     words: &[&str],
@@ -59,10 +52,10 @@ const LOOKS: u32 = 100_000_000;
 
 /// A gate that lets everyone through at once, or else holds the first ticket until the ninth was entered.
 #[derive(Drop)]
-struct Door {
+pub(crate) struct Door {
     holds: bool,
     came: AtomicBool,
-    seen: AtomicBool,
+    pub(crate) seen: AtomicBool,
 }
 
 impl Gate for Door {
@@ -77,11 +70,11 @@ impl Gate for Door {
 }
 
 impl Door {
-    fn open() -> Door {
+    pub(crate) fn open() -> Door {
         Door::new(false)
     }
 
-    fn new(holds: bool) -> Door {
+    pub(crate) fn new(holds: bool) -> Door {
         Door {
             holds,
             came: AtomicBool::new(false),
@@ -100,7 +93,7 @@ impl Door {
 }
 
 /// Words as they are handed over.
-fn owned_words(alloc: Global, words: &[&str]) -> Result<Vec<String>, NoMemory> {
+pub(crate) fn owned_words(alloc: Global, words: &[&str]) -> Result<Vec<String>, NoMemory> {
     let mut owned = Vec::new(alloc);
     for word in words {
         owned.push(String::from_str(alloc, word)?)?;
@@ -109,7 +102,10 @@ fn owned_words(alloc: Global, words: &[&str]) -> Result<Vec<String>, NoMemory> {
 }
 
 /// Files as they are handed over.
-fn owned_files(alloc: Global, named: &[(&str, &[u8])]) -> Result<Vec<(String, Vec<u8>)>, NoMemory> {
+pub(crate) fn owned_files(
+    alloc: Global,
+    named: &[(&str, &[u8])],
+) -> Result<Vec<(String, Vec<u8>)>, NoMemory> {
     let mut owned = Vec::new(alloc);
     for (name, bytes) in named {
         owned.push((
@@ -121,10 +117,10 @@ fn owned_files(alloc: Global, named: &[(&str, &[u8])]) -> Result<Vec<(String, Ve
 }
 
 /// A flat cutter of 2 mm that goes 2 mm along x, a millimetre above the bottom.
-const FLAT: &[u8] = b"CUTTER/2,0\nFROM/0,1,1\nGOTO/2,1,1\nFINI\n";
+pub(crate) const FLAT: &[u8] = b"CUTTER/2,0\nFROM/0,1,1\nGOTO/2,1,1\nFINI\n";
 
 /// A stock of 2.5 by 2.5 by 1.5 mm.
-const STOCK: &[u8] = b"[grid]\n\
+pub(crate) const STOCK: &[u8] = b"[grid]\n\
 origin = [0, 0, 0]\n\
 pitch = 1000\n\
 step = 500\n\
@@ -142,7 +138,7 @@ height = 5000\n\
 box = [0, 0, 0, 2500, 2500, 1500]\n";
 
 /// The setup with another text in place of one.
-fn stock_with(alloc: Global, text: &str, other: &str) -> Result<String, NoMemory> {
+pub(crate) fn stock_with(alloc: Global, text: &str, other: &str) -> Result<String, NoMemory> {
     match std::str::from_utf8(STOCK) {
         Ok(stock) => Ok(stock.replace(alloc, text, other)?),
         Err(_) => Ok(String::new(alloc)),
@@ -150,7 +146,7 @@ fn stock_with(alloc: Global, text: &str, other: &str) -> Result<String, NoMemory
 }
 
 /// The same with a part up to where the cutter goes.
-fn part_setup(alloc: Global) -> Result<String, NoMemory> {
+pub(crate) fn part_setup(alloc: Global) -> Result<String, NoMemory> {
     stock_with(
         alloc,
         "1500]\n",
@@ -159,7 +155,7 @@ fn part_setup(alloc: Global) -> Result<String, NoMemory> {
 }
 
 /// What is due to the setup.
-const CLEAN: &str = "clverify 1\n\
+pub(crate) const CLEAN: &str = "clverify 1\n\
 moves 1 left 1 passed 0\n\
 move 1 line 3 cut removed 49 possible 49 part 0 0 fixture 0 0 rapid 0 0 safe\n\
 total removed 49 possible 49 of 108\n\

@@ -1,5 +1,5 @@
-use super::{FLAT, STOCK, owned_files, owned_words, part_setup};
-use crate::verdict::verdict_of;
+use crate::answered::{FLAT, STOCK, owned_files, owned_words, part_setup};
+use clverify::verdict::verdict_of;
 use std::alloc::Global;
 use std::sync::Wait;
 use std::test::Fail;
