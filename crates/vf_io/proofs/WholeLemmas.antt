@@ -7,7 +7,7 @@ use Rattle.std.specs.Prelude.{flat_map}
 use Rattle.std.proofs.KnownBytes.{Appends-trans}
 use Rattle.vf_io.specs.Bytes.{AddsPieces, AppendsFront}
 use Rattle.vf_io.specs.Pieces.{pieces_of}
-use Rattle.vf_io.specs.Whole.{HasPut}
+use Rattle.vf_io.specs.Whole.{HasPut, StopsInPiece}
 
 -- where the bytes that were left are told, these of them were read, and what follows them is left
 abbrev pub HasRead : Option (List ℕ) → List ℕ → Option (List ℕ) → Type 0
@@ -51,3 +51,17 @@ PutSoFar-front wo wm wn po pm text rest line behind so_far cut written =
     let front : take (length whole + n) text ≡ whole ++ take written.0 line =
     ap (λ t. take (length whole + n) t) (so_far.bytes ∙ ap (λ r. whole ++ r) cut) ∙ take-append-add whole (line ++ behind) n ∙ ap (λ f. whole ++ f) line_front in
     (length whole + n, subst (λ (f : List ℕ). Appends wo wn f) (sym front) (Appends-trans wo wm wn whole (take written.0 line) so_far.put.written written.1))
+
+-- and no piece is put behind that line
+pub PutSoFar-stops : (written_old written_mid written_new : Option (List ℕ)) (pieces_old pieces_mid pieces_new : Option (List (List ℕ))) (text rest line behind : List ℕ)
+    → PutSoFar written_old written_mid pieces_old pieces_mid text rest → pieces_of rest ≡ line ∷ pieces_of behind → AppendsFront written_mid written_new line
+    → AddsPieces pieces_mid pieces_new (line ∷ []) → StopsInPiece written_old written_new pieces_old pieces_new (pieces_of text)
+PutSoFar-stops wo wm wn po pm pn text rest line behind so_far first written put = record {
+  whole = so_far.whole;
+  failed = line;
+  left = pieces_of behind;
+  length = written.0;
+  order = so_far.order ∙ ap (λ more. so_far.whole ++ more) first;
+  written = Appends-trans wo wm wn (flat_map (λ piece. piece) so_far.whole) (take written.0 line) so_far.put.written written.1;
+  put = AddsPieces-append po pm pn so_far.whole (line ∷ []) so_far.put.put put;
+}
