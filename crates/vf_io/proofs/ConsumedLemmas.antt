@@ -1,5 +1,5 @@
 -- What a read takes that consumes told bytes.
-use Rattle.std.proofs.Common.{◌≡◌, ℕ, ◌+◌, ◌++◌, ◌<◌, ◌≤◌, take, drop, length, List, [], Option, Some, None, IfSome, Result, Ok, Err, min, arith, sym, ap, ◌∙◌, refl, length-append, length-take}
+use Rattle.std.proofs.Common.{◌≡◌, ℕ, ◌+◌, ◌++◌, ◌<◌, ◌≤◌, take, drop, length, List, [], Option, Some, None, IfSome, Result, Ok, arith, sym, ap, ◌∙◌, length-append, length-take}
 use Rattle.std.proofs.Math.Seq.{take-append_seam, drop-append_seam}
 use Rattle.std.specs.Io.{ReadsAtMost}
 use Rattle.std.specs.Io.KnownBytes.{ReadConsumes, Consumes, IsAtEnd}

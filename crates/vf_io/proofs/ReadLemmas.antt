@@ -1,5 +1,5 @@
 -- What was read of a file so far, where one more read takes bytes, or finds that none are left.
-use Rattle.std.proofs.Common.{◌≡◌, ◌↔◌, ℕ, ◌++◌, take, drop, List, [], Option, Some, None, IfSome, sym, ap, ◌∙◌, append_assoc}
+use Rattle.std.proofs.Common.{◌≡◌, ◌↔◌, ℕ, ◌+◌, ◌<◌, ◌++◌, take, drop, length, List, [], Option, Some, None, IfSome, sym, ap, ◌∙◌, append_assoc, arith, length-append}
 use Rattle.std.proofs.lemmas.List.{append-nil, take-append-drop}
 use Rattle.vf_io.specs.Reading.{TakesBytes}
 use Rattle.vf_io.proofs.WholeLemmas.{HasRead}
@@ -28,6 +28,16 @@ HasRead-more (Some told) (Some unread) new read buffer n so_far takes =
     let is = so_far.1 in
     let left : so_far.0 ≡ unread = cc in
     (drop n unread, takes.rest, append_assoc read (take n buffer) (drop n unread) ∙ ap (λ more. read ++ more) (ap (λ front. front ++ drop n unread) takes.front ∙ take-append-drop n unread) ∙ ap (λ more. read ++ more) (sym left) ∙ so_far.2)
+
+-- a read beyond the limit shows that the file is longer
+pub HasRead-longer : (before now new : Option (List ℕ)) (read buffer : List ℕ) (n limit : ℕ) → limit < length read + n → HasRead before read now → IfSome now (λ told. TakesBytes told new buffer n) → IfSome before (λ told. limit < length told)
+HasRead-longer None now new read buffer n limit beyond so_far takes = tt
+HasRead-longer (Some told) None new read buffer n limit beyond so_far takes = absurd (let is = so_far.1 in cc)
+HasRead-longer (Some told) (Some unread) new read buffer n limit beyond so_far takes =
+    let is = so_far.1 in
+    let left : so_far.0 ≡ unread = cc in
+    let whole : length told ≡ length read + length unread = ap length (sym so_far.2) ∙ length-append read so_far.0 ∙ ap (λ more. length read + length more) left in
+    omega (arith, takes.within)
 
 -- what may be opened stays so over two calls
 pub allows-then : {A B C : Type 0} → (A ↔ B) → (B ↔ C) → A ↔ C

@@ -1,7 +1,7 @@
 -- A failed read is the first that failed, and a read that takes nothing ends the file.
 use Rattle.std.proofs.Common.{arith, ap, ◌∙◌, length-take}
 use Rattle.vf_io.specs.Causes.{one_more_failure}
-use Rattle.vf_io.proofs.ReadLemmas.{HasRead-whole, HasRead-ended, HasRead-more, allows-then}
+use Rattle.vf_io.proofs.ReadLemmas.{HasRead-whole, HasRead-ended, HasRead-longer, HasRead-more, allows-then}
 use Rattle.vf_io.proofs.whole_file.read_open.Goals as goal
 
 pub returns-in_default-clause-failed : goal.returns-in_default-clause-failed
@@ -24,6 +24,36 @@ returns-then-count-eq0-clause-bytes g c = HasRead-whole _ _ _ _ _ _ c.if-count-e
 
 pub returns-then-count-eq0-clause-to_the_end : goal.returns-then-count-eq0-clause-to_the_end
 returns-then-count-eq0-clause-to_the_end g c = HasRead-ended _ _ _ _ _ _ c.if-count-eq0.true c.loop-count.invariant.read (c.in-Ok.ensures.bytes c.loop-count.invariant.opened)
+
+pub returns-then-count-eq0-clause-calm : goal.returns-then-count-eq0-clause-calm
+returns-then-count-eq0-clause-calm g c = λ _. c.in-Ok.ensures.calm ∙ c.loop-count.invariant.calm
+
+pub returns-then-count-eq0-clause-files : goal.returns-then-count-eq0-clause-files
+returns-then-count-eq0-clause-files g c = c.in-Ok.ensures.files ∙ c.loop-count.invariant.files
+
+pub returns-then-count-eq0-clause-allows : goal.returns-then-count-eq0-clause-allows
+returns-then-count-eq0-clause-allows g c = λ name. allows-then (c.loop-count.invariant.allows name) (c.in-Ok.ensures.allows name)
+
+pub returns-then-count-limit-clause-too_long : goal.returns-then-count-limit-clause-too_long
+returns-then-count-limit-clause-too_long g c = λ _. HasRead-longer _ _ _ _ _ c.in-Ok.count c.args.limit (omega arith) c.loop-count.invariant.read (c.in-Ok.ensures.bytes c.loop-count.invariant.opened)
+
+pub returns-then-count-limit-clause-calm : goal.returns-then-count-limit-clause-calm
+returns-then-count-limit-clause-calm g c = λ _. c.in-Ok.ensures.calm ∙ c.loop-count.invariant.calm
+
+pub returns-then-count-limit-clause-files : goal.returns-then-count-limit-clause-files
+returns-then-count-limit-clause-files g c = c.in-Ok.ensures.files ∙ c.loop-count.invariant.files
+
+pub returns-then-count-limit-clause-allows : goal.returns-then-count-limit-clause-allows
+returns-then-count-limit-clause-allows g c = λ name. allows-then (c.loop-count.invariant.allows name) (c.in-Ok.ensures.allows name)
+
+pub returns-then-is_err-clause-calm : goal.returns-then-is_err-clause-calm
+returns-then-is_err-clause-calm g c = λ _. c.in-Ok.ensures.calm ∙ c.loop-count.invariant.calm
+
+pub returns-then-is_err-clause-files : goal.returns-then-is_err-clause-files
+returns-then-is_err-clause-files g c = c.in-Ok.ensures.files ∙ c.loop-count.invariant.files
+
+pub returns-then-is_err-clause-allows : goal.returns-then-is_err-clause-allows
+returns-then-is_err-clause-allows g c = λ name. allows-then (c.loop-count.invariant.allows name) (c.in-Ok.ensures.allows name)
 
 pub loop-count-preserved : goal.loop-count-preserved
 loop-count-preserved g c =
