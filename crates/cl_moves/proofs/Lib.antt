@@ -3,3 +3,4 @@ pub mod BackLemmas
 pub mod FoldLemmas
 pub mod PassedLemmas
 pub mod ProductLemmas
+pub mod MadeLemmas
