@@ -2,11 +2,14 @@
 use Rattle.std.proofs.Common.{◌≡◌, ℕ, List, length, Bool, not, ◌&&◌, ap, ◌∙◌, subst}
 use Rattle.std.specs.List.{range_with_len}
 use Rattle.vf_spans.specs.Members.{has, count_below}
+use Rattle.vf_spans.specs.Words.{has_bit}
 use Rattle.job_facts.specs.declared.counts.Counts.{Counts}
 use Rattle.std.proofs.lemmas.List.Sums.{count_by-le-length}
 use Rattle.job_facts.specs.Counts.{AreWithin}
 use Rattle.dexel_rays.specs.Findings.{Seen, findings, is_removed, is_new_possible, is_part_sure, is_part_possible, is_fixture_sure, is_fixture_possible, is_rapid_sure, is_rapid_possible}
 use Rattle.dexel_rays.specs.Sets.{Sets, HaveBound, seen_at}
+use Rattle.dexel_rays.specs.WordSets.{seen_bit}
+use Rattle.dexel_rays.specs.declared.word_sets.WordSets.{WordSets}
 
 -- how many indices two sets have, and how many the first two have and the third has not
 abbrev pub both : List Bool → List Bool → ℕ
@@ -41,6 +44,18 @@ found_is i d is sure possible rapid a b c e f g h k size ia ib ic ie jf jg jh jk
     let counts : Counts = record { removed = a; possible = b; part_sure = c; part_possible = e; fix_sure = f; fix_possible = g; rapid_sure = h; rapid_possible = k } in
     subst (λ (z : Sets). counts ≡ findings (seen_at z sure possible rapid) (range_with_len 0 (length z.stock))) is
     (at i sure possible rapid a b c e f g h k size ia ib ic ie jf jg jh jk)
+
+-- the same for points that are the bits of words
+pub word_found_is : (n : ℕ) (w : WordSets) (sure possible : ℕ) (rapid : Bool) (a b c e f g h k : ℕ)
+    → a ≡ count_below n (λ i. has_bit w.stock i && (has_bit sure i && not (has_bit w.sure i)))
+    → b ≡ count_below n (λ i. has_bit w.stock i && (has_bit possible i && not (has_bit w.possible i)))
+    → c ≡ count_below n (λ i. has_bit w.part i && has_bit sure i) → e ≡ count_below n (λ i. has_bit w.part i && has_bit possible i)
+    → f ≡ count_below n (λ i. has_bit w.fixture i && has_bit sure i) → g ≡ count_below n (λ i. has_bit w.fixture i && has_bit possible i)
+    → h ≡ count_below n (λ i. rapid && (has_bit w.stock i && (has_bit sure i && not (has_bit w.possible i))))
+    → k ≡ count_below n (λ i. rapid && (has_bit w.stock i && (has_bit possible i && not (has_bit w.sure i))))
+    → let counts : Counts = record { removed = a; possible = b; part_sure = c; part_possible = e; fix_sure = f; fix_possible = g; rapid_sure = h; rapid_possible = k } in
+    counts ≡ findings (seen_bit w sure possible rapid) (range_with_len 0 n)
+word_found_is n w sure possible rapid a b c e f g h k ia ib ic ie jf jg jh jk = cc
 
 -- no count is above the number of points
 pub findings_within : {P : Type 0} → (see : P → Seen) (points : List P) → AreWithin (length points) (findings see points)

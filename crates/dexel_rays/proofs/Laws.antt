@@ -113,24 +113,16 @@ united_inside i d is all_sure all_possible sure possible size ns np s p =
     subst (λ (z : Sets). IsUnited z sure possible after) is
     (record { bound_before = size; bound_after = bound; stock = refl; part = refl; fixture = refl; all_sure = s; all_possible = p })
 
--- taking a delta back, for a ray that is seen so
-pub back_inside : (i d before : Sets) → i ≡ d → (new_sure new_possible sure possible : List Bool) (rapid : Bool) (delta : Delta) → HaveBound (length i.stock) i
+-- the same without the indices of a delta
+pub without_inside : (i d : Sets) → i ≡ d → (new_sure new_possible : List Bool) (delta : Delta) → HaveBound (length i.stock) i
     → length new_sure ≡ length i.sure → length new_possible ≡ length i.possible
     → ((k : ℕ) → has new_sure k ≡ (has i.sure k && not (has delta.sure k))) → ((k : ℕ) → has new_possible k ≡ (has i.possible k && not (has delta.possible k)))
-    → IsUnited before sure possible d → IsDelta before sure possible rapid delta
-    → let after : Sets = record { stock = i.stock; part = i.part; fixture = i.fixture; sure = new_sure; possible = new_possible } in after ≡ before
-back_inside i d before is new_sure new_possible sure possible rapid delta size ns np s p u e =
+    → let after : Sets = record { stock = i.stock; part = i.part; fixture = i.fixture; sure = new_sure; possible = new_possible } in IsWithout d delta after
+without_inside i d is new_sure new_possible delta size ns np s p =
     let after : Sets = record { stock = i.stock; part = i.part; fixture = i.fixture; sure = new_sure; possible = new_possible } in
-    taken_back before i after sure possible rapid delta
-    (record {
-      bound_after = record { stock = refl; part = size.part; fixture = size.fixture; sure = ns ∙ size.sure; possible = np ∙ size.possible };
-      stock = refl;
-      part = refl;
-      fixture = refl;
-      left_sure = s;
-      left_possible = p;
-    })
-    (subst (λ (z : Sets). IsUnited before sure possible z) (sym is) u) e
+    let bound : HaveBound (length i.stock) after = record { stock = refl; part = size.part; fixture = size.fixture; sure = ns ∙ size.sure; possible = np ∙ size.possible } in
+    subst (λ (z : Sets). IsWithout z delta after) is
+    (record { bound_after = bound; stock = refl; part = refl; fixture = refl; left_sure = s; left_possible = p })
 
 pub none_counted : {X : Type 0} → (p : X → Bool) → ((x : X) → p x ≡ false) → (xs : List X) → count_by p xs ≡ 0
 none_counted p none [] = refl
