@@ -1,3 +1,4 @@
+use Rattle.std.proofs.Common.{arith}
 use Rattle.near_points.specs.Rays.{near_ray_at}
 use Rattle.strip_marks.specs.Marks.{sets_of}
 use Rattle.strip_marks.specs.RayMarks.{IsUnasked}
@@ -20,3 +21,6 @@ loop-n-preserved c =
     ] in
     unasked_more a.near.now a.rays.now a.window a.from n c.loop-n.invariant
     (unasked_left near d a.window left c.unsettled-left.ensures none)
+
+pub returns-clause-none : goal.returns-clause-none
+returns-clause-none c = λ n from below. c.loop-n.invariant n from (omega (arith, below, c.loop-n-test.false))
