@@ -1,5 +1,8 @@
-use Rattle.std.proofs.Common.{ℕ, ◌≡◌, ◌<◌, ◌≤◌, ◌+◌, ◌<ℤ◌, length, get_or, arith, rules}
+use Rattle.std.proofs.Common.{ℕ, ◌≡◌, ◌<◌, ◌≤◌, ◌+◌, FitsSigned, int_lt, length, get_or, arith, rules, ap₂, sym, ◌∙◌}
+use Rattle.std.proofs.lemmas.Int.{to_z-of_z}
 use Rattle.std.proofs.lemmas.List.Elements.{Contains-get_or}
+use mir.Syntax.{w64}
+use Rattle.space.proofs.Tests.{decides_lt}
 use Rattle.sweep_boxes.specs.declared.level.Level.{Level}
 use Rattle.near_points.proofs.trim.level_above.Goals as goal
 
@@ -11,8 +14,9 @@ pub returns-then-height-level : goal.returns-then-height-level
 returns-then-height-level c =
     let levels = c.args.levels.now in let half = c.passed_over-half in let quarter = c.passed_over-quarter in let rest = c.passed_over-rest in
     let level : Level = get_or levels ((half.result + quarter.result) + rest.result) c.index-levels-half.result in
-    let above : c.args.height <ℤ level.height = search rules in (
+    let fits : FitsSigned w64 level.height = search rules in
+    let told = ap₂ int_lt (to_z-of_z w64 c.args.height c.ranges.height) (to_z-of_z w64 level.height fits) in (
       Contains-get_or levels _ c.index-levels-half.result
           (within_eight (length levels) half.result quarter.result rest.result c.told-levels half.ensures quarter.ensures rest.ensures),
-      above,
+      (decides_lt c.args.height level.height).0 (sym told ∙ c.if-height-level.true),
     )
