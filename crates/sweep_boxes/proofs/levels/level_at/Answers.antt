@@ -2,6 +2,8 @@ use Rattle.std.proofs.Common.{◌≡◌, ◌≤◌, ◌≤ℤ◌, ◌<ℤ◌, �
 use Rattle.std.proofs.lemmas.Int.{ints, to_z-of_z}
 use mir.Syntax.{w64, w128}
 use borrow.Author.Differences.{abs_is}
+use Rattle.sweep_boxes.specs.Pieces.{offset_from}
+use Rattle.sweep_boxes.proofs.Leveled.{on_unused}
 use Rattle.sweep_boxes.proofs.Stepped.{on_level}
 use Rattle.sweep_boxes.proofs.Words.{fits_of, kept_small, kept_some, not_below, same64, small_up_to}
 use Rattle.sweep_boxes.proofs.levels.level_at.Goals as goal
@@ -97,3 +99,16 @@ returns c m k S slabs side far p of ladder step near left above =
     (to_z-of_z w64 c.short.result x ∙ height)
     (to_z-of_z w64 c.short-2.result y ∙ c.short-2.ensures ∙ to_z-of_z w128 moment f3)
     (to_z-of_z w64 c.short-3.result z ∙ c.short-3.ensures ∙ to_z-of_z w128 across f4)
+
+-- one that isn't used
+pub returns-then-rise-ladder : goal.returns-then-rise-ladder
+returns-then-rise-ladder c = λ m k S slabs side far p made ladder step near left above.
+    let piece = c.args.piece.now in
+    on_unused c.unused.result c.args.least side (offset_from (pos piece.scale) piece.tip p) piece.axis
+    (c.unused.ensures ∙ to_z-of_z w64 c.args.least c.ranges.least) above
+
+pub returns-then-across-gt4000000000000000000 : goal.returns-then-across-gt4000000000000000000
+returns-then-across-gt4000000000000000000 c = λ m k S slabs side far p made ladder step near left above.
+    let piece = c.args.piece.now in let unused = c.unused-then-across-gt4000000000000000000 in
+    on_unused unused.result c.args.least side (offset_from (pos piece.scale) piece.tip p) piece.axis
+    (unused.ensures ∙ to_z-of_z w64 c.args.least c.ranges.least) above
