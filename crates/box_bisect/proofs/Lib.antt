@@ -19,5 +19,6 @@ pub mod RayTests
 pub mod RayHalves
 pub mod RayWhole
 pub mod Reread
+pub mod Lengths
 pub mod Ends
 pub mod SlabBySlab

@@ -5,6 +5,7 @@ use Rattle.bern_form.specs.Cells.{scaled_square}
 use Rattle.bern_form.specs.Grids.{rows_positive}
 use Rattle.bern_form.specs.Slab.{SlabSize}
 use Rattle.box_bisect.specs.RayBoxes.{grid_less, is_excluded_by_grids}
+use Rattle.box_bisect.proofs.Lengths.{lengths_small}
 use Rattle.box_bisect.proofs.RayFitting.{last_of_four, second_of_four, third_of_four}
 use Rattle.box_bisect.proofs.ray.box_limits.BoxLimits.excludes.Goals as goal
 
@@ -32,3 +33,12 @@ returns c =
     subst (λ (slab : SlabSize). c.is_beside.result ≡ is_excluded_by_grids k.scale k.is_behind k.raised.c h.first.c h.middle.c h.last.c w.first.c w.middle.c w.last.c slab) c.slab.view_is
     ((simp to_z-of_z at c.is_beside.ensures)
     ∙ last_of_four _ _ _ _ c.if-self.false (sym (simp to_z-of_z at c.is_below.ensures) ∙ c.if-is_below.false) (sym (simp to_z-of_z at c.is_above.ensures) ∙ c.if-is_above.false))
+
+pub is_below-requires : goal.is_below-requires
+is_below-requires c = (lengths_small _ c.slab.invariant).lo
+
+pub is_above-requires : goal.is_above-requires
+is_above-requires c = (lengths_small _ c.slab.invariant).hi
+
+pub is_beside-requires : goal.is_beside-requires
+is_beside-requires c = (lengths_small _ c.slab.invariant).dia

@@ -1,8 +1,11 @@
-use Rattle.std.proofs.Common.{FitsSigned, ap, ◌∙◌}
+-- The square of a length is small, and what is known of it as a word is so of it.
+use Rattle.std.proofs.Common.{◌*◌, FitsSigned, arith, ap, ◌∙◌}
 use Rattle.std.proofs.lemmas.Int.{to_z-of_z}
 use mir.Syntax.{w128}
 use Rattle.bern_form.specs.Grids.{rows_positive}
+use Rattle.bern_form.specs.Sizes.{length_limit}
 use Rattle.box_bisect.specs.RayBoxes.{grid_less}
+use Rattle.box_bisect.proofs.Reread.{small_back}
 use Rattle.box_bisect.proofs.ray.box_limits.BoxLimits.is_beside.Goals as goal
 
 pub returns : goal.returns
@@ -11,3 +14,6 @@ returns c =
     let square : FitsSigned w128 c.scaled_square.result = record { sfits = c.scaled_square.type_inv } in
     c.all_positive.ensures.exact
     ∙ ap rows_positive ((simp to_z-of_z at c.less.ensures) ∙ ap (λ z. grid_less k.raised.c z q.first.c q.middle.c q.last.c) (simp to_z-of_z at c.scaled_square.ensures.square))
+
+pub less-requires-clause-limit : goal.less-requires-clause-limit
+less-requires-clause-limit c = small_back w128 c.scaled_square.result (length_limit * length_limit) (omega arith) c.scaled_square.ensures.small
