@@ -13,3 +13,12 @@ returns-clause-exact c =
     let side = c.args.self.now in let part = c.args.part in
     let first = told_not c.is_within.result c.is_within.ensures c.if-is_within.false in let last = told_not c.is_within-2.result c.is_within-2.ensures c.if-is_within-3.false in
     λ l. (λ p. absurd (let low = p.0 in let high = p.1 in omega arith), λ p. absurd (let low = p.0 in let high = p.1 in both_beyond side.start side.slope side.limit part.lo (part.hi - 1) l first last low (omega arith) p.2))
+
+pub returns-then-is_within-3-clause-exact : goal.returns-then-is_within-3-clause-exact
+returns-then-is_within-3-clause-exact c =
+    let part = c.args.part in let back = c.steps_down in let inside = back.ensures.inside in
+    λ l. (
+      λ p. let low = p.0 in let high = p.1 in
+          (omega (arith, low, inside), high, (back.ensures.exact l (omega (arith, high))).0 (omega (arith, low, inside))),
+      λ p. let high = p.1 in let reached = (back.ensures.exact l (omega (arith, high))).1 p.2 in (omega (arith, reached, inside), high),
+    )
