@@ -22,3 +22,4 @@ pub mod Reread
 pub mod Lengths
 pub mod Ends
 pub mod SlabBySlab
+pub mod Coefficients

@@ -1,12 +1,12 @@
 -- The halving of a form is what it is to be, and no number in it is too great.
-use Rattle.std.proofs.Common.{◌≤◌, ◌*◌, ℤ, FitsSigned, to_z, of_z, unsigned_abs, arith, rules, refl, subst, sym}
+use Rattle.std.proofs.Common.{FitsSigned, rules, refl, subst, sym}
 use Rattle.std.proofs.lemmas.Int.{to_z-of_z}
 use mir.Syntax.{w128}
 use Rattle.space.specs.Vectors.{at}
 use Rattle.space.proofs.Facts.{back}
-use Rattle.bern_form.specs.Sizes.{IsBounded2, offset_limit}
+use Rattle.bern_form.specs.Sizes.{IsBounded2}
 use Rattle.box_bisect.proofs.Halving.{first_small}
-use Rattle.box_bisect.proofs.Reread.{small_back}
+use Rattle.box_bisect.proofs.Coefficients.{end_small, middle_small}
 use Rattle.box_bisect.proofs.halves.first_half.Goals as goal
 
 pub returns-clause-half : goal.returns-clause-half
@@ -17,13 +17,6 @@ returns-clause-half c =
 
 pub returns-clause-small : goal.returns-clause-small
 returns-clause-small c m h = subst (IsBounded2 m) (sym (returns-clause-half c)) (first_small c.args.form.now.c m h)
-
--- the coefficients are small, read again from their bits too
-end_small : (z : ℤ) → unsigned_abs z ≤ 3 * (offset_limit * offset_limit) → unsigned_abs (to_z w128 (of_z w128 z)) ≤ 3 * (offset_limit * offset_limit)
-end_small z h = small_back w128 z (3 * (offset_limit * offset_limit)) (omega arith) h
-
-middle_small : (z : ℤ) → unsigned_abs z ≤ 2 * (3 * (offset_limit * offset_limit)) → unsigned_abs (to_z w128 (of_z w128 z)) ≤ 6 * (offset_limit * offset_limit)
-middle_small z h = small_back w128 z (2 * (3 * (offset_limit * offset_limit))) (omega arith) h
 
 pub half_sum-requires : goal.half_sum-requires
 half_sum-requires c =
