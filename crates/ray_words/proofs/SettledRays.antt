@@ -59,3 +59,21 @@ settled_set rays ranges n ray h low none = record {
       (h.none m d (omega (arith, lt, length-set rays n ray))))
       (cases_eq m n);
 }
+
+-- and where it is given a range that is settled
+pub settled_both : (rays : List KeptSets) (ranges : List (ℕ × ℕ)) (n : ℕ) (ray : KeptSets) (range : ℕ × ℕ) → AreSettled rays ranges
+    → n < length rays → HasNoneWanted ray.sets range → AreSettled (set rays n ray) (set ranges n range)
+settled_both rays ranges n ray range h low none = record {
+  many = length-set ranges n range ∙ h.many ∙ sym (length-set rays n ray);
+  none = λ m d lt.
+      ⊎_elim
+      (λ (e : m ≡ n).
+      subst (λ (k : ℕ). HasNoneWanted (kept_at (set rays n ray) k).sets (get_or (set ranges n range) k d)) (sym e)
+      (subst (λ (r : KeptSets). HasNoneWanted r.sets (get_or (set ranges n range) n d)) (sym (kept_set rays n ray low))
+      (subst (λ (s : ℕ × ℕ). HasNoneWanted ray.sets s) (sym (get_or-set_same ranges n range d (omega (arith, low, h.many)))) none)))
+      (λ (other : m ≢ n).
+      subst (λ (r : KeptSets). HasNoneWanted r.sets (get_or (set ranges n range) m d)) (sym (get_or-set_other rays n m ray no_ray other))
+      (subst (λ (s : ℕ × ℕ). HasNoneWanted (kept_at rays m).sets s) (sym (get_or-set_other ranges n m range d other))
+      (h.none m d (omega (arith, lt, length-set rays n ray)))))
+      (cases_eq m n);
+}
