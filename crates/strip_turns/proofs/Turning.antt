@@ -127,3 +127,27 @@ module _ (b : Board) (k from to : ℕ) (old mid new : Seat (Option StripOf) View
       held = ap (λ m. m.0.held) back.me;
       slots = ap (λ m. m.1) back.me;
     }
+
+    -- where it was worked on, and then given back
+    pub turn_ended : {X : Type 0} → X → (seat : Seat (Option StripOf) View) → IsBack b k from to new seat → (Tripped (card b) k from to old.me.0 seat.me.0 × X) × IsIdle b seat
+    turn_ended how seat back = ((turn_tripped seat back, how), turn_idle seat back)
+
+module _ (b : Board) (k from to : ℕ) (old mid new : Seat (Option StripOf) View) (took : (taken : StripOf) × TookIn b k old mid taken) (idle : IsIdle b old)
+    (own : new.table_id ≡ mid.table_id) (view : new.me.0 ≡ mid.me.0) where
+  -- a turn that did all its edits
+  module _ (worked : HasStrip mid.me k (λ before. HasStrip new.me k (λ after. Worked b.plan before after (Ok (from, to))))) where
+    pub lies_done : (strip : StripOf) × IsIn b k from to new strip
+    lies_done = let t = all_done b k from to old mid new took.0 took.1 worked in (t.0, lies_further b k from to old mid new took.0 took.1 idle own view t.0 t.1)
+
+    pub ended_done : (seat : Seat (Option StripOf) View) → IsBack b k from to new seat
+        → (Tripped (card b) k from to old.me.0 seat.me.0 × (to ≡ min (from + 8) (last (card b)))) × IsIdle b seat
+    ended_done = let t = all_done b k from to old mid new took.0 took.1 worked in turn_ended b k from to old mid new took.0 took.1 idle own view t.0 t.1 t.2
+
+  -- one that stopped short
+  module _ (worked : HasStrip mid.me k (λ before. HasStrip new.me k (λ after. Worked b.plan before after (Err (from, to))))) where
+    pub lies_stopped : (strip : StripOf) × IsIn b k from to new strip
+    lies_stopped = let t = part_done b k from to old mid new took.0 took.1 worked in (t.0, lies_further b k from to old mid new took.0 took.1 idle own view t.0 t.1)
+
+    pub ended_stopped : (seat : Seat (Option StripOf) View) → IsBack b k from to new seat
+        → (Tripped (card b) k from to old.me.0 seat.me.0 × (to < min (from + 8) (last (card b)))) × IsIdle b seat
+    ended_stopped = let t = part_done b k from to old mid new took.0 took.1 worked in turn_ended b k from to old mid new took.0 took.1 idle own view t.0 t.1 t.2

@@ -1,6 +1,6 @@
 -- A turn takes the strip, works on it in its slot, and gives it back.
 use Rattle.std.proofs.Common.{ap}
-use Rattle.strip_turns.proofs.Turning.{all_done, part_done, lies_there, lies_further, turn_tripped, turn_idle, missed_idle}
+use Rattle.strip_turns.proofs.Turning.{ended_done, ended_stopped, lies_done, lies_stopped, lies_there, missed_idle}
 use Rattle.strip_turns.proofs.board.Board.turn.Goals as goal
 
 pub hold-requires : goal.hold-requires
@@ -8,75 +8,44 @@ hold-requires c = record { idle = c.requires.pass; strip = c.requires.strip; few
 
 pub turn_held-requires : goal.turn_held-requires
 turn_held-requires c =
-    let b = c.args.self.now in
     let took = c.if-not-hold.ensures.told in
     record {
       own = took.1.own;
-      held = lies_there b c.args.strip 0 0 c.args.pass.now.seat c.hold.new.seat c.hold.new.seat took.0 took.1;
+      held = lies_there c.args.self.now c.args.strip 0 0 c.args.pass.now.seat c.hold.new.seat c.hold.new.seat took.0 took.1;
     }
 
 pub give_back-requires : goal.give_back-requires
 give_back-requires c =
-    let b = c.args.self.now in
-    let k = c.args.strip in
-    let old = c.args.pass.now.seat in
-    let mid = c.hold.new.seat in
-    let new = c.turn_held.new.seat in
-    let took = c.if-not-hold.ensures.told in
     let e = c.in-Ok.ensures in
-    let t = all_done b k c.in-Ok.from c.in-Ok.to old mid new took.0 took.1 e.worked in
     record {
       strip = c.requires.strip;
-      held = (t.0, lies_further b k c.in-Ok.from c.in-Ok.to old mid new took.0 took.1 c.requires.pass e.own e.view t.0 t.1);
+      held = lies_done c.args.self.now c.args.strip c.in-Ok.from c.in-Ok.to c.args.pass.now.seat c.hold.new.seat c.turn_held.new.seat c.if-not-hold.ensures.told
+          c.requires.pass e.own e.view e.worked;
     }
 
 pub returns-in-Ok-clause-pass : goal.returns-in-Ok-clause-pass
 returns-in-Ok-clause-pass c =
-    let b = c.args.self.now in
-    let k = c.args.strip in
-    let old = c.args.pass.now.seat in
-    let mid = c.hold.new.seat in
-    let new = c.turn_held.new.seat in
-    let took = c.if-not-hold.ensures.told in
     let e = c.in-Ok.ensures in
-    let t = all_done b k c.in-Ok.from c.in-Ok.to old mid new took.0 took.1 e.worked in
-    turn_idle b k c.in-Ok.from c.in-Ok.to old mid new took.0 took.1 c.requires.pass e.own e.view t.0 t.1 c.give_back.new.seat c.give_back.ensures
+    (ended_done c.args.self.now c.args.strip c.in-Ok.from c.in-Ok.to c.args.pass.now.seat c.hold.new.seat c.turn_held.new.seat c.if-not-hold.ensures.told
+    c.requires.pass e.own e.view e.worked c.give_back.new.seat c.give_back.ensures).1
 
 pub returns-in-Ok-clause-told : goal.returns-in-Ok-clause-told
 returns-in-Ok-clause-told c =
-    let b = c.args.self.now in
-    let k = c.args.strip in
-    let old = c.args.pass.now.seat in
-    let mid = c.hold.new.seat in
-    let new = c.turn_held.new.seat in
-    let took = c.if-not-hold.ensures.told in
     let e = c.in-Ok.ensures in
-    let t = all_done b k c.in-Ok.from c.in-Ok.to old mid new took.0 took.1 e.worked in
-    (turn_tripped b k c.in-Ok.from c.in-Ok.to old mid new took.0 took.1 c.requires.pass e.own e.view t.0 t.1 c.give_back.new.seat c.give_back.ensures, t.2)
+    (ended_done c.args.self.now c.args.strip c.in-Ok.from c.in-Ok.to c.args.pass.now.seat c.hold.new.seat c.turn_held.new.seat c.if-not-hold.ensures.told
+    c.requires.pass e.own e.view e.worked c.give_back.new.seat c.give_back.ensures).0
 
 pub returns-in-Err-clause-pass : goal.returns-in-Err-clause-pass
 returns-in-Err-clause-pass c =
-    let b = c.args.self.now in
-    let k = c.args.strip in
-    let old = c.args.pass.now.seat in
-    let mid = c.hold.new.seat in
-    let new = c.turn_held.new.seat in
-    let took = c.if-not-hold.ensures.told in
     let e = c.in-Err.ensures in
-    let t = part_done b k c.in-Err.from c.in-Err.to old mid new took.0 took.1 e.worked in
-    turn_idle b k c.in-Err.from c.in-Err.to old mid new took.0 took.1 c.requires.pass e.own e.view t.0 t.1 c.give_back-in-Err.new.seat c.give_back-in-Err.ensures
+    (ended_stopped c.args.self.now c.args.strip c.in-Err.from c.in-Err.to c.args.pass.now.seat c.hold.new.seat c.turn_held.new.seat c.if-not-hold.ensures.told
+    c.requires.pass e.own e.view e.worked c.give_back-in-Err.new.seat c.give_back-in-Err.ensures).1
 
 pub returns-in-Err-clause-told : goal.returns-in-Err-clause-told
 returns-in-Err-clause-told c =
-    let b = c.args.self.now in
-    let k = c.args.strip in
-    let old = c.args.pass.now.seat in
-    let mid = c.hold.new.seat in
-    let new = c.turn_held.new.seat in
-    let took = c.if-not-hold.ensures.told in
     let e = c.in-Err.ensures in
-    let t = part_done b k c.in-Err.from c.in-Err.to old mid new took.0 took.1 e.worked in
-    (turn_tripped b k c.in-Err.from c.in-Err.to old mid new took.0 took.1 c.requires.pass e.own e.view t.0 t.1 c.give_back-in-Err.new.seat c.give_back-in-Err.ensures, t.2)
+    (ended_stopped c.args.self.now c.args.strip c.in-Err.from c.in-Err.to c.args.pass.now.seat c.hold.new.seat c.turn_held.new.seat c.if-not-hold.ensures.told
+    c.requires.pass e.own e.view e.worked c.give_back-in-Err.new.seat c.give_back-in-Err.ensures).0
 
 pub returns-then-not-hold-clause-told : goal.returns-then-not-hold-clause-told
 returns-then-not-hold-clause-told c =
@@ -90,15 +59,9 @@ returns-then-not-hold-clause-pass c =
 
 pub give_back-requires-in-Err : goal.give_back-requires-in-Err
 give_back-requires-in-Err c =
-    let b = c.args.self.now in
-    let k = c.args.strip in
-    let old = c.args.pass.now.seat in
-    let mid = c.hold.new.seat in
-    let new = c.turn_held.new.seat in
-    let took = c.if-not-hold.ensures.told in
     let e = c.in-Err.ensures in
-    let t = part_done b k c.in-Err.from c.in-Err.to old mid new took.0 took.1 e.worked in
     record {
       strip = c.requires.strip;
-      held = (t.0, lies_further b k c.in-Err.from c.in-Err.to old mid new took.0 took.1 c.requires.pass e.own e.view t.0 t.1);
+      held = lies_stopped c.args.self.now c.args.strip c.in-Err.from c.in-Err.to c.args.pass.now.seat c.hold.new.seat c.turn_held.new.seat c.if-not-hold.ensures.told
+          c.requires.pass e.own e.view e.worked;
     }
