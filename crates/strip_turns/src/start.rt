@@ -30,18 +30,14 @@ impl Board {
     }
 }
 
+/// A board's table, and a seat at it.
+type TableAndSeat = (
+    Table<Option<AheadStrip>, View, Key, Sound, Global>,
+    Seat<Option<AheadStrip>, View>,
+);
+
 /// A table on which each strip is home, and the first seat at it.
-fn laid_out(
-    alloc: Global,
-    plan: &Plan,
-    strips: Vec<Strip>,
-) -> Result<
-    (
-        Table<Option<AheadStrip>, View, Key, Sound, Global>,
-        Seat<Option<AheadStrip>, View>,
-    ),
-    NoMemory,
->
+fn laid_out(alloc: Global, plan: &Plan, strips: Vec<Strip>) -> Result<TableAndSeat, NoMemory>
     requires { AreOfPlan plan.now strips.items }
     ensures words { IfOk result (λ t. t.0.shared.table_id.words ≡ word_of t.0.shared.table_id.slots) }
     ensures slots { IfOk result (λ t. t.0.shared.table_id.slots ≡ length strips.items) }
