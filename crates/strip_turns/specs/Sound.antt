@@ -42,7 +42,7 @@ abbrev pub times : ℕ → List ℕ → ℕ
 times n [] = 0
 times n (x ∷ xs) = (if x == n then 1 else 0) + times n xs
 
--- The words stand so far apart that no two share a line of the processor's cache, or a pair of lines: the ticket word first, then each strip's.
+-- The words stand so far apart that no two share a line of the cache, or a pair of lines: the ticket word first, then each strip's.
 abbrev pub word_of : ℕ → ℕ
 word_of k = 16 * (k + 1)
 
