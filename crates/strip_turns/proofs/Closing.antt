@@ -1,5 +1,5 @@
 -- With one pass, which holds nothing, each strip is home.
-use Rattle.std.proofs.Common.{◌≡◌, ℕ, zero, suc, ◌+◌, ◌<◌, ⊎_elim, ◌⊎◌, inl, inr, List, [], ◌∷◌, ◌++◌, length, slice_get, Option, Some, None, arith, refl, sym, ap, ◌∙◌, subst, get_or, set, Bool, false}
+use Rattle.std.proofs.Common.{◌≡◌, ℕ, zero, suc, ◌+◌, ◌*◌, ◌^◌, ◌<◌, ◌≤◌, ⊎_elim, ◌⊎◌, inl, inr, List, [], ◌∷◌, ◌++◌, length, slice_get, Option, Some, None, arith, refl, sym, ap, ◌∙◌, subst, get_or, set, Bool, false}
 use Rattle.std.proofs.Math.ListN.{length-append}
 use Rattle.std.proofs.lemmas.Grind.{common_steps}
 use Rattle.std.proofs.lemmas.List.{get_or-set_other}
@@ -10,6 +10,7 @@ use native.Mathlib.Decide.{ℕ_discrete}
 use mathlib.Core.Option.{some, some-injective}
 use lib.ListN.{get_elem?}
 use Rattle.atomic_table.specs.Table.{Final, Seen}
+use Rattle.edit_plan.specs.Limits.{most_edits}
 use Rattle.job_model.specs.Tasks.{Job, PlanOf}
 use Rattle.strip_journal.specs.Strips.{StripOf}
 use Rattle.turn_core.specs.World.{AreOfPlan, AreStrips}
@@ -17,16 +18,17 @@ use Rattle.strip_turns.specs.declared.view.View.{View}
 use Rattle.strip_turns.specs.declared.view.Card.{Card}
 use Rattle.strip_turns.specs.Log.{tally, drew, did, strayed}
 use Rattle.strip_turns.specs.Cards.{start, last}
-use Rattle.strip_turns.specs.Sound.{held_in, IsSound}
+use Rattle.strip_turns.specs.Sound.{held_in, IsSound, word_of}
 use Rattle.strip_turns.specs.Plays.{IsAlone}
-use Rattle.strip_turns.specs.Closed.{IsGiven, AllHome, AllThere, AllOut, InOrder}
+use Rattle.strip_turns.specs.Closed.{IsGiven, IsHomeWord, AllHome, AllThere, AllOut, InOrder}
 use Rattle.strip_turns.proofs.Totals.{total_at}
+use Rattle.strip_turns.proofs.Taking.{there}
 use Rattle.strip_turns.proofs.Logs.{seen_within}
 use Rattle.strip_turns.proofs.Rosters.{some_is, some_none, named, alone}
 use Rattle.strip_turns.proofs.Cases.{plan_of, number_of, job_of}
 
 all_home_at : (card : Card) (id : ℕ) (v : View) (c : Card) (words : List ℕ) (slots : List (Option StripOf)) → v.card ≡ Some c
-    → v.held ≡ None → IsAlone v → Final (Seen (IsSound card) id v) words slots → AllHome card v slots
+    → v.held ≡ None → IsAlone v → Final (Seen (IsSound card) id v) words slots → AllHome card v words slots
 all_home_at card id v c words slots has idle is f =
     let s = f.0 in
     let h = f.1.0 in
@@ -47,6 +49,7 @@ all_home_at card id v c words slots has idle is f =
                   seen_within k (start card k) (start card k) p.0.done v.log (omega arith) p.1.logged.started);
               did = λ x. sym (only (λ u. tally (did k x) u.log) refl) ∙ p.1.logged.did x;
             },
+            subst (λ (l : List ℕ). IsHomeWord l k p.0) f.2 p.1.word,
           ))
           (λ p.
           let a = only (λ u. held_in k u.held) refl in
@@ -57,18 +60,21 @@ all_home_at card id v c words slots has idle is f =
     }
 
 pub all_home : (card : Card) (id : ℕ) (v : View) (c : Card) (words : List ℕ) (slots : List (Option StripOf)) → v.card ≡ Some c
-    → v.held ≡ None → IsAlone v → Final (Seen (IsSound card) id v) words slots → AllHome c v slots
+    → v.held ≡ None → IsAlone v → Final (Seen (IsSound card) id v) words slots → AllHome c v words slots
 all_home card id v c words slots has idle is f =
     let e : card ≡ c = some_is card c (sym (named card f.0.views id v c f.1.0.roster f.1.1 has) ∙ has) in
-    subst (λ z. AllHome z v slots) e (all_home_at card id v c words slots has idle is f)
+    subst (λ z. AllHome z v words slots) e (all_home_at card id v c words slots has idle is f)
 
-pub all_there : (c : Card) (v : View) (slots : List (Option StripOf)) → AllHome c v slots → AllThere slots
-all_there c v slots h = record { each = λ k lt. let e = h.each k lt in (e.0, e.1) }
+pub all_there : (c : Card) (v : View) (words : List ℕ) (slots : List (Option StripOf)) → last c ≤ most_edits → AllHome c v words slots
+    → AllThere words slots
+all_there c v words slots few h = record {
+  each = λ k lt. let e = h.each k lt in (e.0, e.1, e.3, (let within = e.2.of_case.within in omega arith));
+}
 
 -- the strips that were taken out are given in order
-pub in_order : (c : Card) (v : View) (slots : List (Option StripOf)) (strips : List StripOf) (n : ℕ) → AllHome c v slots
-    → length slots ≡ n → AllOut slots strips n → InOrder c v strips
-in_order c v slots strips n h len out = record {
+pub in_order : (c : Card) (v : View) (words : List ℕ) (slots : List (Option StripOf)) (strips : List StripOf) (n : ℕ)
+    → AllHome c v words slots → length slots ≡ n → AllOut slots strips n → InOrder c v strips
+in_order c v words slots strips n h len out = record {
   many = out.many ∙ sym len ∙ h.many;
   each = λ k s at.
       let within = slice_get_within strips k s at in
@@ -100,10 +106,21 @@ given_job c job v strips h all given = record {
       record { job_is = job_of c job k s.done s all case; number_is = number_of c k s.done s h case; within = omega arith };
 }
 
--- the strip that stands at a place
-pub there_is : (slots : List (Option StripOf)) (k : ℕ) (x : Option StripOf) → AllThere slots → k < length slots
-    → get_elem? slots k ≡ some x → (s : StripOf) × (x ≡ Some s)
-there_is slots k x h lt at = let e = h.each k lt in (e.0, some-injective x (Some e.0) (sym at ∙ e.1))
+-- the strip that stands at a place, and its word
+pub there_is : (words : List ℕ) (slots : List (Option StripOf)) (k : ℕ) (x : Option StripOf) → AllThere words slots → k < length slots
+    → get_elem? slots k ≡ some x → (s : StripOf) × (x ≡ Some s) × IsHomeWord words k s × (s.done ≤ most_edits)
+there_is words slots k x h lt at = let e = h.each k lt in (e.0, some-injective x (Some e.0) (sym at ∙ e.1), e.2, e.3)
+
+-- what is read of its word is its version
+pub word_is : (words : List ℕ) (slots : List (Option StripOf)) (k i found : ℕ) (x : Option StripOf) (s : StripOf) → AllThere words slots
+    → k < length slots → get_elem? slots k ≡ some x → x ≡ Some s → i ≡ word_of k → i < length words → get_elem? words i ≡ some found
+    → (found ≡ (s.done + 1) * 2 ^ 40) × (s.done ≤ most_edits)
+word_is words slots k i found x s h lt at is place low read =
+    let t = there_is words slots k x h lt at in
+    let same : t.0 ≡ s = some_is t.0 s (sym t.1 ∙ is) in
+    let own : found ≡ get_or words i 0 = some-injective found (get_or words i 0) (sym read ∙ there words i low) in
+    subst (λ (z : StripOf). (found ≡ (z.done + 1) * 2 ^ 40) × (z.done ≤ most_edits)) same
+    (own ∙ ap (λ (n : ℕ). get_or words n 0) place ∙ t.2, t.3)
 
 -- an element of a list with one more was there before, or is the one
 one_more : {A : Type 0} (xs : List A) (y : A) (k : ℕ) (x : A) → slice_get (xs ++ y ∷ []) k ≡ Some x

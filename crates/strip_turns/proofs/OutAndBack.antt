@@ -1,8 +1,9 @@
 -- A strip that is taken, in its slot or out of it, and put back.
-use Rattle.std.proofs.Common.{◌≡◌, ℕ, ◌+◌, ◌*◌, ◌^◌, ◌≤◌, List, [], ◌∷◌, Option, Some, None, Bool, true, false, MatchBool, MatchOption, max, arith, sym, ap, ◌∙◌, subst}
+use Rattle.std.proofs.Common.{◌≡◌, ℕ, ◌+◌, ◌*◌, ◌^◌, ◌≤◌, List, [], ◌∷◌, Option, Some, None, MatchOption, max, arith, sym, ap, ◌∙◌, subst}
 use mathlib.Core.Option.{none}
 use Rattle.atomic_table.specs.Table.{Me, step, rest}
 use Rattle.atomic_table.specs.declared.shared.Seat.{Seat}
+use Rattle.edit_plan.specs.Limits.{most_edits}
 use Rattle.strip_journal.specs.Strips.{StripOf}
 use Rattle.strip_turns.specs.declared.view.View.{View}
 use Rattle.strip_turns.specs.declared.view.Card.{Card}
@@ -10,8 +11,8 @@ use Rattle.strip_turns.specs.declared.board.Board.{Board}
 use Rattle.strip_turns.specs.Views.{with_strip, with_trip}
 use Rattle.strip_turns.specs.Log.{seen}
 use Rattle.strip_turns.specs.Cards.{start, last, IsCase}
-use Rattle.strip_turns.specs.Plays.{Took, Missed, Gives}
-use Rattle.strip_turns.specs.Passes.{card, IsIdle, Holds, TookOut, TookIn, RaisedOut, IsOut, IsIn, IsBack, Tripped}
+use Rattle.strip_turns.specs.Plays.{Took, Gives}
+use Rattle.strip_turns.specs.Passes.{card, IsIdle, Holds, TookAt, TookOut, RaisedOut, IsOut, IsIn, IsBack, Tripped}
 use Rattle.strip_turns.specs.Asks.{Raised}
 
 heads : {A : Type 0} (a b : A) (xs ys : List A) → a ∷ xs ≡ b ∷ ys → a ≡ b
@@ -21,29 +22,43 @@ heads a b xs ys e = cc
 pub same_slot : (k : ℕ) (x y : Option StripOf) (xs ys zs : List (ℕ × Option StripOf)) → zs ≡ (k, x) ∷ xs → zs ≡ (k, y) ∷ ys → x ≡ y
 same_slot k x y xs ys zs p q = ap (λ (z : ℕ × Option StripOf). z.1) (heads (k, x) (k, y) xs ys (sym p ∙ q))
 
-pub slot_of : (c : Card) (k : ℕ) (before after : Me (Option StripOf) View) (t : (j : StripOf) × Took c k before after j) → (x : Option StripOf) × (after.1 ≡ (k, x) ∷ rest after.1)
-slot_of c k before after t = let e : after.1 ≡ (k, Some t.0) ∷ before.1 = ap (λ m. m.1) t.1.me in (Some t.0, e ∙ ap (λ l. (k, Some t.0) ∷ l) (sym (ap rest e)))
+pub slot_of : (c : Card) (k found : ℕ) (before after : Me (Option StripOf) View) (t : (j : StripOf) × Took c k found before after j) → (x : Option StripOf) × (after.1 ≡ (k, x) ∷ rest after.1)
+slot_of c k found before after t = let e : after.1 ≡ (k, Some t.0) ∷ before.1 = ap (λ m. m.1) t.1.me in (Some t.0, e ∙ ap (λ l. (k, Some t.0) ∷ l) (sym (ap rest e)))
+
+-- the strip was taken out as it was, and its word was as found
+abbrev pub CameOut : Board → ℕ → ℕ → Seat (Option StripOf) View → Seat (Option StripOf) View → StripOf → Type 0
+CameOut b k found old new s = TookOut b k old new s × (found ≡ (s.done + 1) * 2 ^ 40)
+
+-- where something came out for certain it is the strip that is there
+pub not_none : (P : StripOf → Type 0) (x : Option StripOf) → x ≡ None → MatchOption x ⊥ P → ⊥
+not_none P x is told = subst (λ (y : Option StripOf). MatchOption y ⊥ P) is told
+
+pub the_one : (P : StripOf → Type 0) (x : Option StripOf) (s : StripOf) → x ≡ Some s → MatchOption x ⊥ P → P s
+the_one P x s is told = subst (λ (y : Option StripOf). MatchOption y ⊥ P) is told
 
 -- what came out of the slot is the strip that was taken
-pub taken_out : (b : Board) (k : ℕ) (X : Type 0) (old mid new : Seat (Option StripOf) View) (x : Option StripOf) → IsIdle b old
-    → ((s : StripOf) × Took (card b) k old.me mid.me s) → new.table_id ≡ b.table.shared.table_id → mid.me.1 ≡ (k, x) ∷ rest mid.me.1
-    → new.me ≡ (mid.me.0, (k, None) ∷ rest mid.me.1) → MatchOption x X (λ s. TookOut b k old new s)
-taken_out b k X old mid new x idle t own has me =
+pub taken_out : (b : Board) (k found : ℕ) (X : Type 0) (old mid new : Seat (Option StripOf) View) (x : Option StripOf) → IsIdle b old
+    → ((s : StripOf) × Took (card b) k found old.me mid.me s) → new.table_id ≡ b.table.shared.table_id → mid.me.1 ≡ (k, x) ∷ rest mid.me.1
+    → new.me ≡ (mid.me.0, (k, None) ∷ rest mid.me.1) → MatchOption x X (CameOut b k found old new)
+taken_out b k found X old mid new x idle t own has me =
     let s = t.0 in
     let e : mid.me.1 ≡ (k, Some s) ∷ old.me.1 = ap (λ m. m.1) t.1.me in
     let f : mid.me.0 ≡ with_strip k s.done old.me.0 = ap (λ m. m.0) t.1.me in
     let is : x ≡ Some s = same_slot k x (Some s) (rest mid.me.1) old.me.1 mid.me.1 has e in
     let none_left : rest mid.me.1 ≡ [] = ap rest e ∙ idle.slots in
-    subst (λ y. MatchOption y X (λ s. TookOut b k old new s)) (sym is) (record {
-      out = record { own = own; me = me ∙ (λ i. (f i, (k, None) ∷ none_left i)); seen = t.1.seen };
-      of_case = t.1.of_case;
-    })
+    subst (λ y. MatchOption y X (CameOut b k found old new)) (sym is) (
+      record {
+        out = record { own = own; me = me ∙ (λ i. (f i, (k, None) ∷ none_left i)); seen = t.1.seen };
+        of_case = t.1.of_case;
+      },
+      t.1.word,
+    )
 
--- what a step on the word of a strip told, of the strip in its slot
-pub held_told : (b : Board) (k : ℕ) (r : Bool) (old new : Seat (Option StripOf) View) → IsIdle b old → new.table_id ≡ b.table.shared.table_id
-    → MatchBool r ((s : StripOf) × Took (card b) k old.me new.me s) (Missed k old.me new.me)
-    → MatchBool r ((s : StripOf) × TookIn b k old new s) (Missed k old.me new.me)
-held_told b k true old new idle own t =
+-- a strip that was taken lies in its slot, and its word said its version
+pub took_at : (b : Board) (k found from : ℕ) (old new : Seat (Option StripOf) View) → IsIdle b old → new.table_id ≡ b.table.shared.table_id
+    → last (card b) ≤ most_edits → ((done : ℕ) → done ≤ most_edits → found ≡ (done + 1) * 2 ^ 40 → from ≡ done)
+    → ((s : StripOf) × Took (card b) k found old.me new.me s) → TookAt b k from old new
+took_at b k found from old new idle own few read t =
     let s = t.0 in (
       s,
       record {
@@ -52,8 +67,13 @@ held_told b k true old new idle own t =
         seen = t.1.seen;
         of_case = t.1.of_case;
       },
+      read s.done (let within = t.1.of_case.within in omega arith) t.1.word,
     )
-held_told b k false old new idle own t = t
+
+-- the word of a strip that was taken is not below the first version's
+pub word_least : (c : Card) (k found : ℕ) (before after : Me (Option StripOf) View) → ((s : StripOf) × Took c k found before after s)
+    → 2 ^ 40 ≤ found
+word_least c k found before after t = let word = t.1.word in omega arith
 
 -- the strip in the seat's slot went home
 pub given_told : (b : Board) (slots k from to word new found : ℕ) (old seat : Seat (Option StripOf) View) (s : StripOf)
@@ -88,17 +108,21 @@ still_idle b old seat h own me = record {
   slots = ap (λ m. m.1) me ∙ h.slots;
 }
 
-pub still_out : (b : Board) (k : ℕ) (old mid seat : Seat (Option StripOf) View) (x : Option StripOf) (X : Type 0) → mid.me ≡ old.me
-    → MatchOption x X (λ s. TookOut b k mid seat s) → MatchOption x X (λ s. TookOut b k old seat s)
-still_out b k old mid seat None X me h = h
-still_out b k old mid seat (Some s) X me h = record {
-  out = record {
-    own = h.out.own;
-    me = h.out.me ∙ (λ i. (with_strip k s.done (me i).0, (k, None) ∷ []));
-    seen = subst (λ (m : Me (Option StripOf) View). seen k (start (card b) k) m.0.log ≤ s.done) me h.out.seen;
-  };
-  of_case = h.of_case;
-}
+pub still_out : (b : Board) (k found : ℕ) (old mid seat : Seat (Option StripOf) View) (x : Option StripOf) (X : Type 0) → mid.me ≡ old.me
+    → MatchOption x X (CameOut b k found mid seat)
+    → MatchOption x X (CameOut b k found old seat)
+still_out b k found old mid seat None X me h = h
+still_out b k found old mid seat (Some s) X me h = (
+  record {
+    out = record {
+      own = h.0.out.own;
+      me = h.0.out.me ∙ (λ i. (with_strip k s.done (me i).0, (k, None) ∷ []));
+      seen = subst (λ (m : Me (Option StripOf) View). seen k (start (card b) k) m.0.log ≤ s.done) me h.0.out.seen;
+    };
+    of_case = h.0.of_case;
+  },
+  h.1,
+)
 
 -- the strip that was taken out is out
 pub is_out : (b : Board) (k from : ℕ) (old seat : Seat (Option StripOf) View) → IsIdle b old → Holds b k from old seat
@@ -141,11 +165,12 @@ pub raised_case : (b : Board) (k from version : ℕ) (old seat : Seat (Option St
 raised_case b k from version old seat s h = subst (λ n. IsCase (card b) k n s) (sym h.of_case.at) h.of_case
 
 -- and then it was raised
-pub raised_told : (b : Board) (k from version : ℕ) (old mid seat : Seat (Option StripOf) View) (s : StripOf) → IsIdle b old
-    → RaisedOut b k from version old mid s → IsBack b k from s.done mid seat → Raised (card b) k version old.me.0 seat.me.0
-raised_told b k from version old mid seat s idle h back = record {
+pub raised_told : (b : Board) (k from to version : ℕ) (old mid seat : Seat (Option StripOf) View) (s : StripOf) → IsIdle b old
+    → RaisedOut b k from version old mid s → to ≡ max from version → IsBack b k from to mid seat
+    → Raised (card b) k version old.me.0 seat.me.0
+raised_told b k from to version old mid seat s idle h is back = record {
   at = from;
   trip =
-      let there = subst (λ n. IsBack b k from n mid seat) h.of_case.at back in
+      let there = subst (λ n. IsBack b k from n mid seat) is back in
       tripped b k from (max from version) old mid seat idle h.out there (omega arith) h.of_case.within;
 }

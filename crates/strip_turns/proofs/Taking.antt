@@ -117,11 +117,13 @@ module _ (card : Card) (slots id k : ℕ) (me : Me (Option StripOf) View) (c : C
         taken = taken_else i k j.done ne' ∙ sym (ap (taken_at i) idle);
       }) (h.places i li)))
 
-  took_told : (s : State (Option StripOf) View) → IsSound card s → get_elem? s.views id ≡ some me.0 → (j : StripOf) → IsHome card s k j → Took card k me (with_strip k j.done me.0, (k, Some j) ∷ me.1) j
+  took_told : (s : State (Option StripOf) View) → IsSound card s → get_elem? s.views id ≡ some me.0 → (j : StripOf) → IsHome card s k j
+      → Took card k (get_or s.words (word_of k) 0) me (with_strip k j.done me.0, (k, Some j) ∷ me.1) j
   took_told s h at j home = record {
     me = refl;
     of_case = home.of_case;
     seen = seen_within k (start card k) (start card k) j.done me.0.log (let q = total_at (λ u. tally (strayed k (start card k) j.done) u.log) s.views id me.0 at in let d = home.logged.strayed in omega arith) home.logged.started;
+    word = home.word;
   }
 
   missed_it : (s : State (Option StripOf) View) → IsSound card s → k < length s.homes → get_elem? s.views id ≡ some me.0 → me.0.missed < 2 ^ 32 → (v m : ℕ) → IsOut card s k v m → (new : ℕ) → new ≡ get_or s.words (word_of k) 0 + 1
@@ -207,7 +209,7 @@ module _ (card : Card) (slots id k : ℕ) (me : Me (Option StripOf) View) (c : C
         takes k (Some j),
         home.there,
         took s h lt' at j home _ next,
-        told_as (λ c k. MatchBool (eqb (n % 2 ^ 40) 0) ((i : StripOf) × Took c k me _ i) (Missed k me _)) card k me.0 mine (by_true _ _ _ test (j, took_told s h at j home)),
+        told_as (λ c k. MatchBool (eqb (n % 2 ^ 40) 0) ((i : StripOf) × Took c k n me _ i) (Missed k me _)) card k me.0 mine (by_true _ _ _ test (j, took_told s h at j home)),
       ))
       (λ p.
       let v = p.0 in
@@ -223,7 +225,7 @@ module _ (card : Card) (slots id k : ℕ) (me : Me (Option StripOf) View) (c : C
         keeps,
         tt,
         missed_it s h lt' at few v m out _ next,
-        told_as (λ c k. MatchBool (eqb (n % 2 ^ 40) 0) ((i : StripOf) × Took c k me _ i) (Missed k me _)) card k me.0 mine (by_false _ _ _ test (missed_told s h at v m out)),
+        told_as (λ c k. MatchBool (eqb (n % 2 ^ 40) 0) ((i : StripOf) × Took c k n me _ i) (Missed k me _)) card k me.0 mine (by_false _ _ _ test (missed_told s h at v m out)),
       ))
       (h.places k lt')
 
@@ -252,14 +254,14 @@ module _ (card : Card) (slots id k : ℕ) (me : Me (Option StripOf) View) (c : C
         takes k (Some j),
         home.there,
         took s h lt' at j home new (omega arith),
-        told_as (λ c k. MatchBool (eqb n old) ((i : StripOf) × Took c k me _ i) (_ ≡ me)) card k me.0 mine (by_true _ _ _ test (j, took_told s h at j home)),
+        told_as (λ c k. MatchBool (eqb n old) ((i : StripOf) × Took c k n me _ i) (_ ≡ me)) card k me.0 mine (by_true _ _ _ test (j, took_told s h at j home)),
       ))
       (λ p. let word = p.2.word in let bound = few_misses s h p.0 p.1 p.2 in absurd (omega arith))
       (h.places k lt')))
       (λ ne.
       let test = ne_eqb n old ne in
       subst (λ b. After s (either b new n) then) (sym test)
-      (me.0, keeps, tt, same_state s h lt' at, told_as (λ c k. MatchBool (eqb n old) ((i : StripOf) × Took c k me me i) (me ≡ me)) card k me.0 mine (by_false _ _ _ test refl)))
+      (me.0, keeps, tt, same_state s h lt' at, told_as (λ c k. MatchBool (eqb n old) ((i : StripOf) × Took c k n me me i) (me ≡ me)) card k me.0 mine (by_false _ _ _ test refl)))
 
   -- the same for a word that is the strip's
   pub takes_or_misses_at : (word : ℕ) → word ≡ word_of k → k < slots → me.0.missed < 2 ^ 32

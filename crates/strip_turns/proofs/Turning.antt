@@ -9,7 +9,7 @@ use Rattle.strip_turns.specs.Views.{with_strip, with_trip}
 use Rattle.strip_turns.specs.Log.{seen}
 use Rattle.strip_turns.specs.Cards.{start, last}
 use Rattle.strip_turns.specs.Plays.{Missed}
-use Rattle.strip_turns.specs.Passes.{card, IsIdle, TookIn, HasStrip, Worked, IsIn, IsBack, Tripped}
+use Rattle.strip_turns.specs.Passes.{card, IsIdle, IsTaken, TookIn, HasStrip, Worked, IsIn, IsBack, Tripped}
 use Rattle.strip_turns.proofs.Cases.{case_moved, plan_of}
 use Rattle.strip_turns.proofs.OutAndBack.{same_slot}
 
@@ -89,8 +89,8 @@ module _ (b : Board) (k from to : ℕ) (old mid new : Seat (Option StripOf) View
       )
 
   -- the strip that was taken is of the board's plan
-  pub lies_there : HasStrip mid.me k (λ piece. piece.job.plan ≡ b.plan)
-  lies_there = (taken, ap (λ m. m.1) took.me, plan_of (card b) k taken.done taken b.whole took.of_case ∙ b.card)
+  pub lies_there : from ≡ taken.done → HasStrip mid.me k (IsTaken b.plan from)
+  lies_there was = (taken, ap (λ m. m.1) took.me, (plan_of (card b) k taken.done taken b.whole took.of_case ∙ b.card, was))
 
   module _ (idle : IsIdle b old) (own : new.table_id ≡ mid.table_id) (view : new.me.0 ≡ mid.me.0) (strip : StripOf)
       (done : Advanced b k from to taken new strip) where

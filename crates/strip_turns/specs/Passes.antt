@@ -47,6 +47,14 @@ pub record TookIn (b : Board) (k : ℕ) (old seat : Seat (Option StripOf) View) 
   pub seen : seen k (start (card b) k) old.me.0.log ≤ strip.done
   pub of_case : IsCase (card b) k strip.done strip
 
+-- the same of some strip that stood at `from`
+abbrev pub TookAt : Board → ℕ → ℕ → Seat (Option StripOf) View → Seat (Option StripOf) View → Type 0
+TookAt b k from old seat = (strip : StripOf) × TookIn b k old seat strip × (from ≡ strip.done)
+
+-- a strip of the plan that was taken at `from`
+abbrev pub IsTaken : PlanOf → ℕ → StripOf → Type 0
+IsTaken plan from strip = (strip.job.plan ≡ plan) × (from ≡ strip.done)
+
 -- the seat holds the slot of the strip k alone, and in it a strip of which P holds
 abbrev pub HasStrip : Me (Option StripOf) View → ℕ → (StripOf → Type 0) → Type 0
 HasStrip me k P = (strip : StripOf) × (me.1 ≡ (k, Some strip) ∷ []) × P strip

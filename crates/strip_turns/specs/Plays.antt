@@ -20,11 +20,12 @@ pub record Drawn (before : Me (Option StripOf) View) (found : ℕ) (after : Me (
   pub me : after ≡ (with_draw found before.0, before.1)
   pub above : (x : ℕ) → 0 < tally (drew x) before.0.log → x < found
 
--- the strip k was taken
-pub record Took (c : Card) (k : ℕ) (before after : Me (Option StripOf) View) (strip : StripOf) : Type 0 where
+-- the strip k was taken, whose word was as found
+pub record Took (c : Card) (k found : ℕ) (before after : Me (Option StripOf) View) (strip : StripOf) : Type 0 where
   pub me : after ≡ (with_strip k strip.done before.0, (k, Some strip) ∷ before.1)
   pub of_case : IsCase c k strip.done strip
   pub seen : seen k (start c k) before.0.log ≤ strip.done
+  pub word : found ≡ (strip.done + 1) * 2 ^ 40
 
 -- the strip k was out, so another pass is out
 pub record Missed (k : ℕ) (before after : Me (Option StripOf) View) : Type 0 where
@@ -34,12 +35,12 @@ pub record Missed (k : ℕ) (before after : Me (Option StripOf) View) : Type 0 w
 -- the word of the strip k had 1 added: the strip was home and was taken, or it was out
 abbrev pub TakesOrMisses : Step (Option StripOf) → Me (Option StripOf) View → ℕ → Me (Option StripOf) View → Type 0
 TakesOrMisses s before found after = (c : Card) (k : ℕ) → before.0.card ≡ Some c → s.word ≡ word_of k
-    → MatchBool (found % 2 ^ 40 == 0) ((strip : StripOf) × Took c k before after strip) (Missed k before after)
+    → MatchBool (found % 2 ^ 40 == 0) ((strip : StripOf) × Took c k found before after strip) (Missed k before after)
 
 -- it was taken where its word was as expected, and else nothing happened
 abbrev pub TakesOrNot : Step (Option StripOf) → Me (Option StripOf) View → ℕ → Me (Option StripOf) View → Type 0
 TakesOrNot s before found after = (c : Card) (k : ℕ) → before.0.card ≡ Some c → s.word ≡ word_of k
-    → MatchBool (found == s.first) ((strip : StripOf) × Took c k before after strip) (after ≡ before)
+    → MatchBool (found == s.first) ((strip : StripOf) × Took c k found before after strip) (after ≡ before)
 
 -- nothing changed; where the pass is alone, each number below some n stands in its log once
 pub record Looked (before after : Me (Option StripOf) View) : Type 0 where

@@ -5,10 +5,13 @@ ghost use Rattle.turn_core.specs.World.{AreOfPlan, AreStrips};
 ghost use Rattle.strip_turns.specs.Plays.{IsAlone};
 ghost use Rattle.strip_turns.specs.Passes.{card, IsPass};
 ghost use Rattle.strip_turns.specs.Closed.{AllThere, AllOut, AllDrawn, InOrder};
+ghost use Rattle.strip_turns.specs.Sound.{word_of};
 
 use crate::board::{Board, Pass};
+use crate::moves::{version_of, word_at};
 use atomic_table::Closed;
 use std::alloc::Global;
+use std::marker::Model;
 use strip_journal::Strip;
 use strip_plan::Plan;
 use turn_core::AheadStrip;
@@ -28,9 +31,9 @@ impl Board {
         let Board { plan, table } = self;
         let Pass { seat } = pass;
         let closed = table.close_with(seat);
-        let count = closed.slot_count();
-        match Vec::with_capacity(alloc, count) {
-            Ok(strips) => as_seen(alloc, &plan, taken_out(closed, strips)),
+        let count = plan.grid().strips();
+        match Vec::with_capacity(alloc, count as usize) {
+            Ok(strips) => as_seen(alloc, &plan, taken_out(closed, count, strips)),
             Err(_) => {
                 given_up(closed);
                 Err(NoMemory)
@@ -39,21 +42,54 @@ impl Board {
     }
 }
 
-/// Takes each strip out.
+/// A strip that came out of its slot, and the version at which it is seen.
+#[derive(Drop)]
+struct TakenOut {
+    strip: AheadStrip,
+    done: u32,
+}
+
+impl Model for TakenOut {
+    ghost use Rattle.std.specs.Prelude.{◌≡◌};
+    ghost use Rattle.strip_journal.specs.Strips.{StripOf};
+
+    ghost Value = { StripOf };
+
+    ghost view = { λ t. t.strip };
+
+    ghost invariant = { λ t. t.done ≡ t.strip.done };
+}
+
+impl TakenOut {
+    /// The strip as it is seen.
+    fn into_strip(self, plan: &Plan) -> Result<Strip, NoMemory>
+        requires plan { self.job.plan ≡ plan.now }
+        ensures { IfOk result (λ strip. strip ≡ self) }
+    {
+        let TakenOut { strip, done } = self;
+        strip.into_strip(plan, done)
+    }
+}
+
+/// Takes each strip out, so many.
 fn taken_out(
     mut closed: Closed<Option<AheadStrip>, Global>,
-    mut strips: Vec<AheadStrip>,
-) -> Vec<AheadStrip>
-    requires full { IsFull closed.slots }
-    requires there { AllThere (slots_items closed.slots) }
-    requires room { (strips.items ≡ []) × (slots_len closed.slots ≤ vec_capacity strips) }
-    ensures { AllOut (slots_items closed.slots) result.items (slots_len closed.slots) }
+    count: u32,
+    mut strips: Vec<TakenOut>,
+) -> Vec<TakenOut>
+    requires full { IsFull closed.slots × IsFull closed.words }
+    requires count { count ≡ slots_len closed.slots }
+    requires words { slots_len closed.words ≡ word_of count }
+    requires there { AllThere (slots_items closed.words) (slots_items closed.slots) }
+    requires room { (strips.items ≡ []) × (count ≤ vec_capacity strips) }
+    ensures { AllOut (slots_items closed.slots) result.items count }
 {
-    for i in 0..closed.slot_count() {
-        let Some(strip) = closed.take(i) else {
+    for number in 0..count {
+        let done = version_of(closed.word(word_at(number)));
+        let Some(strip) = closed.take(number as usize) else {
             unreachable!()
         };
-        strips.push_reserved(strip);
+        strips.push_reserved(TakenOut { strip, done });
     }
     closed.free();
     strips
@@ -70,12 +106,12 @@ fn given_up(mut closed: Closed<Option<AheadStrip>, Global>)
 }
 
 /// The strips as they are seen.
-fn as_seen(alloc: Global, plan: &Plan, ahead: Vec<AheadStrip>) -> Result<Vec<Strip>, NoMemory>
-    requires plan { All (λ piece. piece.job.plan ≡ plan.now) ahead.items }
-    ensures { IfOk result (λ strips. strips.items ≡ ahead.items) }
+fn as_seen(alloc: Global, plan: &Plan, taken: Vec<TakenOut>) -> Result<Vec<Strip>, NoMemory>
+    requires plan { All (λ piece. piece.job.plan ≡ plan.now) taken.items }
+    ensures { IfOk result (λ strips. strips.items ≡ taken.items) }
 {
-    let mut strips = Vec::with_capacity(alloc, ahead.len())?;
-    for piece in ahead {
+    let mut strips = Vec::with_capacity(alloc, taken.len())?;
+    for piece in taken {
         strips.push(piece.into_strip(plan)?)?;
     }
     Ok(strips)

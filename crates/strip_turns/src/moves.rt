@@ -1,11 +1,11 @@
-ghost use Rattle.std.specs.Prelude.{◌≡◌, ◌+◌, ◌*◌, ◌<◌, ◌≤◌, ◌^◌, length, MatchBool, MatchOption};
+ghost use Rattle.std.specs.Prelude.{◌≡◌, ℕ, ◌+◌, ◌*◌, ◌<◌, ◌≤◌, ◌^◌, length, MatchOption};
 ghost use Rattle.ray_grid.specs.Strips.{strips_of};
 ghost use Rattle.edit_plan.specs.Limits.{most_edits};
 ghost use Rattle.strip_journal.specs.Strips.{StripOf};
 ghost use Rattle.strip_turns.specs.Cards.{IsCase};
 ghost use Rattle.strip_turns.specs.Plays.{Missed, Looked};
 ghost use Rattle.strip_turns.specs.Sound.{word_of};
-ghost use Rattle.strip_turns.specs.Passes.{card, IsIdle, TookOut, TookIn, IsOut, IsIn, IsBack};
+ghost use Rattle.strip_turns.specs.Passes.{card, IsIdle, TookAt, TookOut, IsOut, IsIn, IsBack};
 
 use crate::board::Board;
 use crate::rule::{Adding, Giving, Looking, Trying};
@@ -37,50 +37,67 @@ pub(crate) fn home_word(done: u32) -> u64
     (u64::from(done) + 1) * VERSION
 }
 
-/// Takes the strip where it is home, and else counts a miss. A strip that was taken lies in its slot, which the seat holds.
-pub(crate) fn hold(board: &Board, seat: &mut Seat<Option<AheadStrip>, View>, strip: u32) -> bool
+/// The version of a strip that is home, by its word.
+pub(crate) fn version_of(word: u64) -> u32
+    requires { 2 ^ 40 ≤ word }
+    ensures { (done : ℕ) → done ≤ most_edits → word ≡ (done + 1) * 2 ^ 40 → result ≡ done }
+{
+    (word / VERSION - 1) as u32
+}
+
+/// Takes the strip where it is home, and tells its version; else counts a miss. A strip that was taken lies in its slot, which the seat
+/// holds.
+pub(crate) fn hold(
+    board: &Board,
+    seat: &mut Seat<Option<AheadStrip>, View>,
+    strip: u32,
+) -> Option<u32>
     requires idle { IsIdle board.now seat.old }
     requires strip { strip < length (strips_of board.now.plan.grid) }
     requires few { seat.old.me.0.missed < 2 ^ 32 }
     ensures own { seat.new.table_id ≡ seat.old.table_id }
-    ensures told { MatchBool result ((piece : StripOf) × TookIn board.now strip seat.old seat.new piece)
-        (Missed strip seat.old.me seat.new.me) }
+    ensures told { MatchOption result (Missed strip seat.old.me seat.new.me) (λ from. TookAt board.now strip from seat.old seat.new) }
 {
     let word = word_at(strip);
     let found = board.table.shared.fetch_add::<Adding>(seat, word, 1);
-    found % VERSION == 0
+    if found % VERSION != 0 {
+        return None;
+    }
+    Some(version_of(found))
 }
 
-/// Takes the strip, and waits until it is home.
+/// Takes the strip, and waits until it is home. Tells its version too.
 pub(crate) fn wait_and_take<R: Wait>(
     rt: &R,
     board: &Board,
     seat: &mut Seat<Option<AheadStrip>, View>,
     strip: u32,
-) -> AheadStrip
+) -> (AheadStrip, u32)
     requires idle { IsIdle board.now seat.old }
     requires strip { strip < length (strips_of board.now.plan.grid) }
-    ensures { TookOut board.now strip seat.old seat.new result }
+    ensures out { TookOut board.now strip seat.old seat.new result.0 }
+    ensures from { result.1 ≡ result.0.done }
 {
     for _ in rt.forever() {
         match try_take(board, seat, strip) {
-            Some(piece) => return piece,
+            Some(taken) => return taken,
             None => thread::yield_now(),
         }
     }
     unreachable!()
 }
 
-/// Takes the strip where it is home, and else does nothing.
+/// Takes the strip where it is home, and tells its version; else does nothing.
 fn try_take(
     board: &Board,
     seat: &mut Seat<Option<AheadStrip>, View>,
     strip: u32,
-) -> Option<AheadStrip>
+) -> Option<(AheadStrip, u32)>
     requires idle { IsIdle board.now seat.old }
     requires strip { strip < length (strips_of board.now.plan.grid) }
     ensures own { seat.new.table_id ≡ seat.old.table_id }
-    ensures told { MatchOption result (seat.new.me ≡ seat.old.me) (λ piece. TookOut board.now strip seat.old seat.new piece) }
+    ensures told { MatchOption result (seat.new.me ≡ seat.old.me)
+        (λ taken. TookOut board.now strip seat.old seat.new taken.0 × (taken.1 ≡ taken.0.done)) }
 {
     let at = word_at(strip);
     let word = board.table.shared.load::<Looking>(seat, at);
@@ -94,24 +111,26 @@ fn try_take(
     if found != word {
         return None;
     }
-    board.table.shared.exchange(seat, strip as usize, None)
+    let piece = board.table.shared.exchange(seat, strip as usize, None)?;
+    Some((piece, version_of(word)))
 }
 
-/// Puts the strip back, that was taken at `from`.
+/// Puts the strip back, that was taken at `from` and now is at `to`.
 pub(crate) fn put(
     board: &Board,
     seat: &mut Seat<Option<AheadStrip>, View>,
     strip: u32,
     from: u32,
+    to: u32,
     piece: AheadStrip,
 )
     requires out { IsOut board.now strip from seat.old }
     requires strip { strip < length (strips_of board.now.plan.grid) }
     requires of_case { IsCase (card board.now) strip piece.done piece }
-    requires further { from ≤ piece.done }
-    ensures { IsBack board.now strip from piece.done seat.old seat.new }
+    requires at { piece.done ≡ to }
+    requires further { from ≤ to }
+    ensures { IsBack board.now strip from to seat.old seat.new }
 {
-    let to = piece.done();
     board
         .table
         .shared

@@ -26,12 +26,11 @@ pub(crate) fn raised<R: Wait>(
     ensures idle { IfErr result (λ _. IsIdle board.now seat.new) }
     ensures short { IfErr result (λ _. Short (card board.now) strip version seat.old.me.0 seat.new.me.0) }
 {
-    let mut piece = wait_and_take(rt, board, seat, strip);
-    let from = piece.done();
-    match piece.raise(&board.plan, version) {
+    let (mut piece, from) = wait_and_take(rt, board, seat, strip);
+    match piece.raise(&board.plan, from, version) {
         Ok(()) => Ok((piece, from)),
-        Err(NoMemory) => {
-            put(board, seat, strip, from, piece);
+        Err(at) => {
+            put(board, seat, strip, from, at, piece);
             Err(NoMemory)
         }
     }
@@ -54,7 +53,7 @@ pub(crate) fn all_raised<R: Wait>(
 {
     for strip in 0..board.plan.grid().strips() {
         let (piece, from) = raised(rt, board, seat, strip, version)?;
-        put(board, seat, strip, from, piece);
+        put(board, seat, strip, from, from.max(version), piece);
     }
     Ok(())
 }

@@ -42,7 +42,7 @@ pub(crate) fn probed<R: Wait>(
     let (strip, n) = board.plan.grid().place(ray);
     let (piece, from) = raised(rt, board, seat, strip, version)?;
     let state = piece.state_at(version, n, l);
-    put(board, seat, strip, from, piece);
+    put(board, seat, strip, from, from.max(version), piece);
     Ok(state)
 }
 
@@ -70,7 +70,7 @@ pub(crate) fn counted<R: Wait>(
     for strip in 0..grid.strips() {
         let (piece, from) = raised(rt, board, seat, strip, version)?;
         totals = totals.plus(&piece.counts_at(version));
-        put(board, seat, strip, from, piece);
+        put(board, seat, strip, from, from.max(version), piece);
     }
     Ok(totals)
 }

@@ -1,6 +1,6 @@
 ghost use Rattle.std.specs.Prelude.{◌≡◌, ◌<◌, ◌^◌, length, IsSomeAnd};
 ghost use Rattle.ray_grid.specs.Strips.{strips_of};
-ghost use Rattle.strip_turns.specs.Passes.{card, IsPass, HasStrip, Worked};
+ghost use Rattle.strip_turns.specs.Passes.{card, IsPass, IsTaken, HasStrip, Worked};
 ghost use Rattle.strip_turns.specs.Turns.{Turns};
 
 use crate::board::{Board, Pass};
@@ -30,10 +30,10 @@ impl Board {
         ensures pass { IsPass self.now pass.new }
         ensures told { Turns (card self.now) strip result pass.old.seat.me.0 pass.new.seat.me.0 }
     {
-        if !hold(self, &mut pass.seat, strip) {
+        let Some(from) = hold(self, &mut pass.seat, strip) else {
             return Turned::Busy;
-        }
-        match turn_held(self, &mut pass.seat, strip) {
+        };
+        match turn_held(self, &mut pass.seat, strip, from) {
             Ok((from, to)) => {
                 give_back(self, &mut pass.seat, strip, from, to);
                 Turned::Moved { from, to }
@@ -46,30 +46,35 @@ impl Board {
     }
 }
 
-/// Does the next edits on the strip in the seat's slot.
+/// Does the next edits on the strip in the seat's slot, that was taken at `from`.
 fn turn_held(
     board: &Board,
     seat: &mut Seat<Option<AheadStrip>, View>,
     strip: u32,
+    from: u32,
 ) -> Result<(u32, u32), (u32, u32)>
     requires own { seat.old.table_id ≡ board.now.table.shared.table_id }
-    requires held { HasStrip seat.old.me strip (λ piece. piece.job.plan ≡ board.now.plan) }
+    requires held { HasStrip seat.old.me strip (λ piece. IsTaken board.now.plan from piece) }
     ensures own { seat.new.table_id ≡ seat.old.table_id }
     ensures view { seat.new.me.0 ≡ seat.old.me.0 }
     ensures worked { HasStrip seat.old.me strip (λ before. HasStrip seat.new.me strip (λ after.
         Worked board.now.plan before after result)) }
 {
     let slot = seat.slot_mut(&board.table.shared, strip as usize);
-    turn_slot(slot, &board.plan)
+    turn_slot(slot, &board.plan, from)
 }
 
-/// Does the next edits on the strip in a slot.
-fn turn_slot(slot: &mut Option<AheadStrip>, plan: &Plan) -> Result<(u32, u32), (u32, u32)>
-    requires { IsSomeAnd slot.old (λ piece. piece.job.plan ≡ plan.now) }
+/// Does the next edits on the strip in a slot, that was taken at `from`.
+fn turn_slot(
+    slot: &mut Option<AheadStrip>,
+    plan: &Plan,
+    from: u32,
+) -> Result<(u32, u32), (u32, u32)>
+    requires { IsSomeAnd slot.old (IsTaken plan.now from) }
     ensures { IsSomeAnd slot.old (λ before. IsSomeAnd slot.new (λ after. Worked plan.now before after result)) }
 {
     match slot {
-        Some(piece) => piece.turn(plan),
+        Some(piece) => piece.turn(plan, from),
         None => unreachable!(),
     }
 }

@@ -1,4 +1,4 @@
-ghost use Rattle.std.specs.Prelude.{◌≡◌, ◌+◌, ◌<◌, ◌≤◌, Some, IfErr, IfOk, OnErr, OnOk, length, max, min, slice_get};
+ghost use Rattle.std.specs.Prelude.{◌≡◌, ◌+◌, ◌<◌, ◌≤◌, Some, IfErr, IfOk, OnOk, length, max, min, slice_get};
 ghost use Rattle.ray_grid.specs.declared.ray.Ray.{Ray};
 ghost use Rattle.ray_grid.specs.Lattice.{points_of};
 ghost use Rattle.ray_grid.specs.Strips.{strip_at};
@@ -10,6 +10,7 @@ use crate::asking::state_at;
 use crate::turning::{EDITS, raise};
 use job_facts::{PointState, Totals};
 use std::marker::Model;
+use std::snapshot::Snapshot;
 use strip_journal::Strip;
 use strip_plan::Plan;
 use vf_io::NoMemory;
@@ -28,11 +29,12 @@ fn stop_from(number: u32, version: u32) -> u32
 }
 
 /// A strip that works ahead. It is seen at a version, and its edits are done up to that one or past it: so its words come into a
-/// processor's cache once for many turns.
+/// processor's cache once for many turns. Whoever holds it knows the version, which isn't written here: a turn that finds its edits done
+/// changes no byte, so the lines of the cache that it reads stay with all processors.
 #[derive(Drop)]
 pub struct AheadStrip {
-    /// The version at which it is seen.
-    done: u32,
+    /// The version at which it is seen: for contracts alone, without a byte.
+    seen: Snapshot<u32>,
     /// Whether there was no memory for an edit past that version. The turn that needs the edit tells it.
     is_short: bool,
     strip: Strip,
@@ -44,9 +46,9 @@ impl Model for AheadStrip {
 
     ghost Value = { StripOf };
 
-    ghost view = { λ s. record s.strip { done = s.done } };
+    ghost view = { λ s. record s.strip { done = s.seen.value } };
 
-    ghost invariant = { λ s. s.done ≤ s.strip.done };
+    ghost invariant = { λ s. s.seen.value ≤ s.strip.done };
 }
 
 impl AheadStrip {
@@ -55,30 +57,21 @@ impl AheadStrip {
         ensures { result ≡ strip }
     {
         AheadStrip {
-            done: strip.done(),
+            seen: Snapshot::of(&strip.done()),
             is_short: false,
             strip,
         }
     }
 
-    /// How many edits were done on the strip as it is seen.
-    pub fn done(&self) -> u32
-        ensures done { result ≡ self.now.done }
-        ensures within { result ≤ length self.now.job.plan.edits }
-    {
-        // It is no more than how many were done.
-        let _done = self.strip.done();
-        self.done
-    }
-
-    /// Comes to be seen at a version. Where the edits up to it aren't done yet, they are done up to a stop.
-    fn move_on(&mut self, plan: &Plan, version: u32, stop: u32) -> Result<(), NoMemory>
+    /// Comes to be seen at a version. Where the edits up to it aren't done yet, they are done up to a stop. After want of memory it comes to be
+    /// seen at the version that is answered.
+    fn move_on(&mut self, plan: &Plan, version: u32, stop: u32) -> Result<(), u32>
         requires plan { self.old.job.plan ≡ plan.now }
         requires further { self.old.done ≤ version }
         requires order { version ≤ stop }
         requires within { stop ≤ length plan.now.edits }
         ensures ok { OnOk result (IsRaised self.old self.new version) }
-        ensures err { OnErr result (IsStopped self.old self.new version) }
+        ensures err { IfErr result (λ at. (at ≡ self.new.done) × IsStopped self.old self.new version) }
     {
         if self.strip.done() < version {
             if !self.is_short {
@@ -86,43 +79,48 @@ impl AheadStrip {
             }
             if self.strip.done() < version {
                 self.is_short = false;
-                self.done = self.strip.done();
-                return Err(NoMemory);
+                let at = self.strip.done();
+                self.seen = Snapshot::of(&at);
+                return Err(at);
             }
         }
-        self.done = version;
+        self.seen = Snapshot::of(&version);
         Ok(())
     }
 
-    /// Takes the strip to a version, unless it is there or past it. After want of memory it stands at a version in between.
-    pub fn raise(&mut self, plan: &Plan, version: u32) -> Result<(), NoMemory>
+    /// Takes the strip, that is seen at `from`, to a version, unless it is there or past it. After want of memory it tells at which version
+    /// in between the strip is seen.
+    pub fn raise(&mut self, plan: &Plan, from: u32, version: u32) -> Result<(), u32>
         requires plan { self.old.job.plan ≡ plan.now }
+        requires from { from ≡ self.old.done }
         requires version { version ≤ length plan.now.edits }
         ensures ok { OnOk result (IsRaised self.old self.new (max self.old.done version)) }
-        ensures err { OnErr result (IsStopped self.old self.new version) }
+        ensures err { IfErr result (λ at. (at ≡ self.new.done) × IsStopped self.old self.new version) }
     {
-        if version <= self.done {
+        if version <= from {
             return Ok(());
         }
         self.move_on(plan, version, version)
     }
 
-    /// Does the next edits, at most eight, or only comes to be seen behind them where they are done. Both answers tell from which
+    /// Does the next edits on the strip, that is seen at `from`: at most eight, or none where they are done. Both answers tell from which
     /// version to which; after want of memory it stands short of where the turn would end.
-    pub fn turn(&mut self, plan: &Plan) -> Result<(u32, u32), (u32, u32)>
+    pub fn turn(&mut self, plan: &Plan, from: u32) -> Result<(u32, u32), (u32, u32)>
         requires plan { self.old.job.plan ≡ plan.now }
+        requires from { from ≡ self.old.done }
         ensures ok { IfOk result (λ turn. (turn.0 ≡ self.old.done) × (turn.1 ≡ self.new.done)
             × IsRaised self.old self.new (min (self.old.done + 8) (length plan.now.edits))) }
         ensures err { IfErr result (λ turn. (turn.0 ≡ self.old.done) × (turn.1 ≡ self.new.done)
             × IsStopped self.old self.new (min (self.old.done + 8) (length plan.now.edits))) }
     {
-        let from = self.done();
+        // It is no more than how many edits were done.
+        let _done = self.strip.done();
         let edits = plan.edits();
         let to = (from + EDITS).min(edits);
         let stop = stop_from(self.strip.number(), to).min(edits);
         match self.move_on(plan, to, stop) {
             Ok(()) => Ok((from, to)),
-            Err(NoMemory) => Err((from, self.done)),
+            Err(at) => Err((from, at)),
         }
     }
 
@@ -147,13 +145,14 @@ impl AheadStrip {
         self.strip.counts_at(version)
     }
 
-    /// The strip as it is seen. Where it worked past that, it starts over and is raised again.
-    pub fn into_strip(self, plan: &Plan) -> Result<Strip, NoMemory>
+    /// The strip as it is seen, at version `done`. Where it worked past that, it starts over and is raised again.
+    pub fn into_strip(self, plan: &Plan, done: u32) -> Result<Strip, NoMemory>
         requires plan { self.job.plan ≡ plan.now }
+        requires done { done ≡ self.done }
         ensures { IfOk result (λ strip. strip ≡ self) }
     {
         let AheadStrip {
-            done,
+            seen: _,
             is_short: _,
             strip,
         } = self;

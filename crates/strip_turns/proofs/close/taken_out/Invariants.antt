@@ -4,8 +4,8 @@ use Rattle.std.specs.Mem.Slots.Ownership.{Filled}
 use Rattle.strip_turns.specs.Closed.{AllOut}
 use Rattle.strip_turns.proofs.close.taken_out.Given as goal
 
-abbrev pub invariant-loop-i : goal.invariant-loop-i
-invariant-loop-i l =
+abbrev pub invariant-loop-number : goal.invariant-loop-number
+invariant-loop-number l =
     (slots_len l.closed.slots ≡ slots_len l.initial.closed.slots) × (slots_items l.closed.slots ≡ slots_items l.initial.closed.slots)
-    × Filled (slots_filled l.closed.slots) l.i (slots_len l.closed.slots) × ((k : ℕ) → k < l.i → get_or (slots_filled l.closed.slots) k false ≡ false)
-    × AllOut (slots_items l.initial.closed.slots) l.strips.items l.i × (vec_capacity l.strips ≡ vec_capacity l.initial.strips)
+    × Filled (slots_filled l.closed.slots) l.number (slots_len l.closed.slots) × ((k : ℕ) → k < l.number → get_or (slots_filled l.closed.slots) k false ≡ false)
+    × AllOut (slots_items l.initial.closed.slots) l.strips.items l.number × (vec_capacity l.strips ≡ vec_capacity l.initial.strips) × (l.closed.words ≡ l.initial.closed.words)

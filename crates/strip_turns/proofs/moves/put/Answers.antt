@@ -1,6 +1,5 @@
-use Rattle.std.proofs.Common.{arith, ap, sym, ◌∙◌, ◌∷◌, None, Some, subst}
+use Rattle.std.proofs.Common.{ap, sym, ◌∙◌, ◌∷◌, None, Some}
 use Rattle.atomic_table.specs.Table.{rest}
-use Rattle.strip_turns.specs.Passes.{IsBack}
 use Rattle.strip_turns.proofs.OutAndBack.{back_from}
 use Rattle.strip_turns.proofs.moves.put.Goals as goal
 
@@ -20,13 +19,12 @@ give_back-requires-clause-held c =
         held = ap (λ z. z.held) v ∙ h.held;
         slots = ap (λ m. m.1) e.3 ∙ ap (λ l. (c.args.strip, Some c.args.piece) ∷ l) (ap rest h.slots);
         of_case = c.requires.of_case;
-        at = sym c.done-to.ensures.done;
-        further = omega (arith, c.requires.further, c.done-to.ensures.done);
+        at = c.requires.at;
+        further = c.requires.further;
       },
     )
 
 pub returns : goal.returns
 returns c =
-    let back = back_from c.args.board.now c.args.strip c.args.from c.done-to.result c.args.seat.now c.exchange.new.seat c.give_back.new.seat
-    (ap (λ m. m.0) c.exchange.ensures.3) c.give_back.ensures in
-    subst (λ n. IsBack c.args.board.now c.args.strip c.args.from n c.args.seat.now c.give_back.new.seat) c.done-to.ensures.done back
+    back_from c.args.board.now c.args.strip c.args.from c.args.to c.args.seat.now c.exchange.new.seat c.give_back.new.seat
+    (ap (λ m. m.0) c.exchange.ensures.3) c.give_back.ensures

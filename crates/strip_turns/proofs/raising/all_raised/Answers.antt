@@ -25,9 +25,9 @@ loop-strip-preserved g c =
     let k = c.loop-strip.strip in
     let idle = c.loop-strip.invariant.0 in
     let h = c.in_ok-piece.ensures.out in
-    let told = raised_told b k c.in_ok-piece.from c.args.version c.loop-strip.seat c.raised.new.seat c.put.new.seat c.in_ok-piece.piece
-    idle h c.put.ensures in (
-      back_idle b k c.in_ok-piece.from c.in_ok-piece.piece.done c.loop-strip.seat c.raised.new.seat c.put.new.seat idle h.out c.put.ensures,
+    let told = raised_told b k c.in_ok-piece.from c.max.result c.args.version c.loop-strip.seat c.raised.new.seat c.put.new.seat
+    c.in_ok-piece.piece idle h c.max.ensures c.put.ensures in (
+      back_idle b k c.in_ok-piece.from c.max.result c.loop-strip.seat c.raised.new.seat c.put.new.seat idle h.out c.put.ensures,
       all_raised_more (card b) c.args.version k _ _ _ c.loop-strip.invariant.1 told,
     )
 
@@ -50,7 +50,7 @@ put-requires-clause-of_case g c =
     c.in_ok-piece.ensures.out
 
 pub put-requires-clause-further : goal.put-requires-clause-further
-put-requires-clause-further g c = omega (arith, c.in_ok-piece.ensures.out.of_case.at)
+put-requires-clause-further g c = omega (arith, c.max.ensures)
 
 pub returns-clause-raised : goal.returns-clause-raised
 returns-clause-raised g c =

@@ -7,5 +7,5 @@ use Rattle.strip_turns.proofs.raising.raised.Goals as goal
 pub raise-requires-clause-plan : goal.raise-requires-clause-plan
 raise-requires-clause-plan g c =
     let b = c.args.board.now in
-    let piece = c.wait_and_take-piece.result in
-    plan_of (card b) c.args.strip piece.done piece b.whole c.wait_and_take-piece.ensures.of_case ∙ b.card
+    let piece = c.wait_and_take-piece.result.0 in
+    plan_of (card b) c.args.strip piece.done piece b.whole c.wait_and_take-piece.ensures.out.of_case ∙ b.card

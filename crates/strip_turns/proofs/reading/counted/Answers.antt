@@ -65,9 +65,10 @@ loop-strip-preserved g c =
     let same = c.grid-grid.ensures ∙ ap (λ (p : PlanOf). p.grid) (sym b.card) in
     let count = c.strips-strip-end.ensures ∙ ap (λ x. length (strips_of x)) same in
     let strip : k < length (strips_of grid) = omega (arith, c.loop-strip-test.true) in
-    let told = raised_told b k from c.args.version c.loop-strip.seat c.raised.new.seat c.put.new.seat piece idle h c.put.ensures in
+    let told =
+    raised_told b k from c.max.result c.args.version c.loop-strip.seat c.raised.new.seat c.put.new.seat piece idle h c.max.ensures c.put.ensures in
     record {
-      idle = back_idle b k from piece.done c.loop-strip.seat c.raised.new.seat c.put.new.seat idle h.out c.put.ensures;
+      idle = back_idle b k from c.max.result c.loop-strip.seat c.raised.new.seat c.put.new.seat idle h.out c.put.ensures;
       raised = all_raised_more (card b) c.args.version k _ _ _ c.loop-strip.invariant.raised told;
       totals = λ job all.
           c.plus-totals.ensures
@@ -112,7 +113,7 @@ put-requires-clause-of_case g c =
     c.in_ok-piece.ensures.out
 
 pub put-requires-clause-further : goal.put-requires-clause-further
-put-requires-clause-further g c = omega (arith, c.in_ok-piece.ensures.out.of_case.at)
+put-requires-clause-further g c = omega (arith, c.max.ensures)
 
 pub returns-clause-raised : goal.returns-clause-raised
 returns-clause-raised g c =

@@ -47,8 +47,8 @@ returns-clause-raised g c =
     let at = ap (λ grid. slice_get (strip_at grid k) c.place-strip.result.1) (sym c.grid.ensures) ∙ c.place-strip.ensures.there in
     let number = (only_place b.plan.grid ray k c.place-strip.result.1 at).0 in
     subst (λ n. Raised (card b) n c.args.version c.args.seat.now.me.0 c.put.new.seat.me.0) number
-    (raised_told b k c.in_ok-piece.from c.args.version c.args.seat.now c.raised.new.seat c.put.new.seat c.in_ok-piece.piece
-    c.requires.idle c.in_ok-piece.ensures.out c.put.ensures)
+    (raised_told b k c.in_ok-piece.from c.max.result c.args.version c.args.seat.now c.raised.new.seat c.put.new.seat c.in_ok-piece.piece
+    c.requires.idle c.in_ok-piece.ensures.out c.max.ensures c.put.ensures)
 
 pub returns-clause-state : goal.returns-clause-state
 returns-clause-state g c = λ job all.
