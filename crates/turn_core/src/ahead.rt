@@ -63,8 +63,8 @@ impl AheadStrip {
         }
     }
 
-    /// Comes to be seen at a version. Where the edits up to it aren't done yet, they are done up to a stop. After want of memory it comes to be
-    /// seen at the version that is answered.
+    /// Comes to be seen at a version. Where the edits up to it aren't done yet, they are done up to a stop. After want of memory it comes
+    /// to be seen at the version that is answered.
     fn move_on(&mut self, plan: &Plan, version: u32, stop: u32) -> Result<(), u32>
         requires plan { self.old.job.plan ≡ plan.now }
         requires further { self.old.done ≤ version }
