@@ -66,6 +66,6 @@ pub(crate) fn do_task<R: Threads + Wait + Sync, G: Gate + Sync>(
     ensures answered { IfOk result (λ facts. IsTrue (are_answered facts.answers)) }
     ensures valid { IfOk result (λ _. IsPlan inputs.job.plan) }
 {
-    let ready = make_ready(rt, alloc, inputs, workers)?;
+    let ready = make_ready(alloc, inputs)?;
     do_ready(rt, alloc, ready, workers, gate)
 }

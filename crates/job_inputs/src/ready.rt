@@ -16,15 +16,14 @@ use point_marks::{Usual, size, sweep_of};
 use ray_shapes::Bodies;
 use setup_file::{Setup, shifted};
 use std::alloc::Global;
-use std::thread::Threads;
-use strip_plan::{Plan, PlanMove};
+use strip_plan::{PlanDraft, PlanMove};
 use vf_io::NoMemory;
 
-/// A task that is ready to be done: its plan; the stock, the part as it may be cut and the fixtures as they are kept clear; how many
-/// records of the program were passed over; and the queries.
+/// A task that is ready to be done: what its plan is made of; the stock, the part as it may be cut and the fixtures as they are kept
+/// clear; how many records of the program were passed over; and the queries.
 #[derive(Drop)]
 pub struct ReadyTask {
-    pub plan: Plan,
+    pub plan: PlanDraft,
     pub stock: Bodies,
     pub part: Bodies,
     pub fixture: Bodies,
@@ -120,13 +119,8 @@ fn task_bodies(alloc: Global, setup: &Setup) -> Result<TaskBodies, NoMemory>
     })
 }
 
-/// Makes a task ready to be done, by so many workers. Fails only for want of memory.
-pub fn make_ready<R: Threads + Sync>(
-    rt: &R,
-    alloc: Global,
-    inputs: TaskInputs,
-    workers: u32,
-) -> Result<ReadyTask, NoMemory>
+/// Makes a task ready to be done. Fails only for want of memory.
+pub fn make_ready(alloc: Global, inputs: TaskInputs) -> Result<ReadyTask, NoMemory>
     ensures task { IfOk result (λ ready. task_ready ready ≡ inputs) }
     ensures asked { IfOk result (λ ready. All (IsQuery ready.plan.grid (length ready.plan.edits)) ready.queries) }
     ensures valid { IfOk result (λ ready. IsPlan ready.plan) }
@@ -138,16 +132,7 @@ pub fn make_ready<R: Threads + Sync>(
     } = inputs;
     let moves = plan_moves(alloc, &setup.tool, program.moves.as_slice())?;
     let Script { edits, queries } = script;
-    let plan = Plan::by_workers(
-        rt,
-        alloc,
-        setup.grid,
-        setup.slabs,
-        setup.depth,
-        moves,
-        edits,
-        workers,
-    )?;
+    let plan = PlanDraft::new(alloc, setup.grid, setup.slabs, setup.depth, moves, edits)?;
     let TaskBodies {
         stock,
         part,

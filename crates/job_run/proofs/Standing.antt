@@ -9,6 +9,8 @@ use Rattle.ray_grid.specs.Strips.{strips_of}
 use Rattle.job_model.specs.Tasks.{Job, PlanOf}
 use Rattle.strip_journal.specs.Strips.{StripOf}
 use Rattle.turn_core.specs.World.{AreStrips, AreStripsAt, versions_of}
+use Rattle.job_run.specs.Jobs.{job_with}
+use Rattle.job_run.specs.declared.bodies.JobBodies.{JobBodies}
 use Rattle.job_run.specs.Strips.{AreAt, AreOf, AreRaised, strip_with}
 
 -- the strip at a place
@@ -33,9 +35,11 @@ of_fresh plan job strips at = record {
   };
 }
 
--- the same strips behind a slice
-pub of_made : (plan : PlanOf) (job : Job) (made strips : List StripOf) → AreAt plan job 0 made → strips ≡ made → AreOf plan job strips
-of_made plan job made strips at e = subst (AreOf plan job) (sym e) (of_fresh plan job made at)
+-- strips that were made by a draft are strips of the plan that it became
+pub of_made : (draft plan : PlanOf) (bodies : JobBodies) (made : List StripOf) → plan ≡ draft → AreAt draft (job_with draft bodies) 0 made
+    → AreOf plan (job_with plan bodies) made
+of_made draft plan bodies made is at =
+    of_fresh plan (job_with plan bodies) made (subst (λ (p : PlanOf). AreAt p (job_with p bodies) 0 made) (sym is) at)
 
 -- they stay strips of the job at other versions
 pub of_still : (plan : PlanOf) (job : Job) (before after : List StripOf) → AreOf plan job before → AreStrips job after

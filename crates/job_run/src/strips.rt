@@ -14,7 +14,7 @@ use ray_shapes::{RayShape, Solid, body_spans};
 use std::alloc::Global;
 use std::thread::{Threads, join};
 use strip_journal::Strip;
-use strip_plan::Plan;
+use strip_plan::PlanDraft;
 use vf_io::NoMemory;
 use vf_spans::Spans;
 
@@ -25,7 +25,7 @@ fn strips_by<
     C: Fn(&Ray) -> Result<Spans, NoMemory>,
 >(
     alloc: Global,
-    plan: &Plan,
+    plan: &PlanDraft,
     from: u32,
     to: u32,
     stock: &RayShape<A>,
@@ -48,7 +48,7 @@ fn strips_by<
 {
     let mut strips = Vec::with_capacity(alloc, (to - from) as usize)?;
     for number in from..to {
-        strips.push(Strip::fresh(alloc, plan, number, stock, part, fixture)?)?;
+        strips.push(Strip::of_draft(alloc, plan, number, stock, part, fixture)?)?;
     }
     Ok(strips)
 }
@@ -56,7 +56,7 @@ fn strips_by<
 /// The strips of a plan from one number on and below another, before the first edit.
 fn strips_between(
     alloc: Global,
-    plan: &Plan,
+    plan: &PlanDraft,
     bodies: &JobBodies,
     from: u32,
     to: u32,
@@ -115,7 +115,7 @@ fn share_end(grid: &Grid, from: u32, to: u32, parts: u32) -> u32
 fn strips_in_parts<R: Threads + Sync>(
     rt: &R,
     alloc: Global,
-    plan: &Plan,
+    plan: &PlanDraft,
     bodies: &JobBodies,
     from: u32,
     to: u32,
@@ -147,7 +147,7 @@ fn strips_in_parts<R: Threads + Sync>(
 }
 
 /// How many strips the grid of a plan has. Its numbers make one.
-fn strip_count(plan: &Plan) -> u32
+fn strip_count(plan: &PlanDraft) -> u32
     ensures count { result ≡ length (strips_of plan.now.grid) }
     ensures valid { IsGrid plan.now.grid }
 {
@@ -161,7 +161,7 @@ fn strip_count(plan: &Plan) -> u32
 pub fn fresh_strips<R: Threads + Sync>(
     rt: &R,
     alloc: Global,
-    plan: &Plan,
+    plan: &PlanDraft,
     bodies: &JobBodies,
     workers: u32,
 ) -> Result<Vec<Strip>, NoMemory>

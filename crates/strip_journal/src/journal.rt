@@ -6,7 +6,7 @@ use ray_words::RayRow;
 use std::alloc::Global;
 use std::snapshot::Snapshot;
 use strip_marks::WordChange;
-use strip_plan::Plan;
+use strip_plan::PlanDraft;
 
 /// What a strip keeps: its newest sets, and what is needed to look back. First what an edit that leaves it alone reads and writes.
 #[derive(Drop)]
@@ -20,7 +20,7 @@ pub struct Journal {
     pub line: EditLine,
     pub alloc: Global,
     /// What the strip is of: for contracts alone, without a byte.
-    pub plan: Snapshot<Plan>,
+    pub plan: Snapshot<PlanDraft>,
     pub stock: Snapshot<Solid>,
     pub part: Snapshot<Solid>,
     pub fixture: Snapshot<Solid>,

@@ -21,7 +21,7 @@ use std::alloc::Global;
 use std::marker::Model;
 use std::snapshot::Snapshot;
 use std::sync::ledger::Ledger;
-use strip_plan::Plan;
+use strip_plan::{Plan, PlanDraft};
 use vf_io::NoMemory;
 use vf_spans::Spans;
 use vf_steps::Steps;
@@ -74,18 +74,50 @@ impl Strip {
           done = 0;
         }) }
     {
+        Strip::of_draft(alloc, plan.draft(), number, stock, part, fixture)
+    }
+
+    /// The same by what the plan is made of, so that strips can be made while the plan is reckoned.
+    pub fn of_draft<
+        A: Fn(&Ray) -> Result<Spans, NoMemory>,
+        B: Fn(&Ray) -> Result<Spans, NoMemory>,
+        C: Fn(&Ray) -> Result<Spans, NoMemory>,
+    >(
+        alloc: Global,
+        draft: &PlanDraft,
+        number: u32,
+        stock: &RayShape<A>,
+        part: &RayShape<B>,
+        fixture: &RayShape<C>,
+    ) -> Result<Strip, NoMemory>
+        requires number { number < length (strips_of draft.now.grid) }
+        requires stock_grid { stock.now.grid ≡ draft.now.grid }
+        requires part_grid { part.now.grid ≡ draft.now.grid }
+        requires fixture_grid { fixture.now.grid ≡ draft.now.grid }
+        requires stock_callable { (ray : _) → IsRay stock.now.grid ray.now → A.pre stock.now.source ray }
+        requires part_callable { (ray : _) → IsRay part.now.grid ray.now → B.pre part.now.source ray }
+        requires fixture_callable { (ray : _) → IsRay fixture.now.grid ray.now → C.pre fixture.now.source ray }
+        requires stock_gives { Gives (FnReturnsAt A.Fn stock.now.source) stock.now.grid stock.now.solid }
+        requires part_gives { Gives (FnReturnsAt B.Fn part.now.source) part.now.grid part.now.solid }
+        requires fixture_gives { Gives (FnReturnsAt C.Fn fixture.now.source) fixture.now.grid fixture.now.solid }
+        ensures { IfOk result (λ s. s ≡ record {
+          job = record { plan = draft.now; stock = stock.now.solid; part = part.now.solid; fixture = fixture.now.solid };
+          number = number;
+          done = 0;
+        }) }
+    {
         // The plan is valid, its edits are few, and its grid is one.
-        let _moves = plan.moves();
-        let _edits = plan.edits();
-        hold_grid(plan.grid());
-        let (rays, of) = fresh_rays(alloc, plan.grid(), number, stock, part, fixture)?;
+        let _moves = draft.moves();
+        let _edits = draft.edits();
+        hold_grid(draft.grid());
+        let (rays, of) = fresh_rays(alloc, draft.grid(), number, stock, part, fixture)?;
         let journal = Journal {
             number,
             done: 0,
             at: 0,
             line: EditLine::new(alloc),
             alloc,
-            plan: Snapshot::of(plan),
+            plan: Snapshot::of(draft),
             stock: Snapshot::of(&stock.solid),
             part: Snapshot::of(&part.solid),
             fixture: Snapshot::of(&fixture.solid),

@@ -4,15 +4,10 @@ use Rattle.std.proofs.lemmas.Bool.{cases_lt}
 use Rattle.std.proofs.lemmas.List.{get_or_append_left, length-append}
 use Rattle.std.proofs.lemmas.Option.{get_or_from_slice_get, slice_get_read, slice_get_within}
 use Rattle.std.proofs.Math.Seq.{get_or-append_right, get_or-append_seam}
-use Rattle.space.specs.Motion.{Motion}
-use Rattle.cutter_slabs.specs.Stacks.{StacksOf}
 use Rattle.wanted_marks.specs.declared.ready_move.ReadyMove.{ReadyMove}
-use Rattle.wanted_marks.specs.Rays.{move_of}
 use Rattle.wanted_marks.specs.Ready.{IsReadyMove}
 use Rattle.job_model.specs.Tasks.{JobMove}
-use Rattle.strip_plan.specs.Cutters.{HasStacks}
 use Rattle.strip_plan.specs.ReadyMoves.{HasReadyMoves}
-use Rattle.strip_plan.proofs.Marked.{stacks_are}
 
 pub no_ready_moves : (slabs depth : ℕ) (moves : List JobMove) (from : ℕ) → HasReadyMoves slabs depth moves from from []
 no_ready_moves slabs depth moves from = record { many = omega arith; each = λ n move d lt at. absurd (omega (arith, lt)) }
@@ -76,17 +71,11 @@ pub late_read : (early late : List ReadyMove) (number : ℕ) (own : ReadyMove) �
 late_read early late number own ge lt read =
     slice_get_read (early ++ late) (length (early ++ late)) number own refl lt (read ∙ sym (get_or-append_right early late number own ge))
 
--- what is reckoned of a move of a plan is of its motion and of the stacks at its place
-pub ready_is : (moves : List JobMove) (slabs depth : ℕ) (stacks : List StacksOf) (places : List ℕ) (ready : List ReadyMove) (number place : ℕ) (next : JobMove) (found : StacksOf)
-    (motion : Motion) (own : ReadyMove) → HasStacks slabs moves stacks places (length moves) → HasReadyMoves slabs depth moves 0 (length moves) ready → number < length moves
-    → place ≡ get_or places number place → found ≡ get_or stacks place found → next ≡ get_or moves number next → motion ≡ next.motion
-    → slice_get ready number ≡ Some own → IsReadyMove own (move_of found motion depth)
-ready_is moves slabs depth stacks places ready number place next found motion own has has_ready lt read_place read_found read_next moved read_own =
-    let at : slice_get moves (0 + number) ≡ Some next =
-    ap (λ i. slice_get moves i) (let q : 0 + number ≡ number = omega arith in q) ∙ slice_get_read moves (length moves) number next refl lt read_next in
-    let is = has_ready.each number next own (slice_get_within ready number own read_own) at in
-    let by_own = subst (λ (r : ReadyMove). IsReadyMove r record { cutter = next.cutter; slabs = slabs; motion = next.motion; depth = depth })
-    (get_or_from_slice_get ready number own own read_own) is in
-    let by_stacks = subst (λ (s : StacksOf). IsReadyMove own (move_of s next.motion depth))
-    (sym (stacks_are moves slabs stacks places number place next found has lt read_place read_found read_next)) by_own in
-    subst (λ (m : Motion). IsReadyMove own (move_of found m depth)) (sym moved) by_stacks
+-- what is kept for a number is what was reckoned of the move with that number
+pub ready_is : (moves : List JobMove) (slabs depth : ℕ) (ready : List ReadyMove) (number : ℕ) (move : JobMove) (own : ReadyMove)
+    → HasReadyMoves slabs depth moves 0 (length moves) ready → slice_get moves number ≡ Some move → slice_get ready number ≡ Some own
+    → IsReadyMove own record { cutter = move.cutter; slabs = slabs; motion = move.motion; depth = depth }
+ready_is moves slabs depth ready number move own has named read =
+    let at : slice_get moves (0 + number) ≡ Some move = ap (λ i. slice_get moves i) (let q : 0 + number ≡ number = omega arith in q) ∙ named in
+    subst (λ (r : ReadyMove). IsReadyMove r record { cutter = move.cutter; slabs = slabs; motion = move.motion; depth = depth })
+    (get_or_from_slice_get ready number own own read) (has.each number move own (slice_get_within ready number own read) at)

@@ -3,11 +3,12 @@ use Rattle.std.specs.Prelude.{ℕ, List, ◌++◌, length}
 use Rattle.std.specs.Global.{Vec}
 use Rattle.ray_grid.specs.Grids.{GridSize}
 use Rattle.edit_plan.specs.declared.edit.Edit.{Edit}
-use Rattle.job_model.specs.Tasks.{JobMove}
+use Rattle.job_model.specs.Tasks.{JobMove, PlanOf}
 use Rattle.wanted_marks.specs.declared.ready_move.ReadyMove.{ReadyMove}
 use Rattle.strip_plan.specs.declared.cutters.Cutters.{Cutters}
 use Rattle.strip_plan.specs.declared.reckoned.Entered.{Entered}
 use Rattle.strip_plan.specs.declared.reckoned.Readied.{Readied}
+use Rattle.strip_plan.specs.declared.reckoned.Reckoned.{Reckoned}
 use Rattle.strip_plan.specs.Boxed.{HasBoxes}
 use Rattle.strip_plan.specs.Cutters.{HasStacks}
 use Rattle.strip_plan.specs.Cylinders.{HasCylinders}
@@ -33,3 +34,9 @@ abbrev pub IsReadiedFor : GridSize → ℕ → ℕ → List JobMove → Readied 
 IsReadiedFor grid slabs depth moves readied =
     HasCylinders grid slabs depth moves readied.cylinders.items (length moves)
     × AreHalves slabs depth moves (readied.early, readied.late)
+
+-- all of it is that of one plan's moves and edits
+abbrev pub IsReckonedOf : PlanOf → Reckoned → Type 0
+IsReckonedOf plan reckoned =
+    IsEnteredBy plan.grid plan.slabs plan.depth plan.moves plan.edits reckoned.entered
+    × IsReadiedFor plan.grid plan.slabs plan.depth plan.moves reckoned.readied

@@ -5,6 +5,7 @@ mod bounds;
 mod boxes;
 mod cutters;
 mod cylinders;
+mod draft;
 mod index_box;
 mod indexed;
 mod passing;
@@ -16,5 +17,7 @@ mod reckoned;
 mod strip_range;
 mod windows;
 
+pub use draft::PlanDraft;
 pub use plan::Plan;
 pub use plan_move::PlanMove;
+pub use reckoned::Reckoned;

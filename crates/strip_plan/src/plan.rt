@@ -3,55 +3,43 @@ ghost use Rattle.edit_plan.specs.Edits.{AppliesBelow};
 ghost use Rattle.edit_plan.specs.Limits.{most_edits, most_script_moves};
 ghost use Rattle.ray_grid.specs.Strips.{strip_at, strips_of};
 ghost use Rattle.job_model.specs.Tasks.{IsPlan, JobMove};
-ghost use Rattle.strip_plan.specs.Parts.{AreStacksOf, IsEnteredBy, IsReadiedFor};
+ghost use Rattle.strip_plan.specs.Parts.{IsReckonedOf};
 ghost use Rattle.strip_plan.specs.Passing.{ArePassed};
 ghost use Rattle.strip_plan.specs.Plans.{HasNumber, move_in};
 ghost use Rattle.strip_plan.specs.Windows.{HoldsEntered, HoldsMet, IsAlongStrip};
 
-use crate::cutters::{Cutters, cutters_of};
+use crate::draft::PlanDraft;
 use crate::passing::count_alone;
 use crate::plan_move::PlanMove;
-use crate::reckoned::{Entered, Readied, entered_of, readied_of, reckoned_by};
+use crate::reckoned::{Entered, Readied, Reckoned};
 use crate::strip_range::StripRange;
 use crate::windows::{range_in_strip, row};
 use edit_plan::{Edit, Edits};
 use ray_grid::{Family, Grid, Ray};
 use std::alloc::Global;
 use std::marker::Model;
-use std::thread::Threads;
 use sweep_boxes::BoundingCylinder;
 use vf_io::NoMemory;
 use wanted_marks::MoveMarker;
 
-/// A plan, ready for strips. It is seen as the grid, the slabs, the depth, the moves and the edits that it was made of.
+/// A plan, ready for strips. It is seen as what it was made of.
 #[derive(Drop)]
 pub struct Plan {
-    grid: Grid,
-    depth: u32,
-    moves: Vec<PlanMove>,
-    edits: Edits,
-    cutters: Cutters,
+    draft: PlanDraft,
     entered: Entered,
     readied: Readied,
 }
 
 impl Model for Plan {
-    ghost use Rattle.std.specs.Prelude.{◌≤◌, All, length};
-    ghost use Rattle.edit_plan.specs.Edits.{AppliesBelow};
-    ghost use Rattle.edit_plan.specs.Limits.{most_edits, most_script_moves};
-    ghost use Rattle.job_model.specs.Tasks.{IsPlan, PlanOf};
-    ghost use Rattle.strip_plan.specs.Parts.{AreStacksOf, IsEnteredBy, IsReadiedFor};
+    ghost use Rattle.job_model.specs.Tasks.{PlanOf};
+    ghost use Rattle.strip_plan.specs.Parts.{IsEnteredBy, IsReadiedFor};
 
     ghost Value = { PlanOf };
 
-    ghost view = { λ p. record { grid = p.grid; slabs = p.cutters.slabs; depth = p.depth; moves = p.moves.items; edits = p.edits } };
+    ghost view = { λ p. p.draft };
 
-    ghost invariant = { λ p. (p.depth ≤ 10) × (length p.moves.items ≤ most_script_moves) × (length p.edits ≤ most_edits)
-        × All (AppliesBelow (length p.moves.items)) p.edits
-        × IsPlan record { grid = p.grid; slabs = p.cutters.slabs; depth = p.depth; moves = p.moves.items; edits = p.edits }
-        × AreStacksOf p.moves.items p.cutters
-        × IsEnteredBy p.grid p.cutters.slabs p.depth p.moves.items p.edits p.entered
-        × IsReadiedFor p.grid p.cutters.slabs p.depth p.moves.items p.readied };
+    ghost invariant = { λ p. IsEnteredBy p.draft.grid p.draft.slabs p.draft.depth p.draft.moves p.draft.edits p.entered
+        × IsReadiedFor p.draft.grid p.draft.slabs p.draft.depth p.draft.moves p.readied };
 }
 
 impl Plan {
@@ -72,84 +60,36 @@ impl Plan {
         requires named { All (AppliesBelow (length moves.items)) edits }
         ensures { IfOk result (λ plan. plan ≡ record { grid = grid; slabs = slabs; depth = depth; moves = moves.items; edits = edits }) }
     {
-        let cutters = cutters_of(alloc, &moves, slabs)?;
-        let entered = entered_of(alloc, &grid, depth, &moves, &cutters, edits.as_slice())?;
-        let readied = readied_of(alloc, &grid, depth, &moves, &cutters)?;
-        Ok(Plan::of_parts(grid, depth, moves, edits, cutters, entered, readied))
+        let draft = PlanDraft::new(alloc, grid, slabs, depth, moves, edits)?;
+        let reckoned = draft.reckon(alloc)?;
+        Ok(Plan::of_draft(draft, reckoned))
     }
 
-    /// The same plan, made by so many workers: so many threads have a part of it each, but at most four.
-    pub fn by_workers<R: Threads + Sync>(
-        rt: &R,
-        alloc: Global,
-        grid: Grid,
-        slabs: u32,
-        depth: u32,
-        moves: Vec<PlanMove>,
-        edits: Edits,
-        workers: u32,
-    ) -> Result<Plan, NoMemory>
-        requires some { 1 ≤ slabs }
-        requires few { slabs ≤ 256 }
-        requires shallow { depth ≤ 10 }
-        requires few_moves { length moves.items ≤ most_script_moves }
-        requires few_edits { length edits ≤ most_edits }
-        requires named { All (AppliesBelow (length moves.items)) edits }
-        ensures { IfOk result (λ plan. plan ≡ record { grid = grid; slabs = slabs; depth = depth; moves = moves.items; edits = edits }) }
+    /// The plan that a draft becomes, by what was reckoned of that draft.
+    pub fn of_draft(draft: PlanDraft, reckoned: Reckoned) -> Plan
+        requires { IsReckonedOf draft reckoned }
+        ensures { result ≡ draft }
     {
-        if workers < 2 {
-            return Plan::new(alloc, grid, slabs, depth, moves, edits);
-        }
-        let cutters = cutters_of(alloc, &moves, slabs)?;
-        let (entered, readied) = reckoned_by(
-            rt,
-            alloc,
-            &grid,
-            depth,
-            &moves,
-            &cutters,
-            edits.as_slice(),
-            workers,
-        )?;
-        Ok(Plan::of_parts(grid, depth, moves, edits, cutters, entered, readied))
-    }
-
-    /// A plan of its parts.
-    fn of_parts(
-        grid: Grid,
-        depth: u32,
-        moves: Vec<PlanMove>,
-        edits: Edits,
-        cutters: Cutters,
-        entered: Entered,
-        readied: Readied,
-    ) -> Plan
-        requires shallow { depth ≤ 10 }
-        requires few_moves { length moves.items ≤ most_script_moves }
-        requires few_edits { length edits ≤ most_edits }
-        requires named { All (AppliesBelow (length moves.items)) edits }
-        requires valid { IsPlan record { grid = grid; slabs = cutters.slabs; depth = depth; moves = moves.items; edits = edits } }
-        requires stacks { AreStacksOf moves.items cutters }
-        requires entered { IsEnteredBy grid cutters.slabs depth moves.items edits entered }
-        requires readied { IsReadiedFor grid cutters.slabs depth moves.items readied }
-        ensures { result ≡ record { grid = grid; slabs = cutters.slabs; depth = depth; moves = moves.items; edits = edits } }
-    {
+        let Reckoned { entered, readied } = reckoned;
         Plan {
-            grid,
-            depth,
-            moves,
-            edits,
-            cutters,
+            draft,
             entered,
             readied,
         }
+    }
+
+    /// What the plan was made of.
+    pub fn draft(&self) -> &PlanDraft
+        ensures { result.now ≡ self.now }
+    {
+        &self.draft
     }
 
     /// The lattice.
     pub fn grid(&self) -> &Grid
         ensures { result.now ≡ self.now.grid }
     {
-        &self.grid
+        self.draft.grid()
     }
 
     /// How many moves the program has. The plan is valid and its depth is at most 10.
@@ -159,7 +99,7 @@ impl Plan {
         ensures valid { IsPlan self.now }
         ensures shallow { self.now.depth ≤ 10 }
     {
-        self.moves.len() as u32
+        self.draft.moves()
     }
 
     /// How many edits there are.
@@ -168,7 +108,7 @@ impl Plan {
         ensures few { result ≤ most_edits }
         ensures named { All (AppliesBelow (length self.now.moves)) self.now.edits }
     {
-        self.edits.len() as u32
+        self.draft.edits()
     }
 
     /// The edit that follows a version. The move that it applies is one of the plan's.
@@ -177,7 +117,7 @@ impl Plan {
         ensures edit { slice_get self.now.edits version ≡ Some result }
         ensures named { AppliesBelow (length self.now.moves) result }
     {
-        self.edits.as_slice()[version as usize]
+        self.draft.edit(version)
     }
 
     /// Whether a move is in rapid motion.
@@ -185,7 +125,7 @@ impl Plan {
         requires { number < length self.now.moves }
         ensures { (move : JobMove) → HasNumber self.now number move → result ≡ move.rapid }
     {
-        self.moves[number as usize].rapid
+        self.draft.is_rapid(number)
     }
 
     /// The line where a move's record begins.
@@ -193,7 +133,7 @@ impl Plan {
         requires { number < length self.now.moves }
         ensures { (move : JobMove) → HasNumber self.now number move → result ≡ move.line }
     {
-        self.moves[number as usize].line
+        self.draft.line(number)
     }
 
     /// What marks the points of rays by a move.
@@ -202,13 +142,8 @@ impl Plan {
         ensures marker { (move : JobMove) → HasNumber self.now number move → result ≡ move_in self.now move }
         ensures valid { IsPlan self.now }
     {
-        let place = self.cutters.places[number as usize];
-        MoveMarker::of_ready(
-            &self.moves[number as usize].sweep,
-            &self.cutters.stacks[place],
-            self.depth,
-            self.readied.ready(number as usize),
-        )
+        self.draft
+            .marker(number, self.readied.ready(number as usize))
     }
 
     /// From the one index to the other lie, on every ray of a strip, that of a family's rays with the first node `i`, all at which a move
@@ -249,7 +184,7 @@ impl Plan {
         ensures within { result.1 ≤ length (strip_at self.now.grid strip) }
         ensures holds { (move : JobMove) → HasNumber self.now number move → HoldsEntered self.now move strip result.0 result.1 }
     {
-        let (family, i) = row(&self.grid, strip);
+        let (family, i) = row(self.draft.grid(), strip);
         let window = self.entered.boxes.hulls[number as usize].in_strip(
             family,
             i,
@@ -280,10 +215,10 @@ impl Plan {
         ensures most { result ≤ most }
         ensures alone { ArePassed self.now strip version result }
     {
-        let (family, i) = row(&self.grid, strip);
+        let (family, i) = row(self.draft.grid(), strip);
         let from = version as usize;
         let to = from + most as usize;
-        let edits = self.edits.as_slice();
+        let edits = self.draft.edit_list();
         count_alone(
             &self.entered.boxes.hulls,
             &self.entered.groups,

@@ -22,7 +22,7 @@ use wanted_marks::ReadyMove;
 
 /// Which strips moves enter: the boxes of the moves, and those of the groups of edits.
 #[derive(Drop)]
-pub(crate) struct Entered {
+pub struct Entered {
     pub(crate) boxes: Boxes,
     pub(crate) groups: Vec<Option<IndexBox>>,
 }
@@ -30,10 +30,17 @@ pub(crate) struct Entered {
 /// What the marks of moves are made by: the cylinders of the moves, and what is reckoned of each once, that of the first moves in one
 /// list and that of the rest in another.
 #[derive(Drop)]
-pub(crate) struct Readied {
+pub struct Readied {
     pub(crate) cylinders: Vec<BoundingCylinder>,
     pub(crate) early: Vec<ReadyMove>,
     pub(crate) late: Vec<ReadyMove>,
+}
+
+/// What is reckoned of a plan's moves and edits, once for all strips.
+#[derive(Drop)]
+pub struct Reckoned {
+    pub(crate) entered: Entered,
+    pub(crate) readied: Readied,
 }
 
 impl Readied {

@@ -16,38 +16,38 @@ loop-number-preserved g c =
       part = c.args.part.now.solid;
       fixture = c.args.fixture.now.solid;
     } in
-    from_pushed job 0 c.args.from c.loop-number.number c.loop-number.strips.items c.push.new.self.items c.in_ok-fresh.field-0
-    c.loop-number.invariant c.in_ok-fresh.ensures c.in_ok-push.ensures.items
+    from_pushed job 0 c.args.from c.loop-number.number c.loop-number.strips.items c.push.new.self.items c.in_ok-of_draft.field-0
+    c.loop-number.invariant c.in_ok-of_draft.ensures c.in_ok-push.ensures.items
 
-pub fresh-requires-clause-stock_grid : goal.fresh-requires-clause-stock_grid
-fresh-requires-clause-stock_grid g c = c.requires.stock_grid
+pub of_draft-requires-clause-stock_grid : goal.of_draft-requires-clause-stock_grid
+of_draft-requires-clause-stock_grid g c = c.requires.stock_grid
 
-pub fresh-requires-clause-part_grid : goal.fresh-requires-clause-part_grid
-fresh-requires-clause-part_grid g c = c.requires.part_grid
+pub of_draft-requires-clause-part_grid : goal.of_draft-requires-clause-part_grid
+of_draft-requires-clause-part_grid g c = c.requires.part_grid
 
-pub fresh-requires-clause-fixture_grid : goal.fresh-requires-clause-fixture_grid
-fresh-requires-clause-fixture_grid g c = c.requires.fixture_grid
+pub of_draft-requires-clause-fixture_grid : goal.of_draft-requires-clause-fixture_grid
+of_draft-requires-clause-fixture_grid g c = c.requires.fixture_grid
 
-pub fresh-requires-clause-stock_callable : goal.fresh-requires-clause-stock_callable
-fresh-requires-clause-stock_callable g c = c.requires.stock_callable
+pub of_draft-requires-clause-stock_callable : goal.of_draft-requires-clause-stock_callable
+of_draft-requires-clause-stock_callable g c = c.requires.stock_callable
 
-pub fresh-requires-clause-part_callable : goal.fresh-requires-clause-part_callable
-fresh-requires-clause-part_callable g c = c.requires.part_callable
+pub of_draft-requires-clause-part_callable : goal.of_draft-requires-clause-part_callable
+of_draft-requires-clause-part_callable g c = c.requires.part_callable
 
-pub fresh-requires-clause-fixture_callable : goal.fresh-requires-clause-fixture_callable
-fresh-requires-clause-fixture_callable g c = c.requires.fixture_callable
+pub of_draft-requires-clause-fixture_callable : goal.of_draft-requires-clause-fixture_callable
+of_draft-requires-clause-fixture_callable g c = c.requires.fixture_callable
 
-pub fresh-requires-clause-stock_gives : goal.fresh-requires-clause-stock_gives
-fresh-requires-clause-stock_gives g c = c.requires.stock_gives
+pub of_draft-requires-clause-stock_gives : goal.of_draft-requires-clause-stock_gives
+of_draft-requires-clause-stock_gives g c = c.requires.stock_gives
 
-pub fresh-requires-clause-part_gives : goal.fresh-requires-clause-part_gives
-fresh-requires-clause-part_gives g c = c.requires.part_gives
+pub of_draft-requires-clause-part_gives : goal.of_draft-requires-clause-part_gives
+of_draft-requires-clause-part_gives g c = c.requires.part_gives
 
-pub fresh-requires-clause-fixture_gives : goal.fresh-requires-clause-fixture_gives
-fresh-requires-clause-fixture_gives g c = c.requires.fixture_gives
+pub of_draft-requires-clause-fixture_gives : goal.of_draft-requires-clause-fixture_gives
+of_draft-requires-clause-fixture_gives g c = c.requires.fixture_gives
 
-pub fresh-requires-clause-number : goal.fresh-requires-clause-number
-fresh-requires-clause-number g c = omega (arith, c.loop-number-test.true, c.requires.within)
+pub of_draft-requires-clause-number : goal.of_draft-requires-clause-number
+of_draft-requires-clause-number g c = omega (arith, c.loop-number-test.true, c.requires.within)
 
 pub returns : goal.returns
 returns g c =

@@ -16,15 +16,15 @@ pub returns-clause-alone : goal.returns-clause-alone
 returns-clause-alone c =
     let plan = c.args.self.now in
     let own = c.self.inside.entered.boxes in
-    let has = subst (λ (p : PlanOf). HasBoxes p.grid p.slabs p.depth p.moves own.hulls.items own.boxes.items own.starts.items (length p.moves)) c.self.view_is c.self.invariant.6.0 in
-    let named = subst (λ (p : PlanOf). All (AppliesBelow (length p.moves)) p.edits) c.self.view_is c.self.invariant.3 in
+    let has = subst (λ (p : PlanOf). HasBoxes p.grid p.slabs p.depth p.moves own.hulls.items own.boxes.items own.starts.items (length p.moves)) c.self.view_is c.self.invariant.0.0 in
+    let named = subst (λ (p : PlanOf). All (AppliesBelow (length p.moves)) p.edits) c.self.view_is c.edit_list-edits.ensures.named in
     let family = c.row-family.result.0 in
     let i = c.row-family.result.1 in
-    let row = subst (λ (g : GridSize). strip_at g c.args.strip ≡ strip_of g family i) (ap (λ (p : PlanOf). p.grid) c.self.view_is) c.row-family.ensures in
+    let row = subst (λ (g : GridSize). strip_at g c.args.strip ≡ strip_of g family i) (c.grid.ensures ∙ ap (λ (p : PlanOf). p.grid) c.self.view_is) c.row-family.ensures in
     let from = c.args.version in
     let count = c.count_alone.result in
-    let edits = c.as_slice-edits.ensures ∙ ap (λ (p : PlanOf). p.edits) c.self.view_is in
-    let own_hulls = subst (λ (hulls : List IndexBox). AllWithin (AppliesNone hulls family i) c.as_slice-edits.result.now from (from + count))
+    let edits = c.edit_list-edits.ensures.list ∙ ap (λ (p : PlanOf). p.edits) c.self.view_is in
+    let own_hulls = subst (λ (hulls : List IndexBox). AllWithin (AppliesNone hulls family i) c.edit_list-edits.result.now from (from + count))
     c.deref.ensures.value c.count_alone.ensures.alone in
     let none = subst (λ (all : List Edit). AllWithin (AppliesNone own.hulls.items family i) all from (from + count)) edits own_hulls in
     let most = c.count_alone.ensures.within in

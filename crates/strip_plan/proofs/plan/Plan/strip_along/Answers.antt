@@ -13,7 +13,7 @@ returns-then-start-end c =
     let plan = c.args.self.now in
     let own = c.self.inside.entered.boxes in
     let has = subst (λ (p : PlanOf). HasBoxes p.grid p.slabs p.depth p.moves own.hulls.items own.boxes.items own.starts.items
-    (length p.moves)) c.self.view_is c.self.invariant.6.0 in
+    (length p.moves)) c.self.view_is c.self.invariant.0.0 in
     let box = c.index.result.now in
     let fits = hull_fits plan own.hulls.items own.boxes.items own.starts.items c.args.number box has c.requires c.index.ensures in
     let along = (fits c.args.family).along in
@@ -30,7 +30,7 @@ range_in_strip-requires c =
     let plan = c.args.self.now in
     let own = c.self.inside.entered.boxes in
     let has = subst (λ (p : PlanOf). HasBoxes p.grid p.slabs p.depth p.moves own.hulls.items own.boxes.items own.starts.items
-    (length p.moves)) c.self.view_is c.self.invariant.6.0 in
+    (length p.moves)) c.self.view_is c.self.invariant.0.0 in
     subst (λ (boxes : List IndexBox). c.index-end.result.now ≤ length boxes) (sym c.deref.ensures.value)
     (ends_within plan own.hulls.items own.boxes.items own.starts.items c.args.number c.index-end.result.now has c.requires c.index-end.ensures)
 
@@ -39,7 +39,7 @@ returns c =
     let plan = c.args.self.now in
     let own = c.self.inside.entered.boxes in
     let has = subst (λ (p : PlanOf). HasBoxes p.grid p.slabs p.depth p.moves own.hulls.items own.boxes.items own.starts.items
-    (length p.moves)) c.self.view_is c.self.invariant.6.0 in
+    (length p.moves)) c.self.view_is c.self.invariant.0.0 in
     let range = c.range_in_strip.ensures.range plan.grid (subst (AreBoxesOf plan.grid) (sym c.deref.ensures.value) has.boxes_fit) in
     record {
       order = range.order;

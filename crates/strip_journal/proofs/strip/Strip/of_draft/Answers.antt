@@ -4,16 +4,16 @@ use Rattle.ray_grid.specs.Grids.{GridSize}
 use Rattle.ray_grid.specs.Ranges.{IsGrid}
 use Rattle.edit_plan.specs.Limits.{most_edits}
 use Rattle.strip_journal.proofs.FreshJournal.{first_journal, first_on}
-use Rattle.strip_journal.proofs.strip.Strip.fresh.Goals as goal
+use Rattle.strip_journal.proofs.strip.Strip.of_draft.Goals as goal
 
 pub invariant_of-result : goal.invariant_of-result
 invariant_of-result g c =
-    let few : length c.args.plan.now.edits ≤ most_edits = omega (arith, c.edits-edits.ensures.count, c.edits-edits.ensures.few) in
-    first_journal _ c.args.plan.now c.args.stock.now.solid c.args.part.now.solid c.args.fixture.now.solid c.of.ensures c.of-2.ensures
+    let few : length c.args.draft.now.edits ≤ most_edits = omega (arith, c.edits-edits.ensures.count, c.edits-edits.ensures.few) in
+    first_journal _ c.args.draft.now c.args.stock.now.solid c.args.part.now.solid c.args.fixture.now.solid c.of.ensures c.of-2.ensures
     c.of-3.ensures c.of-4.ensures c.moves-moves.ensures.valid
     (subst (λ (grid : GridSize). IsGrid grid) c.grid.ensures c.hold_grid.ensures)
     c.requires.number few c.edits-edits.ensures.named
-    (first_on c.args.plan.now.grid c.grid-2.result.now c.args.number c.args.stock.now.solid c.args.part.now.solid
+    (first_on c.args.draft.now.grid c.grid-2.result.now c.args.number c.args.stock.now.solid c.args.part.now.solid
     c.args.fixture.now.solid c.in_ok-rays.rays c.grid-2.ensures c.in_ok-rays.ensures.rays)
     (record {
       of = c.in_ok-rays.ensures.stock;

@@ -1,9 +1,0 @@
-use Rattle.std.proofs.Common.{◌∙◌, ap}
-use Rattle.job_model.specs.Tasks.{JobMove, PlanOf}
-use Rattle.strip_plan.proofs.Marked.{named_is}
-use Rattle.strip_plan.proofs.plan.Plan.is_rapid.Goals as goal
-
-pub returns : goal.returns
-returns c move named =
-    ap (λ (m : JobMove). m.rapid) (c.behind-self.view_is
-    ∙ named_is c.args.self.now c.self.inside.moves.items c.args.number move c.index.result.now (ap (λ (p : PlanOf). p.moves) c.self.view_is) c.index.ensures named)
