@@ -136,7 +136,8 @@ const TASK: [(&str, &[u8]); 3] = [
     ("F", b"run 1 1\ncount\nundo 1\n"),
 ];
 
-/// Whether the task with this script is made ready by so many workers, with one move and so many edits and queries.
+/// Whether the task with this script is made ready, with one move and so many edits and queries, and its plan is reckoned by so many
+/// workers.
 fn is_ready<R: Threads + Sync>(
     rt: &R,
     alloc: Global,
@@ -149,13 +150,15 @@ fn is_ready<R: Threads + Sync>(
     let Ok(inputs) = read_task(alloc, "A", "S", script, &mut shelf) else {
         return Ok(false);
     };
-    let ready = make_ready(rt, alloc, inputs, workers)?;
+    let ready = make_ready(alloc, inputs)?;
+    let _reckoned = ready.plan.reckon_by(rt, alloc, workers)?;
     Ok(ready.plan.moves() == 1 && ready.plan.edits() == edits && ready.queries.len() == queries)
 }
 
-/// The moves of a made task that is made ready by so many workers.
+/// The moves of a made task that is made ready and whose plan is reckoned by so many workers.
 fn made_moves<R: Threads + Sync>(rt: &R, alloc: Global, workers: u32) -> Result<u32, NoMemory> {
-    let made = make_ready(rt, alloc, made_inputs(alloc, 1)?, workers)?;
+    let made = make_ready(alloc, made_inputs(alloc, 1)?)?;
+    let _reckoned = made.plan.reckon_by(rt, alloc, workers)?;
     Ok(made.plan.moves())
 }
 
