@@ -1,5 +1,5 @@
 -- A strip that is taken, in its slot or out of it, and put back.
-use Rattle.std.proofs.Common.{◌≡◌, ℕ, ◌+◌, ◌*◌, ◌^◌, ◌≤◌, List, [], ◌∷◌, Option, Some, None, MatchOption, max, arith, sym, ap, ◌∙◌, subst}
+use Rattle.std.proofs.Common.{◌≡◌, ℕ, ◌+◌, ◌*◌, ◌^◌, ◌≤◌, List, [], ◌∷◌, Option, Some, None, MatchBool, MatchOption, max, arith, sym, ap, ◌∙◌, subst, eqb, eq-eqb}
 use mathlib.Core.Option.{none}
 use Rattle.atomic_table.specs.Table.{Me, step, rest}
 use Rattle.atomic_table.specs.declared.shared.Seat.{Seat}
@@ -12,8 +12,10 @@ use Rattle.strip_turns.specs.Views.{with_strip, with_trip}
 use Rattle.strip_turns.specs.Log.{seen}
 use Rattle.strip_turns.specs.Cards.{start, last, IsCase}
 use Rattle.strip_turns.specs.Plays.{Took, Gives}
+use Rattle.strip_turns.specs.Sound.{word_of}
 use Rattle.strip_turns.specs.Passes.{card, IsIdle, Holds, TookAt, TookOut, RaisedOut, IsOut, IsIn, IsBack, Tripped}
 use Rattle.strip_turns.specs.Asks.{Raised}
+use Rattle.strip_turns.proofs.Taking.{at_true}
 
 heads : {A : Type 0} (a b : A) (xs ys : List A) → a ∷ xs ≡ b ∷ ys → a ≡ b
 heads a b xs ys e = cc
@@ -24,6 +26,17 @@ same_slot k x y xs ys zs p q = ap (λ (z : ℕ × Option StripOf). z.1) (heads (
 
 pub slot_of : (c : Card) (k found : ℕ) (before after : Me (Option StripOf) View) (t : (j : StripOf) × Took c k found before after j) → (x : Option StripOf) × (after.1 ≡ (k, x) ∷ rest after.1)
 slot_of c k found before after t = let e : after.1 ≡ (k, Some t.0) ∷ before.1 = ap (λ m. m.1) t.1.me in (Some t.0, e ∙ ap (λ l. (k, Some t.0) ∷ l) (sym (ap rest e)))
+
+-- what a step on a word tells: the strip was taken where the word was as expected, and else nothing happened
+abbrev pub ToldOfWord : ℕ → ℕ → ℕ → Seat (Option StripOf) View → Seat (Option StripOf) View → Type 0
+ToldOfWord word first found mid held = (c : Card) (k : ℕ) → mid.me.0.card ≡ Some c → word ≡ word_of k
+    → MatchBool (eqb found first) ((s : StripOf) × Took c k found mid.me held.me s) (held.me ≡ mid.me)
+
+-- a step that found the word as expected took the strip, also behind a look that changed nothing
+pub took_found : (b : Board) (k word first found : ℕ) (old mid held : Seat (Option StripOf) View) → IsIdle b old → mid.me ≡ old.me
+    → ToldOfWord word first found mid held → word ≡ word_of k → found ≡ first → (s : StripOf) × Took (card b) k found mid.me held.me s
+took_found b k word first found old mid held idle me told place same =
+    at_true _ _ _ (eq-eqb found first same) (told (card b) k (ap (λ m. m.0.card) me ∙ idle.named) place)
 
 -- the strip was taken out as it was, and its word was as found
 abbrev pub CameOut : Board → ℕ → ℕ → Seat (Option StripOf) View → Seat (Option StripOf) View → StripOf → Type 0
@@ -123,6 +136,16 @@ still_out b k found old mid seat (Some s) X me h = (
   },
   h.1,
 )
+
+-- so what comes out of the slot behind such a step is the strip
+pub came_out : (b : Board) (k word first found : ℕ) (old mid held last : Seat (Option StripOf) View) (x : Option StripOf) → IsIdle b old
+    → mid.table_id ≡ old.table_id → mid.me ≡ old.me → held.table_id ≡ mid.table_id
+    → ToldOfWord word first found mid held → word ≡ word_of k → found ≡ first → last.table_id ≡ held.table_id
+    → held.me.1 ≡ (k, x) ∷ rest held.me.1 → last.me ≡ (held.me.0, (k, None) ∷ rest held.me.1) → MatchOption x ⊥ (CameOut b k found old last)
+came_out b k word first found old mid held last x idle own me own-held told place same own-last has out =
+    let t = took_found b k word first found old mid held idle me told place same in
+    let i = still_idle b old mid idle own me in
+    still_out b k found old mid last x ⊥ me (taken_out b k found ⊥ mid held last x i t (own-last ∙ (own-held ∙ i.own)) has out)
 
 -- the strip that was taken out is out
 pub is_out : (b : Board) (k from : ℕ) (old seat : Seat (Option StripOf) View) → IsIdle b old → Holds b k from old seat
