@@ -11,7 +11,7 @@ use Rattle.job_inputs.specs.Inputs.{is_read_fault}
 use Rattle.clverify.specs.Headline.{Answers, Hands, IsComplete, IsDue}
 use Rattle.clverify.specs.Outside.{WritesAnswer}
 use Rattle.clverify.specs.Settled.{IsReport, MayEnd, Settles, answer_seen}
-use Rattle.clverify.specs.Truth.{IsTrueText, TellsTruth}
+use Rattle.clverify.specs.Truth.{HasNoFindings, IsTrueText, TellsTruth}
 use Rattle.clverify.specs.declared.answer.Answer.{Answer}
 use Rattle.clverify.specs.declared.status.Status.{Status}
 use Rattle.clverify.specs.declared.status.Status.TheVariants as ends
@@ -84,35 +84,55 @@ refusal_due files (mark_moves file question) fault same = ap (λ d. Some d) same
 refusal_due files (verify_moves call) fault same = ap (λ d. Some d) same
 refusal_due files (self_test number) fault same = ap (λ d. Some d) same
 
+-- a text that is true with a status is true as a front, which says nothing of a status
+true_in_front : (status : Status) (files : Files) (command : Command) (text : List ℕ) → IsTrueText status files command text → IsTrueText ends.WriteFault files command text
+true_in_front status files (list_moves file) text h = (tt, h.1)
+true_in_front status files (mark_moves file question) text h = (tt, h.1)
+true_in_front status files (verify_moves call) text h = record {
+  task = h.task;
+  stands_for = h.stands_for;
+  reports_truly = record { facts = h.reports_truly.facts; report = h.reports_truly.report; is_true = h.reports_truly.is_true; ends = tt };
+}
+true_in_front status files (self_test number) text h = record { facts = h.facts; summary = h.summary; is_true = h.is_true; ends = tt }
+
+-- a listing, and marks, that are true come without findings
+pub without_findings : (files : Option Files) (report : Result Answer Stopped) (P : Files → List ℕ → Type 0) → IfOk report (λ answer. answer.status ≡ ends.Clean)
+    → IfSome files (λ told. IfOk report (λ answer. P told answer.text.items)) → IfSome files (λ told. IfOk report (λ answer. HasNoFindings answer.status × P told answer.text.items))
+without_findings None report P clean so = tt
+without_findings (Some told) (Ok answer) P clean so = (subst HasNoFindings (sym clean) tt, so)
+without_findings (Some told) (Err stopped) P clean so = tt
+
 -- what is written of a report that is settled is true, where the report is
 module _ {K : Type 0} (written : K → Option (List ℕ)) (pieces : K → Option (List (List ℕ))) (faults : K → ℕ) (old new : K) (command : Command) where
   -- at Clean
-  clean_text : (files : Files) (report : Result Answer Stopped) → IfOk report (λ answer. IsTrueText files command answer.text.items) → Settles written pieces faults report ends.Clean old new
+  clean_text : (files : Files) (report : Result Answer Stopped) → IfOk report (λ answer. IsTrueText answer.status files command answer.text.items) → Settles written pieces faults report ends.Clean old new
       → TellsTruth ends.Clean (Some files) (Some command) (written old) (written new)
-  clean_text files (Ok answer) true_text h = (answer.text.items, true_text, h.0.answer.1)
+  clean_text files (Ok answer) true_text h =
+      (answer.text.items, subst (λ (s : Status). IsTrueText s files command answer.text.items) (sym h.0.answer.0) true_text, h.0.answer.1)
   clean_text files (Err (Refused fault)) true_text h = let e = h.0.answer.0 in cc
   clean_text files (Err ReadFault) true_text h = let e = h.0 in cc
   clean_text files (Err NoMemory) true_text h = let e = h.0 in cc
 
   -- with findings
-  findings_text : (files : Files) (report : Result Answer Stopped) → IfOk report (λ answer. IsTrueText files command answer.text.items) → Settles written pieces faults report ends.Findings old new
+  findings_text : (files : Files) (report : Result Answer Stopped) → IfOk report (λ answer. IsTrueText answer.status files command answer.text.items) → Settles written pieces faults report ends.Findings old new
       → TellsTruth ends.Findings (Some files) (Some command) (written old) (written new)
-  findings_text files (Ok answer) true_text h = (answer.text.items, true_text, h.0.answer.1)
+  findings_text files (Ok answer) true_text h =
+      (answer.text.items, subst (λ (s : Status). IsTrueText s files command answer.text.items) (sym h.0.answer.0) true_text, h.0.answer.1)
   findings_text files (Err (Refused fault)) true_text h = let e = h.0.answer.0 in cc
   findings_text files (Err ReadFault) true_text h = let e = h.0 in cc
   findings_text files (Err NoMemory) true_text h = let e = h.0 in cc
 
   -- after a fault of writing
-  front_text : (files : Files) (report : Result Answer Stopped) → IfSome (command_due (Some files) command) (IsReport report) → IfOk report (λ answer. IsTrueText files command answer.text.items)
+  front_text : (files : Files) (report : Result Answer Stopped) → IfSome (command_due (Some files) command) (IsReport report) → IfOk report (λ answer. IsTrueText answer.status files command answer.text.items)
       → Settles written pieces faults report ends.WriteFault old new → TellsTruth ends.WriteFault (Some files) (Some command) (written old) (written new)
-  front_text files (Ok answer) due true_text h = (answer.text.items, inl true_text, h.0.answer)
+  front_text files (Ok answer) due true_text h = (answer.text.items, inl (true_in_front answer.status files command answer.text.items true_text), h.0.answer)
   front_text files (Err (Refused fault)) due true_text h =
       (refusal_of fault, inr record { fault = fault; is_due = refusal_due files command fault due; is_line = refl }, h.0.answer)
   front_text files (Err ReadFault) due true_text h = let e = h.0 in cc
   front_text files (Err NoMemory) due true_text h = let e = h.0 in cc
 
   pub tells_truth : (status : Status) (files : Option Files) (report : Result Answer Stopped) → IfSome (command_due files command) (IsReport report)
-      → IfSome files (λ told. IfOk report (λ answer. IsTrueText told command answer.text.items)) → Settles written pieces faults report status old new
+      → IfSome files (λ told. IfOk report (λ answer. IsTrueText answer.status told command answer.text.items)) → Settles written pieces faults report status old new
       → TellsTruth status files (Some command) (written old) (written new)
   tells_truth ends.Clean (Some files) report due true_text h = clean_text files report true_text h
   tells_truth ends.Findings (Some files) report due true_text h = findings_text files report true_text h

@@ -1,5 +1,4 @@
 pub mod Done
-pub mod Made
 pub mod Endings
 pub mod Read
 pub mod Shapes

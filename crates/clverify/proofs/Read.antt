@@ -2,7 +2,7 @@
 use Rattle.std.proofs.Common.{◌≡◌, Option, Some, None, Result, Ok, Err, IfOk, IfSome, ap, subst, sym}
 use Rattle.vf_io.specs.Files.{Files}
 use Rattle.report_text.specs.declared.fault.Fault.{Fault}
-use Rattle.job_model.specs.Tasks.{Task}
+use Rattle.job_report.specs.Tasks.{Task}
 use Rattle.job_inputs.specs.Inputs.{GivesInput}
 use Rattle.job_inputs.specs.declared.stopped.Stopped.{Stopped}
 use Rattle.job_inputs.specs.declared.stopped.Stopped.TheVariants.{Refused, ReadFault, NoMemory}
@@ -20,8 +20,8 @@ report_of_read (Some told) call task report read due = subst (λ (input : Result
 
 -- it is true of what the files stand for
 pub true_of_read : (files : Option Files) (call : VerifyCall) (task : Task) (report : Result Answer Stopped)
-    → IfSome files (λ told. task_in call told ≡ Ok task) → IfOk report (λ answer. ReportsTruly task answer.text.items)
-    → IfSome files (λ told. IfOk report (λ answer. IsTrueVerification call told answer.text.items))
+    → IfSome files (λ told. task_in call told ≡ Ok task) → IfOk report (λ answer. ReportsTruly task answer.status answer.text.items)
+    → IfSome files (λ told. IfOk report (λ answer. IsTrueVerification call told answer.status answer.text.items))
 true_of_read None call task report read truly = tt
 true_of_read (Some told) call task (Ok answer) read truly = record { task = task; stands_for = read; reports_truly = truly }
 true_of_read (Some told) call task (Err stopped) read truly = tt

@@ -11,8 +11,8 @@ use Rattle.job_inputs.specs.declared.stopped.Stopped.{Stopped}
 
 -- what is true of the summary of a made task is true whatever the files are
 pub true_over_all : (files : Option Files) (report : Result Answer Stopped) (number : ℕ)
-    → IfOk report (λ answer. IsTrueSelftest number answer.text.items)
-    → IfSome files (λ told. IfOk report (λ answer. IsTrueText told (self_test number) answer.text.items))
+    → IfOk report (λ answer. IsTrueSelftest number answer.status answer.text.items)
+    → IfSome files (λ told. IfOk report (λ answer. IsTrueText answer.status told (self_test number) answer.text.items))
 true_over_all None report number summary = tt
 true_over_all (Some told) report number summary = summary
 

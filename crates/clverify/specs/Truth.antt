@@ -15,12 +15,17 @@ use Rattle.clverify.specs.Due.{command_due}
 use Rattle.clverify.specs.declared.status.Status.{Status}
 use Rattle.clverify.specs.declared.status.Status.TheVariants.{Clean, Findings, WriteFault}
 
--- the text of a command that was carried out is a true one
-abbrev pub IsTrueText : Files → Command → List ℕ → Type 0
-IsTrueText files (list_moves file) text = IsTrueListing (bytes_of files file) text
-IsTrueText files (mark_moves file question) text = IsTrueMarking question (bytes_of files file) text
-IsTrueText files (verify_moves call) text = IsTrueVerification call files text
-IsTrueText files (self_test number) text = IsTrueSelftest number text
+-- a listing and marks come without findings
+abbrev pub HasNoFindings : Status → Type 0
+HasNoFindings Findings = ⊥
+HasNoFindings status = Unit {0}
+
+-- the text of a command that was carried out, and ended with this status, is a true one
+abbrev pub IsTrueText : Status → Files → Command → List ℕ → Type 0
+IsTrueText status files (list_moves file) text = HasNoFindings status × IsTrueListing (bytes_of files file) text
+IsTrueText status files (mark_moves file question) text = HasNoFindings status × IsTrueMarking question (bytes_of files file) text
+IsTrueText status files (verify_moves call) text = IsTrueVerification call files status text
+IsTrueText status files (self_test number) text = IsTrueSelftest number status text
 
 -- the text is the one line that a command's files are refused with
 pub record IsRefusal (files : Files) (command : Command) (text : List ℕ) : Type 0 where
@@ -28,11 +33,11 @@ pub record IsRefusal (files : Files) (command : Command) (text : List ℕ) : Typ
   pub is_due : command_due (Some files) command ≡ Some (refused fault)
   pub is_line : text ≡ refusal_of fault
 
--- Where the files are told: a command that ends Clean or with Findings wrote a true text, whole; one that ends by a fault of
--- writing wrote a front of a true text, or of the line that its files are refused with.
+-- Where the files are told: a command that ends Clean or with Findings wrote a true text, whole, that says so; one that ends by a
+-- fault of writing wrote a front of a true text, or of the line that its files are refused with.
 abbrev pub TellsTruth : Status → Option Files → Option Command → Option (List ℕ) → Option (List ℕ) → Type 0
-TellsTruth Clean (Some files) (Some command) old new = (text : List ℕ) × IsTrueText files command text × Appends old new text
-TellsTruth Findings (Some files) (Some command) old new = (text : List ℕ) × IsTrueText files command text × Appends old new text
+TellsTruth Clean (Some files) (Some command) old new = (text : List ℕ) × IsTrueText Clean files command text × Appends old new text
+TellsTruth Findings (Some files) (Some command) old new = (text : List ℕ) × IsTrueText Findings files command text × Appends old new text
 TellsTruth WriteFault (Some files) (Some command) old new =
-    (text : List ℕ) × (IsTrueText files command text ⊎ IsRefusal files command text) × AppendsFront old new text
+    (text : List ℕ) × (IsTrueText WriteFault files command text ⊎ IsRefusal files command text) × AppendsFront old new text
 TellsTruth status files command old new = Unit {0}

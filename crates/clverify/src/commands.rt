@@ -77,7 +77,7 @@ pub(crate) fn report_on<R: Threads + Wait + Sync, S: Shelf, G: Gate + Sync>(
     ensures report { IfSome (command_due (S.files shelf.old) (command_seen command.now)) (IsReport result) }
     ensures verdict { IfOk result (λ answer. IsVerdict answer.status) }
     ensures sound { IfSome (S.files shelf.old) (λ files. IfOk result (λ answer.
-        IsTrueText files (command_seen command.now) answer.text.items)) }
+        IsTrueText answer.status files (command_seen command.now) answer.text.items)) }
     ensures read { ReadsOnce S.files S.faults S.failures (is_read_fault result) shelf.old shelf.new }
 {
     match command {

@@ -1,13 +1,13 @@
 ghost use Rattle.std.specs.Prelude.{◌≡◌, All, IfOk, IsTrue, length};
 ghost use Rattle.edit_plan.specs.Queries.{IsQuery};
-ghost use Rattle.job_facts.specs.Facts.{are_answered};
+ghost use Rattle.job_report.specs.Facts.{are_answered};
 ghost use Rattle.job_inputs.specs.Ready.{task_ready};
-ghost use Rattle.job_model.specs.Report.{facts_of};
-ghost use Rattle.job_model.specs.Tasks.{IsPlan};
+ghost use Rattle.job_report.specs.Report.{facts_of};
+ghost use Rattle.job_report.specs.Tasks.{IsTask};
 ghost use Rattle.clverify.specs.Asked.{AreWorkers};
 
-use job_facts::Facts;
 use job_inputs::{ReadyTask, TaskInputs, make_ready};
+use job_report::Facts;
 use job_run::{JobBodies, run_job};
 use std::alloc::Global;
 use std::sync::Wait;
@@ -64,7 +64,7 @@ pub(crate) fn do_task<R: Threads + Wait + Sync, G: Gate + Sync>(
     requires { AreWorkers workers }
     ensures facts { IfOk result (λ facts. facts ≡ facts_of inputs) }
     ensures answered { IfOk result (λ facts. IsTrue (are_answered facts.answers)) }
-    ensures valid { IfOk result (λ _. IsPlan inputs.job.plan) }
+    ensures valid { IfOk result (λ _. IsTask inputs) }
 {
     let ready = make_ready(alloc, inputs)?;
     do_ready(rt, alloc, ready, workers, gate)

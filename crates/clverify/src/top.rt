@@ -35,8 +35,8 @@ pub fn run<R: Threads + Wait + Sync, S: Shelf, K: Sink, G: Gate + Sync>(
     // Each line by a put of its own, and none after one that failed.
     ensures hands { Hands result (due (S.files shelf.old) (command_of (map string_bytes words.now)))
         (K.written sink.old) (K.written sink.new) (K.pieces sink.old) (K.pieces sink.new) }
-    // What was written is true: a listing of the file's own moves, marks that are true of the cutter, a report of the job that the
-    // files stand for, true of the exact cutters.
+    // What was written is true: a listing of the file's own moves, marks that are true of the cutter, a report of the task that the
+    // files stand for, true of the exact cutters line by line; and the status is what the lines say.
     ensures sound { TellsTruth result (S.files shelf.old) (command_of (map string_bytes words.now))
         (K.written sink.old) (K.written sink.new) }
     // Words that are no command are answered without a read, and without memory where they don't begin with `verify`.

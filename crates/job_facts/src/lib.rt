@@ -1,10 +1,8 @@
-//! What a check of a job finds: counts and totals of points, answers to queries, and whether a move is safe.
+//! What is counted in a check of a job: the points that a move meets, the totals of a version, and answers to queries.
 #![tactic(auto)]
 
 mod counts;
-mod facts;
 mod totals;
 
 pub use counts::Counts;
-pub use facts::{Facts, Found};
 pub use totals::{Answer, PointState, Totals};

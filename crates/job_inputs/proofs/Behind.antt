@@ -6,7 +6,7 @@ use Rattle.cl_moves.specs.declared.moves.Move.{Move}
 use Rattle.cl_moves.specs.declared.program.Program.{Program}
 use Rattle.cutter_slabs.specs.Cutter.{CutterSize}
 use Rattle.edit_plan.specs.declared.script.Script.{Script}
-use Rattle.job_model.specs.Tasks.{Task}
+use Rattle.job_report.specs.Tasks.{Task}
 use Rattle.point_marks.specs.Cutters.{first_low}
 use Rattle.point_marks.specs.declared.cutters.Usual.{Usual}
 use Rattle.report_text.specs.declared.fault.Fault.{Fault}

@@ -5,7 +5,7 @@ use Rattle.cl_moves.specs.Program.{most_moves}
 use Rattle.cl_moves.specs.declared.program.Program.{Program}
 use Rattle.edit_plan.specs.Sound.{IsScript}
 use Rattle.edit_plan.specs.declared.script.Script.{Script}
-use Rattle.job_model.specs.Tasks.{Task}
+use Rattle.job_report.specs.Tasks.{Task}
 use Rattle.ray_shapes.specs.declared.solid.Solid.TheVariants.{Bodies}
 use Rattle.setup_file.specs.Sound.{IsSetup}
 use Rattle.setup_file.specs.declared.setup.Setup.{Setup}

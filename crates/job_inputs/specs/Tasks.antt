@@ -7,7 +7,8 @@ use Rattle.cl_moves.specs.declared.program.Program.{Program}
 use Rattle.cutter_slabs.specs.Cutter.{CutterSize}
 use Rattle.edit_plan.specs.declared.script.Script.{Script}
 use Rattle.edit_plan.specs.Script.{whole_of_moves}
-use Rattle.job_model.specs.Tasks.{JobMove, Task}
+use Rattle.job_model.specs.Tasks.{JobMove}
+use Rattle.job_report.specs.Tasks.{Task}
 use Rattle.made_program.specs.Made.{made_moves, made_of}
 use Rattle.made_setup.specs.Made.{made_setup}
 use Rattle.ray_shapes.specs.declared.solid.Solid.TheVariants.{Bodies}

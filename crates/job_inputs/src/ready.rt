@@ -1,7 +1,7 @@
 ghost use Rattle.std.specs.Prelude.{◌≡◌, neg_ℤ, map, length, None, All, IfOk, false};
 ghost use Rattle.cl_moves.specs.Moves.{IsMove};
 ghost use Rattle.edit_plan.specs.Queries.{IsQuery};
-ghost use Rattle.job_model.specs.Tasks.{IsPlan};
+ghost use Rattle.job_report.specs.Tasks.{IsTask};
 ghost use Rattle.setup_file.specs.Shift.{shifted_of};
 ghost use Rattle.setup_file.specs.Sound.{IsSetup, IsTool};
 ghost use Rattle.point_marks.specs.Cutters.{first_low, is_move_low};
@@ -123,7 +123,7 @@ fn task_bodies(alloc: Global, setup: &Setup) -> Result<TaskBodies, NoMemory>
 pub fn make_ready(alloc: Global, inputs: TaskInputs) -> Result<ReadyTask, NoMemory>
     ensures task { IfOk result (λ ready. task_ready ready ≡ inputs) }
     ensures asked { IfOk result (λ ready. All (IsQuery ready.plan.grid (length ready.plan.edits)) ready.queries) }
-    ensures valid { IfOk result (λ ready. IsPlan ready.plan) }
+    ensures valid { IfOk result (λ ready. IsTask (task_ready ready)) }
 {
     let TaskInputs {
         program,

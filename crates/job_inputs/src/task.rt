@@ -30,7 +30,7 @@ pub struct TaskInputs {
 }
 
 impl Model for TaskInputs {
-    ghost use Rattle.job_model.specs.Tasks.{Task};
+    ghost use Rattle.job_report.specs.Tasks.{Task};
     ghost use Rattle.job_inputs.specs.Ready.{IsReady};
     ghost use Rattle.job_inputs.specs.Tasks.{task_by};
 

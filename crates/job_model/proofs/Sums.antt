@@ -1,16 +1,15 @@
 -- Counts over the lattice are sums of counts over its strips, their rays and their indices.
-use Rattle.std.proofs.Common.{◌≡◌, true, false, ℕ, zero, suc, ◌+◌, ◌<◌, ◌≤◌, Bool, cond, List, [], ◌∷◌, ◌++◌, map, length, get_or, count_by, arith, refl, sym, ap, ap₂, ◌∙◌, ⊎_elim}
-use Rattle.std.specs.List.{Contains, flat_map, range_with_len}
-use Rattle.std.proofs.lemmas.Bool.{cases_Bool}
+use Rattle.std.proofs.Common.{◌≡◌, ◌+◌, Bool, cond, List, [], ◌∷◌, ◌++◌, map, count_by, refl, sym, ap, ap₂, ◌∙◌}
+use Rattle.std.specs.List.{flat_map, range_with_len}
 use Rattle.std.proofs.lemmas.List.{append_assoc}
 use Rattle.std.proofs.lemmas.List.Sums.{sum_by-append, sum_by-cons}
 use Rattle.ray_grid.specs.Grids.{GridSize}
 use Rattle.ray_grid.specs.declared.ray.Ray.{Ray}
 use Rattle.ray_grid.specs.Lattice.{point_of, points_of}
-use Rattle.ray_grid.specs.Points.{LatticePoint, lattice_of, points_on, rays_of}
+use Rattle.ray_grid.specs.Points.{LatticePoint, lattice_of, points_on}
 use Rattle.ray_grid.specs.Strips.{strips_of}
 use Rattle.job_facts.specs.declared.counts.Counts.{Counts}
-use Rattle.job_facts.specs.Counts.{no_counts, plus}
+use Rattle.job_facts.specs.Counts.{plus}
 use Rattle.dexel_rays.specs.Findings.{Seen, findings, is_fixture_possible, is_fixture_sure, is_new_possible, is_part_possible, is_part_sure, is_rapid_possible, is_rapid_sure, is_removed}
 use Rattle.job_model.specs.Sums.{sum_counts}
 
@@ -47,7 +46,7 @@ findings_map see f xs = λ i. record {
   rapid_possible = count_map (λ p. is_rapid_possible (see p)) f xs i;
 }
 
-flat_append : {X A : Type 0} (f : X → List A) (xs ys : List X) → flat_map f (xs ++ ys) ≡ flat_map f xs ++ flat_map f ys
+pub flat_append : {X A : Type 0} (f : X → List A) (xs ys : List X) → flat_map f (xs ++ ys) ≡ flat_map f xs ++ flat_map f ys
 flat_append f [] ys = refl
 flat_append f (x ∷ xs) ys = ap (λ l. f x ++ l) (flat_append f xs ys) ∙ sym (append_assoc (f x) (flat_map f xs) (flat_map f ys))
 

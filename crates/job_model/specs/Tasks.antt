@@ -1,12 +1,11 @@
--- A job as the three files stand for it.
-use Rattle.std.specs.Prelude.{ℕ, ◌<◌, ◌≤◌, Bool, List}
+-- A job: what is cut, and what is judged.
+use Rattle.std.specs.Prelude.{ℕ, ◌<◌, Bool, List}
 use Rattle.std.specs.List.{All}
 use Rattle.space.specs.Motion.{IsSweep, Motion}
 use Rattle.cutter_slabs.specs.Cutter.{CutterSize, IsCutter}
 use Rattle.ray_grid.specs.Grids.{GridSize}
 use Rattle.ray_shapes.specs.declared.solid.Solid.{Solid}
 use Rattle.edit_plan.specs.declared.edit.Edit.{Edit}
-use Rattle.edit_plan.specs.declared.query.Query.{Query}
 
 -- a move of the program, with the cutter that it has once the setup's tool fills what is missing
 pub record JobMove : Type 0 where
@@ -30,12 +29,6 @@ pub record Job : Type 0 where
   pub stock : Solid
   pub part : Solid
   pub fixture : Solid
-
--- What is verified: the job; how many records of the program were passed over; and the queries.
-pub record Task : Type 0 where
-  pub job : Job
-  pub passed : ℕ
-  pub queries : List Query
 
 -- a move is valid
 pub record IsJobMove (move : JobMove) : Type 0 where

@@ -7,9 +7,10 @@ use Rattle.edit_plan.specs.declared.query.Ask.TheVariants as asks
 use Rattle.edit_plan.specs.declared.query.Query.{Query}
 use Rattle.job_facts.specs.declared.totals.Answer.{Answer}
 use Rattle.job_facts.specs.Answers.{is_answer_to}
-use Rattle.job_facts.specs.Facts.{are_answered}
+use Rattle.job_report.specs.Facts.{are_answered}
 use Rattle.job_model.specs.Points.{left_moves}
-use Rattle.job_model.specs.Report.{answer_after, answered}
+use Rattle.job_model.specs.Answers.{answer_after}
+use Rattle.job_report.specs.Report.{answered}
 use Rattle.job_model.specs.Tasks.{Job, JobMove}
 use Rattle.turn_core.specs.World.{answer_of}
 use Rattle.job_run.specs.Asked.{asked_with}

@@ -12,13 +12,14 @@ use Rattle.job_facts.specs.declared.counts.Counts.{Counts}
 use Rattle.job_facts.specs.declared.totals.Totals.{Totals}
 use Rattle.job_facts.specs.Counts.{AreWithin, most_count, no_counts, plus}
 use Rattle.job_facts.specs.Totals.{TotalsWithin, plus_totals}
-use Rattle.job_model.specs.Findings.{found_from, found_over}
+use Rattle.job_report.specs.Report.{found_from}
+use Rattle.job_model.specs.Findings.{found_over}
 use Rattle.job_model.specs.Points.{left_moves, moves_of, strip_points, totals_after, totals_over}
 use Rattle.job_model.specs.Tasks.{Job, JobMove, PlanOf}
 use Rattle.strip_journal.specs.Strips.{AddsFound, IsFoundAt, StripOf, most_before}
 use Rattle.strip_plan.specs.Plans.{HasNumber}
 use Rattle.job_run.specs.Founds.{AreBroughtUp, AreLeft, HaveFound, first_points, rows_of}
-use Rattle.job_run.specs.Left.{IsBelow}
+use Rattle.job_report.specs.Tasks.{IsBelow}
 use Rattle.job_run.specs.declared.left.LeftMove.{LeftMove}
 use Rattle.job_run.specs.Strips.{AreAt, strip_with}
 use Rattle.job_run.proofs.Listed.{rows_found}

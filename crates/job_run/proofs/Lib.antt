@@ -1,6 +1,5 @@
 pub mod Sizes
 pub mod Parts
-pub mod Named
 pub mod Telling
 pub mod Listed
 pub mod Asked

@@ -6,16 +6,18 @@ use Rattle.std.proofs.lemmas.List.{append-nil, append_assoc, drop_more, length-t
 use Rattle.std.proofs.lemmas.List.Elements.{All-head, All-tail}
 use Rattle.std.proofs.lemmas.Option.{slice_get-get_or}
 use Rattle.job_facts.specs.declared.counts.Counts.{Counts}
-use Rattle.job_facts.specs.declared.facts.Found.{Found}
+use Rattle.job_report.specs.declared.facts.Found.{Found}
 use Rattle.job_facts.specs.Counts.{no_counts}
 use Rattle.ray_grid.specs.Points.{lattice_of}
-use Rattle.job_model.specs.Findings.{found_by, found_from, found_over}
+use Rattle.job_report.specs.Report.{found_by, found_from}
+use Rattle.job_model.specs.Findings.{found_over}
 use Rattle.job_model.specs.Points.{moves_of}
 use Rattle.job_model.specs.Tasks.{Job, JobMove, PlanOf}
 use Rattle.strip_plan.specs.Plans.{HasNumber}
 use Rattle.edit_plan.specs.Edits.{left_of}
 use Rattle.job_run.specs.Founds.{found_told, found_with, row_of, rows_of}
-use Rattle.job_run.specs.Left.{AreTold, IsBelow, IsTold}
+use Rattle.job_run.specs.Left.{AreTold, IsTold}
+use Rattle.job_report.specs.Tasks.{IsBelow}
 use Rattle.job_run.specs.declared.left.LeftMove.{LeftMove}
 
 -- a number below the length has one element

@@ -9,7 +9,8 @@ use Rattle.std.proofs.lemmas.Option.{get_or_from_slice_get, slice_get-get_or, sl
 use Rattle.edit_plan.specs.Edits.{left_of}
 use Rattle.job_model.specs.Tasks.{PlanOf}
 use Rattle.job_run.specs.declared.left.LeftMove.{LeftMove}
-use Rattle.job_run.specs.Left.{AreFirstTold, AreTold, IsBelow, IsTold}
+use Rattle.job_run.specs.Left.{AreFirstTold, AreTold, IsTold}
+use Rattle.job_report.specs.Tasks.{IsBelow}
 
 pub told_more : (plan : PlanOf) (numbers : List ℕ) (n : ℕ) (told : List LeftMove) (one : LeftMove) → AreFirstTold plan numbers n told
     → IsTold plan (get_or numbers n 0) one → AreFirstTold plan numbers (n + 1) (told ++ one ∷ [])

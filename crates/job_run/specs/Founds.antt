@@ -6,7 +6,7 @@ use Rattle.ray_grid.specs.Points.{LatticePoint, points_on}
 use Rattle.ray_grid.specs.Strips.{strips_of}
 use Rattle.edit_plan.specs.Edits.{left_of}
 use Rattle.job_facts.specs.declared.counts.Counts.{Counts}
-use Rattle.job_facts.specs.declared.facts.Found.{Found}
+use Rattle.job_report.specs.declared.facts.Found.{Found}
 use Rattle.job_facts.specs.Counts.{no_counts}
 use Rattle.job_model.specs.Findings.{found_over}
 use Rattle.job_model.specs.Points.{moves_of}
@@ -14,7 +14,8 @@ use Rattle.job_model.specs.Tasks.{Job, JobMove, PlanOf}
 use Rattle.strip_journal.specs.Strips.{StripOf}
 use Rattle.strip_plan.specs.Plans.{HasNumber}
 use Rattle.job_run.specs.declared.left.LeftMove.{LeftMove}
-use Rattle.job_run.specs.Left.{AreTold, IsBelow}
+use Rattle.job_run.specs.Left.{AreTold}
+use Rattle.job_report.specs.Tasks.{IsBelow}
 use Rattle.job_run.specs.Strips.{AreAt}
 
 -- the points of the first so many strips

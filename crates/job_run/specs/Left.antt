@@ -2,12 +2,9 @@
 use Rattle.std.specs.Prelude.{◌≡◌, ℕ, ◌+◌, ◌<◌, List, All, Some, length, slice_get, slice_index}
 use Rattle.edit_plan.specs.Edits.{MoveLists, left_of}
 use Rattle.job_model.specs.Tasks.{JobMove, PlanOf}
+use Rattle.job_report.specs.Tasks.{IsBelow}
 use Rattle.strip_plan.specs.Plans.{HasNumber}
 use Rattle.job_run.specs.declared.left.LeftMove.{LeftMove}
-
--- a number below another
-abbrev pub IsBelow : ℕ → ℕ → Type 0
-IsBelow most number = number < most
 
 -- the two lists by which edits are followed
 abbrev pub lists_with : List ℕ → List ℕ → MoveLists

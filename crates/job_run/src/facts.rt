@@ -1,7 +1,7 @@
 ghost use Rattle.std.specs.Prelude.{◌≡◌, [], IfOk, length};
 ghost use Rattle.edit_plan.specs.Edits.{left_of};
 ghost use Rattle.ray_grid.specs.Points.{lattice_of};
-ghost use Rattle.job_model.specs.Findings.{found_from};
+ghost use Rattle.job_report.specs.Report.{found_from};
 ghost use Rattle.job_model.specs.Points.{left_moves, totals_after};
 ghost use Rattle.job_model.specs.Tasks.{Job, PlanOf};
 ghost use Rattle.job_run.specs.Founds.{AreBroughtUp, AreLast, AreLeft, HaveFound, found_told, rows_of};
@@ -9,7 +9,8 @@ ghost use Rattle.job_run.specs.Jobs.{OfSomeJob, OfSomePlan};
 ghost use Rattle.job_run.specs.Left.{AreTold};
 
 use crate::left::LeftMove;
-use job_facts::{Counts, Found, Totals};
+use job_facts::{Counts, Totals};
+use job_report::Found;
 use std::alloc::Global;
 use strip_journal::Strip;
 use vf_io::NoMemory;

@@ -1,6 +1,7 @@
 ghost use Rattle.std.specs.Prelude.{◌≡◌, ◌++◌, ◌<◌, All, IfOk, OnOk, length};
 ghost use Rattle.edit_plan.specs.Edits.{after_edit, all_but_last, last_alone, left_of};
-ghost use Rattle.job_run.specs.Left.{AreFirstTold, AreTold, IsBelow, IsTold, lists_with};
+ghost use Rattle.job_run.specs.Left.{AreFirstTold, AreTold, IsTold, lists_with};
+ghost use Rattle.job_report.specs.Tasks.{IsBelow};
 
 use edit_plan::Edit;
 use std::alloc::Global;

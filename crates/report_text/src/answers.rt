@@ -1,7 +1,7 @@
 ghost use Rattle.std.specs.Prelude.{◌≡◌, ◌++◌, IsTrue, OnOk};
 ghost use Rattle.vf_text.specs.Pages.{line};
 ghost use Rattle.job_facts.specs.Answers.{is_answer_to};
-ghost use Rattle.job_facts.specs.Facts.{are_answered};
+ghost use Rattle.job_report.specs.Facts.{are_answered};
 ghost use Rattle.report_text.specs.Answers.{answer_text, count_text, family_name, probe_text, state_name};
 ghost use Rattle.report_text.specs.Report.{answer_lines};
 ghost use Rattle.report_text.specs.Verdict.{text_of_lines};

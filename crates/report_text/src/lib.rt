@@ -13,7 +13,7 @@ mod setup_fault;
 mod verdict;
 
 pub use fault::{Fault, Input, refusal_text};
-pub use job_facts::{Facts, Found};
+pub use job_report::{Facts, Found};
 pub use listing::list_text;
 pub use marking::point_text;
 pub use report::report_text;

@@ -1,6 +1,6 @@
 ghost use Rattle.std.specs.Prelude.{◌≡◌, ◌++◌, IsTrue, IfOk, OnOk};
 ghost use Rattle.vf_text.specs.Pages.{line};
-ghost use Rattle.job_facts.specs.Facts.{are_answered};
+ghost use Rattle.job_report.specs.Facts.{are_answered};
 ghost use Rattle.report_text.specs.Report.{counts_text, found_lines, found_text, heading_text, pair_text, report_of};
 ghost use Rattle.report_text.specs.Verdict.{text_of_lines};
 
@@ -8,7 +8,8 @@ use crate::answers::write_answers;
 use crate::counted::write_counted;
 use crate::listing::write_head;
 use crate::verdict::{write_total, write_verdict};
-use job_facts::{Counts, Facts, Found};
+use job_facts::Counts;
+use job_report::{Facts, Found};
 use std::alloc::Global;
 use vf_io::NoMemory;
 use vf_text::Page;

@@ -13,7 +13,7 @@ use Rattle.edit_plan.specs.Edits.{left_at}
 use Rattle.edit_lines.proofs.LinesChain.{left_applied}
 use Rattle.job_model.specs.Points.{is_sure, left_moves, may_meet, moves_of, some_possible, some_sure}
 use Rattle.job_model.specs.Tasks.{IsJobMove, IsPlan, Job, JobMove, PlanOf}
-use Rattle.job_model.proofs.True.{moves_valid, some_of}
+use Rattle.job_model.proofs.Lists.{moves_valid, some_of}
 use Rattle.strip_plan.specs.Plans.{HasNumber}
 use Rattle.strip_marks.specs.Marks.{point_at, possible_there, sure_there}
 use Rattle.strip_journal.specs.Journals.{possible_at, sure_at}

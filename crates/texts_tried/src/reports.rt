@@ -1,5 +1,6 @@
 use edit_plan::Ask;
-use job_facts::{Answer, Counts, Facts, Found, PointState, Totals};
+use job_facts::{Answer, Counts, PointState, Totals};
+use job_report::{Facts, Found};
 use ray_grid::{Family, Ray};
 use report_text::{report_text, selftest_text};
 use std::alloc::Global;

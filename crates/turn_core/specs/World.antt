@@ -7,7 +7,7 @@ use Rattle.edit_plan.specs.declared.query.Ask.TheVariants as asks
 use Rattle.edit_plan.specs.declared.query.Query.{Query}
 use Rattle.job_facts.specs.declared.totals.Answer.{Answer}
 use Rattle.job_model.specs.Points.{left_moves}
-use Rattle.job_model.specs.Report.{answer_after}
+use Rattle.job_model.specs.Answers.{answer_after}
 use Rattle.job_model.specs.Tasks.{Job, PlanOf}
 use Rattle.strip_journal.specs.Strips.{StripOf}
 use Rattle.turn_core.specs.declared.step.Step.{Step}

@@ -2,14 +2,15 @@
 -- is read.
 use Rattle.std.specs.Prelude.{◌≡◌, ℕ, List, [], ◌∷◌, Option, None, codes}
 use Rattle.vf_text.specs.Digits.{number_spelt}
-use Rattle.job_facts.specs.Facts.{JobFacts, is_clean}
-use Rattle.job_model.specs.Report.{facts_of}
-use Rattle.job_model.specs.Truth.{IsTrueOfPoints, IsTrueOfSafety}
+use Rattle.job_report.specs.Facts.{JobFacts, is_clean}
+use Rattle.job_report.specs.Report.{facts_of}
+use Rattle.job_report.specs.Truth.{IsTrueReport}
 use Rattle.report_text.specs.Selftest.{selftest_of}
 use Rattle.verify_words.specs.Words.{Word, Words, within}
 use Rattle.clverify.specs.Answer.{Due}
-use Rattle.clverify.specs.Commands.Verify.{status_by}
+use Rattle.clverify.specs.Commands.Verify.{EndsBy, status_by}
 use Rattle.job_inputs.specs.Tasks.{made_task}
+use Rattle.clverify.specs.declared.status.Status.{Status}
 
 -- its first word
 abbrev pub selftest_name : Word
@@ -38,8 +39,9 @@ summed_up number facts = record {
 abbrev pub selftest_due : ℕ → Due
 selftest_due number = summed_up number (facts_of (made_task number))
 
--- what is true of a text that it writes: it sums up what is so of the made task, and that is true of the exact cutters
-pub record IsTrueSelftest (number : ℕ) (text : List ℕ) : Type 0 where
-  pub summary : text ≡ (selftest_due number).text
-  pub points : IsTrueOfPoints (made_task number).job
-  pub safety : IsTrueOfSafety (made_task number).job
+-- what is true of a text that it writes: it sums up facts that are true of the made task, and the status is that of their lines
+pub record IsTrueSelftest (number : ℕ) (status : Status) (text : List ℕ) : Type 0 where
+  pub facts : JobFacts
+  pub summary : text ≡ selftest_of number facts.totals (is_clean facts.left)
+  pub is_true : IsTrueReport (made_task number) facts
+  pub ends : EndsBy status facts.left

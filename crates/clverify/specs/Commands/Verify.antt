@@ -1,11 +1,14 @@
 -- `verify CL SETUP [--script F] [--workers N]`: what each move of a cutter location file does to stock, part and fixtures, and
 -- whether it is safe.
-use Rattle.std.specs.Prelude.{◌≡◌, ℕ, Bool, List, ◌∷◌, Result, Ok, codes, if◌then◌else◌}
+use Rattle.std.specs.Prelude.{◌≡◌, ℕ, true, false, Bool, All, List, ◌∷◌, Result, Ok, codes, if◌then◌else◌}
+use Rattle.std.specs.List.{Contains}
 use Rattle.std.specs.Option.{option_map, option_to_list}
-use Rattle.job_facts.specs.Facts.{JobFacts, is_clean}
-use Rattle.job_model.specs.Report.{facts_of}
-use Rattle.job_model.specs.Tasks.{Task}
-use Rattle.job_model.specs.Truth.{IsTrueOfPoints, IsTrueOfSafety}
+use Rattle.job_facts.specs.Counts.{is_safe}
+use Rattle.job_report.specs.Facts.{JobFacts, is_clean}
+use Rattle.job_report.specs.Report.{facts_of}
+use Rattle.job_report.specs.Tasks.{Task}
+use Rattle.job_report.specs.Truth.{IsTrueReport}
+use Rattle.job_report.specs.declared.facts.Found.{Found}
 use Rattle.report_text.specs.Report.{report_of}
 use Rattle.report_text.specs.declared.fault.Fault.{Fault}
 use Rattle.verify_words.specs.Call.{VerifyCall}
@@ -44,14 +47,23 @@ verified task = reported (facts_of task)
 abbrev pub verify_due : VerifyCall → Files → Due
 verify_due call files = answer_of verified (task_in call files)
 
--- A true report of a task: what it says of points, and of moves that are safe, is true of the exact cutters.
-pub record ReportsTruly (task : Task) (text : List ℕ) : Type 0 where
-  pub report : text ≡ report_of (facts_of task)
-  pub points : IsTrueOfPoints task.job
-  pub safety : IsTrueOfSafety task.job
+-- How a check ends by what its lines say: clean where each says safe, with findings where some line doesn't. An end that comes from
+-- outside says nothing of them.
+abbrev pub EndsBy : Status → List Found → Type 0
+EndsBy Clean lines = All (λ (found : Found). is_safe found.counts ≡ true) lines
+EndsBy Findings lines = (found : Found) × Contains lines found × (is_safe found.counts ≡ false)
+EndsBy status lines = Unit {0}
+
+-- A true report of a task: the text says some facts, what they say is true of the task, line by line, and the status is that of the
+-- lines.
+pub record ReportsTruly (task : Task) (status : Status) (text : List ℕ) : Type 0 where
+  pub facts : JobFacts
+  pub report : text ≡ report_of facts
+  pub is_true : IsTrueReport task facts
+  pub ends : EndsBy status facts.left
 
 -- what is true of a text that it writes: it is a true report of the task that the files stand for
-pub record IsTrueVerification (call : VerifyCall) (files : Files) (text : List ℕ) : Type 0 where
+pub record IsTrueVerification (call : VerifyCall) (files : Files) (status : Status) (text : List ℕ) : Type 0 where
   pub task : Task
   pub stands_for : task_in call files ≡ Ok task
-  pub reports_truly : ReportsTruly task text
+  pub reports_truly : ReportsTruly task status text

@@ -1,6 +1,6 @@
 ghost use Rattle.std.specs.Prelude.{◌≡◌, IfOk, IsTrue, false, map, option_map, string_bytes};
-ghost use Rattle.job_facts.specs.Facts.{is_clean};
-ghost use Rattle.job_model.specs.Report.{facts_of};
+ghost use Rattle.job_report.specs.Facts.{is_clean};
+ghost use Rattle.job_report.specs.Report.{facts_of};
 ghost use Rattle.report_text.specs.Selftest.{selftest_of};
 ghost use Rattle.clverify.specs.Answer.{IsVerdict};
 ghost use Rattle.clverify.specs.Asked.{command_seen};
@@ -14,8 +14,8 @@ use crate::answer::Answer;
 use crate::commands::Command;
 use crate::commands::verify::status_by;
 use crate::job::do_task;
-use job_facts::Facts;
 use job_inputs::{Stopped, TaskInputs, made_inputs};
+use job_report::Facts;
 use report_text::selftest_text;
 use std::alloc::Global;
 use std::sync::Wait;
@@ -53,7 +53,7 @@ pub(crate) fn selftest_report<R: Threads + Wait + Sync, G: Gate + Sync>(
 ) -> Result<Answer, Stopped>
     ensures report { IsReport result (selftest_due number) }
     ensures verdict { IfOk result (λ answer. IsVerdict answer.status) }
-    ensures sound { IfOk result (λ answer. IsTrueSelftest number answer.text.items) }
+    ensures sound { IfOk result (λ answer. IsTrueSelftest number answer.status answer.text.items) }
     ensures memory { is_read_fault result ≡ false }
 {
     match made_inputs(alloc, number) {
@@ -73,7 +73,7 @@ fn verify_made<R: Threads + Wait + Sync, G: Gate + Sync>(
     requires { inputs ≡ made_task number }
     ensures report { IsReport result (selftest_due number) }
     ensures verdict { IfOk result (λ answer. IsVerdict answer.status) }
-    ensures sound { IfOk result (λ answer. IsTrueSelftest number answer.text.items) }
+    ensures sound { IfOk result (λ answer. IsTrueSelftest number answer.status answer.text.items) }
     ensures memory { is_read_fault result ≡ false }
 {
     match do_task(rt, alloc, inputs, WORKERS, gate) {

@@ -1,5 +1,5 @@
 ghost use Rattle.std.specs.Prelude.{◌≡◌, IfOk, IfSome, IsTrue, false, map, option_map, string_bytes};
-ghost use Rattle.job_facts.specs.Facts.{are_answered};
+ghost use Rattle.job_report.specs.Facts.{are_answered};
 ghost use Rattle.report_text.specs.Report.{report_of};
 ghost use Rattle.verify_words.specs.Call.{call_of};
 ghost use Rattle.verify_words.specs.Seen.{call_seen};
@@ -15,8 +15,8 @@ use crate::answer::Answer;
 use crate::commands::Command;
 use crate::job::do_task;
 use crate::status::Status;
-use job_facts::Facts;
 use job_inputs::{Stopped, TaskInputs, read_task};
+use job_report::Facts;
 use report_text::report_text;
 use std::alloc::Global;
 use std::sync::Wait;
@@ -56,7 +56,7 @@ pub(crate) fn verify_report<R: Threads + Wait + Sync, S: Shelf, G: Gate + Sync>(
     ensures report { IfSome (S.files shelf.old) (λ files. IsReport result (verify_due (call_seen said.now) files)) }
     ensures verdict { IfOk result (λ answer. IsVerdict answer.status) }
     ensures sound { IfSome (S.files shelf.old) (λ files. IfOk result (λ answer.
-        IsTrueVerification (call_seen said.now) files answer.text.items)) }
+        IsTrueVerification (call_seen said.now) files answer.status answer.text.items)) }
     ensures read { ReadsOnce S.files S.faults S.failures (is_read_fault result) shelf.old shelf.new }
 {
     match read_task(alloc, said.file, said.setup, said.script, shelf) {
@@ -76,7 +76,7 @@ fn verify_task<R: Threads + Wait + Sync, G: Gate + Sync>(
     requires { AreWorkers workers }
     ensures report { IsReport result (verified inputs) }
     ensures verdict { IfOk result (λ answer. IsVerdict answer.status) }
-    ensures sound { IfOk result (λ answer. ReportsTruly inputs answer.text.items) }
+    ensures sound { IfOk result (λ answer. ReportsTruly inputs answer.status answer.text.items) }
     ensures memory { is_read_fault result ≡ false }
 {
     match do_task(rt, alloc, inputs, workers, gate) {

@@ -1,13 +1,32 @@
 use Rattle.std.proofs.Common.{IfOk, IfSome, subst, sym}
-use Rattle.vf_io.specs.Files.{Files}
+use Rattle.vf_io.specs.Files.{Files, bytes_of}
 use Rattle.clverify.specs.Asked.{command_seen}
+use Rattle.clverify.specs.Commands.List.{IsTrueListing}
+use Rattle.clverify.specs.Commands.Point.{IsTrueMarking}
 use Rattle.clverify.specs.Due.{command_due}
 use Rattle.job_inputs.specs.Inputs.{is_read_fault}
 use Rattle.clverify.specs.Settled.{IsReport}
 use Rattle.clverify.specs.Truth.{IsTrueText}
 use Rattle.clverify.specs.declared.commands.Command.{Command}
+use Rattle.clverify.proofs.Endings.{without_findings}
 use Rattle.clverify.proofs.Unread.{true_over_all, unread}
 use Rattle.clverify.proofs.commands.report_on.Goals as goal
+
+pub returns-in-List-clause-sound : goal.returns-in-List-clause-sound
+returns-in-List-clause-sound g c =
+    subst (λ (command : Command). IfSome (g.S.Shelf.files c.args.shelf.now) (λ (files : Files).
+    IfOk c.list_report.result (λ answer. IsTrueText answer.status files (command_seen command) answer.text.items)))
+    (sym c.in-List.is)
+    (without_findings (g.S.Shelf.files c.args.shelf.now) c.list_report.result (λ files text. IsTrueListing (bytes_of files c.in-List.file.now) text)
+    c.list_report.ensures.clean c.list_report.ensures.sound)
+
+pub returns-in-Point-clause-sound : goal.returns-in-Point-clause-sound
+returns-in-Point-clause-sound g c =
+    subst (λ (command : Command). IfSome (g.S.Shelf.files c.args.shelf.now) (λ (files : Files).
+    IfOk c.point_report.result (λ answer. IsTrueText answer.status files (command_seen command) answer.text.items)))
+    (sym c.in-Point.is)
+    (without_findings (g.S.Shelf.files c.args.shelf.now) c.point_report.result
+    (λ files text. IsTrueMarking c.in-Point.question.now (bytes_of files c.in-Point.file.now) text) c.point_report.ensures.clean c.point_report.ensures.sound)
 
 pub returns-in-Selftest-clause-report : goal.returns-in-Selftest-clause-report
 returns-in-Selftest-clause-report g c =
@@ -17,7 +36,7 @@ returns-in-Selftest-clause-report g c =
 pub returns-in-Selftest-clause-sound : goal.returns-in-Selftest-clause-sound
 returns-in-Selftest-clause-sound g c =
     subst (λ (command : Command). IfSome (g.S.Shelf.files c.args.shelf.now) (λ (files : Files).
-    IfOk c.selftest_report.result (λ answer. IsTrueText files (command_seen command) answer.text.items)))
+    IfOk c.selftest_report.result (λ answer. IsTrueText answer.status files (command_seen command) answer.text.items)))
     (sym c.in-Selftest.is)
     (true_over_all (g.S.Shelf.files c.args.shelf.now) c.selftest_report.result c.in-Selftest.number c.selftest_report.ensures.sound)
 

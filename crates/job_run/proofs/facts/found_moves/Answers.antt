@@ -1,7 +1,7 @@
 use Rattle.std.proofs.Common.{◌≡◌, [], length, refl, sym, ap, ◌∙◌}
 use Rattle.std.proofs.lemmas.Result.{IfOk-weaker}
 use Rattle.edit_plan.specs.Edits.{left_of}
-use Rattle.job_model.specs.Findings.{found_from}
+use Rattle.job_report.specs.Report.{found_from}
 use Rattle.job_model.specs.Tasks.{Job, PlanOf}
 use Rattle.job_run.specs.Founds.{AreBroughtUp, rows_of}
 use Rattle.job_run.specs.Left.{AreTold}

@@ -1,7 +1,7 @@
 use Rattle.std.proofs.Common.{ℕ, ◌<◌, List, [], ◌∷◌, length, arith, ap, ◌∙◌}
 use Rattle.std.proofs.lemmas.Option.{slice_get-get_or}
 use Rattle.edit_plan.specs.Edits.{left_of}
-use Rattle.job_facts.specs.declared.facts.Found.{Found}
+use Rattle.job_report.specs.declared.facts.Found.{Found}
 use Rattle.job_run.proofs.Listed.{rows_more, told_row}
 use Rattle.job_run.proofs.facts.rows.Goals as goal
 

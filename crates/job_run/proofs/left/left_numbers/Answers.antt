@@ -3,8 +3,9 @@ use Rattle.std.proofs.lemmas.List.{take_all}
 use Rattle.std.proofs.lemmas.List.Elements.{All-more}
 use Rattle.std.proofs.lemmas.Option.{get_or_from_slice_get, slice_get_within}
 use Rattle.edit_plan.specs.Edits.{AppliesBelow, MoveLists, lists_after}
-use Rattle.job_run.specs.Left.{IsBelow, lists_with}
-use Rattle.job_run.proofs.Named.{left_named, lists_more}
+use Rattle.job_report.specs.Tasks.{IsBelow}
+use Rattle.job_run.specs.Left.{lists_with}
+use Rattle.job_report.proofs.Named.{left_named, lists_more}
 use Rattle.job_run.proofs.left.left_numbers.Goals as goal
 
 pub loop-version-preserved : goal.loop-version-preserved

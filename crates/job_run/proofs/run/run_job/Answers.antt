@@ -1,9 +1,9 @@
 -- The strips of the draft are those of the plan, so what is told of all of them at the last version is what the definitions say.
 use Rattle.std.proofs.Common.{◌≡◌, ◌∙◌, length, map, ap}
 use Rattle.std.proofs.lemmas.List.{length-map}
-use Rattle.job_facts.specs.Facts.{are_answered}
-use Rattle.job_facts.specs.declared.facts.Facts.{Facts}
-use Rattle.job_model.specs.Report.{answered, facts_of}
+use Rattle.job_report.specs.Facts.{are_answered}
+use Rattle.job_report.specs.declared.facts.Facts.{Facts}
+use Rattle.job_report.specs.Report.{answered, facts_of}
 use Rattle.job_model.specs.Tasks.{PlanOf}
 use Rattle.turn_core.specs.World.{answer_of}
 use Rattle.job_run.specs.Jobs.{job_with}

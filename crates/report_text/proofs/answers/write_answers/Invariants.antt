@@ -1,6 +1,6 @@
 use Rattle.std.proofs.Common.{◌≡◌, ◌++◌, drop}
 use Rattle.std.specs.Prelude.{IsTrue}
-use Rattle.job_facts.specs.Facts.{are_answered}
+use Rattle.job_report.specs.Facts.{are_answered}
 use Rattle.report_text.specs.Report.{answer_lines}
 use Rattle.report_text.specs.Verdict.{text_of_lines}
 use Rattle.report_text.proofs.answers.write_answers.Given as goal

@@ -1,5 +1,5 @@
 use Rattle.std.proofs.Common.{◌≡◌, length, codes}
-use Rattle.job_facts.specs.Facts.{JobFacts, is_clean}
+use Rattle.job_report.specs.Facts.{JobFacts, is_clean}
 use Rattle.report_text.specs.Report.{answer_lines, found_lines, heading_text, report_of}
 use Rattle.report_text.specs.Verdict.{total_text, verdict_text}
 use Rattle.report_text.proofs.Lines.{all_lines}

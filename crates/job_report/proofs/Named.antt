@@ -7,7 +7,7 @@ use Rattle.std.proofs.lemmas.Option.{get_or_from_slice_get, slice_get_within}
 use Rattle.edit_plan.specs.declared.edit.Edit.{Edit}
 use Rattle.edit_plan.specs.declared.edit.Edit.TheVariants.{Apply, Undo, Redo}
 use Rattle.edit_plan.specs.Edits.{AppliesBelow, MoveLists, after_edit, last_alone, left_of, lists_after, no_lists}
-use Rattle.job_run.specs.Left.{IsBelow}
+use Rattle.job_report.specs.Tasks.{IsBelow}
 
 -- each number of both lists is below this one
 record AreNamed (moves : ℕ) (lists : MoveLists) : Type 0 where

@@ -1,6 +1,5 @@
-use crate::counts::Counts;
-use crate::totals::{Answer, Totals};
 use edit_plan::Ask;
+use job_facts::{Answer, Counts, Totals};
 use std::marker::Model;
 
 /// What was found of a move that is left: its number from 1, the line of its record, whether it is rapid, and its counts.
@@ -27,7 +26,7 @@ pub struct Facts {
 }
 
 impl Model for Facts {
-    ghost use Rattle.job_facts.specs.Facts.{JobFacts};
+    ghost use Rattle.job_report.specs.Facts.{JobFacts};
 
     ghost Value = { JobFacts };
 
@@ -42,7 +41,7 @@ impl Model for Facts {
 
 impl Facts {
     ghost use Rattle.std.specs.Prelude.{◌≡◌};
-    ghost use Rattle.job_facts.specs.Facts.{are_answered, is_clean};
+    ghost use Rattle.job_report.specs.Facts.{are_answered, is_clean};
 
     /// Whether each move that is left is safe.
     pub fn is_clean(&self) -> bool

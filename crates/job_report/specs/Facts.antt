@@ -4,7 +4,7 @@ use Rattle.std.specs.List.{list_all}
 use Rattle.edit_plan.specs.declared.query.Ask.{Ask}
 use Rattle.job_facts.specs.Answers.{is_answer_to}
 use Rattle.job_facts.specs.Counts.{is_safe}
-use Rattle.job_facts.specs.declared.facts.Found.{Found}
+use Rattle.job_report.specs.declared.facts.Found.{Found}
 use Rattle.job_facts.specs.declared.totals.Answer.{Answer}
 use Rattle.job_facts.specs.declared.totals.Totals.{Totals}
 

@@ -1,0 +1,6 @@
+pub mod Named
+pub mod Judged
+pub mod Lined
+pub mod Answering
+pub mod Summed
+pub mod True

@@ -1,0 +1,6 @@
+pub mod Tasks
+pub mod Facts
+pub mod Report
+pub mod Judges
+pub mod Counted
+pub mod Truth
