@@ -1,0 +1,2 @@
+pub mod Tangents
+pub mod UpperReading

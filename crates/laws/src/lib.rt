@@ -1,0 +1,8 @@
+//! Laws of the definitions that no clause of the program cites, by which a reader can tell that they say what they are meant to say.
+#![tactic(auto)]
+
+mod tangents;
+mod upper_reading;
+
+pub use tangents::tangent_laws;
+pub use upper_reading::upper_reading_laws;
