@@ -9,7 +9,7 @@ use Rattle.cutter_slabs.specs.Cutter.{IsCutter}
 use Rattle.cutter_slabs.specs.Inside.{IsInside}
 use Rattle.cutter_slabs.specs.Meets.{InsideAt, MeetsLower, MeetsUpper}
 use Rattle.cutter_slabs.proofs.Writings.{written_back}
-use Rattle.laws.specs.UpperReading.{cone, place, standing}
+use Rattle.laws.specs.UpperReading.{cone, place_between, standing}
 
 -- a place between two ends that are one, and an offset from it, at two times of one denominator
 between_one : (a z b f : ℤ) → between a b f f ≡ between z b f f
@@ -27,7 +27,7 @@ offset_one a z b p f =
 three : (a b c x y z : ℤ) → a ≡ x → b ≡ y → c ≡ z → (a ∷ b ∷ c ∷ []) ≡ (x ∷ y ∷ z ∷ [])
 three a b c x y z e f g = cc
 
-offsets_one : (a z b : ℕ) → offset_at standing place (pos a) (pos b) ≡ offset_at standing place (pos z) (pos b)
+offsets_one : (a z b : ℕ) → offset_at standing place_between (pos a) (pos b) ≡ offset_at standing place_between (pos z) (pos b)
 offsets_one a z b =
     let o : ℕ → ℤ → ℤ = λ t p. offset (pos t) (pos b) p (pos 0) (pos 0) in
     let e : (p : ℤ) → o a p ≡ o z p = λ p. offset_one (pos a) (pos z) (pos b) p (pos 0) in
@@ -64,7 +64,7 @@ valid_sweep = record {
 }
 
 -- the upper cutter holds the place at the start
-pub in_upper : MeetsUpper cone standing place
+pub in_upper : MeetsUpper cone standing place_between
 in_upper = record {
   numerator = 0;
   denominator = 1;
@@ -77,19 +77,19 @@ in_upper = record {
 }
 
 -- what the cone holds at some time it holds at the start
-at_start : (t a b : ℕ) → 0 < b → InsideAt cone t standing place a b → InsideAt cone t standing place 0 1
+at_start : (t a b : ℕ) → 0 < b → InsideAt cone t standing place_between a b → InsideAt cone t standing place_between 0 1
 at_start t a b some inside =
     let same : b ≡ 1 * b = omega arith in
-    written_back cone t standing place 0 1 b valid_cone some
-    (subst (λ k. InsideAt cone t standing place (0 * b) k) same
+    written_back cone t standing place_between 0 1 b valid_cone some
+    (subst (λ k. InsideAt cone t standing place_between (0 * b) k) same
     (subst (λ o. IsInside cone t b o (axis_at standing (pos (0 * b)) (pos b))) (offsets_one a (0 * b) b)
-    (subst (λ x. IsInside cone t b (offset_at standing place (pos a) (pos b)) x) (axes_one a (0 * b) b) inside)))
+    (subst (λ x. IsInside cone t b (offset_at standing place_between (pos a) (pos b)) x) (axes_one a (0 * b) b) inside)))
 
 -- the lower cutter doesn't hold it at the start, by numbers alone
-not_at_start : InsideAt cone (lower_tangent 30) standing place 0 1 → ⊥
+not_at_start : InsideAt cone (lower_tangent 30) standing place_between 0 1 → ⊥
 not_at_start i =
     ⊎_elim (λ round. let upright = round.upright in absurd (omega (arith, upright)))
     (λ leaning. ⊎_elim (λ l. absurd l.le) (λ s. absurd s.le) leaning.cone) i.shape
 
-pub not_in_lower : MeetsLower cone standing place → ⊥
+pub not_in_lower : MeetsLower cone standing place_between → ⊥
 not_in_lower met = not_at_start (at_start (lower_tangent 30) met.numerator met.denominator met.time.0 met.inside)

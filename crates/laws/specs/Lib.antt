@@ -1,2 +1,3 @@
 pub mod Tangents
 pub mod UpperReading
+pub mod Windows

@@ -17,26 +17,25 @@ LowerAtSomeTime = (c : CutterSize) (m : Motion) (p : List ℤ) → MeetsLower c 
 abbrev pub cone : CutterSize
 cone = record { d = 2000; r = 0; h = 150000; flank = 30 }
 
--- the tip and the axis, at the origin and upwards
+-- the tip and the axis, at the origin and along z
 abbrev pub origin : List ℤ
 origin = pos 0 ∷ pos 0 ∷ pos 0 ∷ []
 
-abbrev pub upwards : List ℤ
-upwards = pos 0 ∷ pos 0 ∷ pos 100000 ∷ []
+abbrev pub along_z : List ℤ
+along_z = pos 0 ∷ pos 0 ∷ pos 100000 ∷ []
 
 -- the cone stands there
 abbrev pub standing : Motion
-standing = record { from = origin; to = origin; axis_from = upwards; axis_to = upwards }
+standing = record { from = origin; to = origin; axis_from = along_z; axis_to = along_z }
 
 -- a place 87,602 from the axis, 149,999 above the tip
-abbrev pub place : List ℤ
-place = pos 87602 ∷ pos 0 ∷ pos 149999 ∷ []
+abbrev pub place_between : List ℤ
+place_between = pos 87602 ∷ pos 0 ∷ pos 149999 ∷ []
 
--- At that height the cone has widened to 87,601.92 on each side in the lower reading and to 87,602.07 in the upper one. So it meets
--- the place with the upper cutter, and at no time with the lower one. If either reading took the other's tangent, this could not be
--- proved.
+-- At that height the cone reaches 87,601.92 from its axis in the lower reading and 87,602.07 in the upper one. So it meets the place
+-- with the upper cutter, and at no time with the lower one. If either reading took the other's tangent, this could not be proved.
 pub record UpperAlone : Type 0 where
   pub cutter : IsCutter cone
   pub sweep : IsSweep standing
-  pub upper : MeetsUpper cone standing place
-  pub lower : ¬ MeetsLower cone standing place
+  pub upper : MeetsUpper cone standing place_between
+  pub lower : ¬ MeetsLower cone standing place_between

@@ -3,6 +3,8 @@
 
 mod tangents;
 mod upper_reading;
+mod windows;
 
 pub use tangents::tangent_laws;
 pub use upper_reading::upper_reading_laws;
+pub use windows::window_laws;
