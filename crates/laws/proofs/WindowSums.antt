@@ -39,12 +39,13 @@ place_on o p q s a k l e =
 apart : (a b k : ℕ) → (a + b) * k ≡ a * k + b * k
 apart a b k = omega arith
 
--- a window of a + b nodes is one of a nodes and, behind it, one of b nodes: by the axis along which it is cut
+-- a window of a + b nodes is one of a nodes and, after it, one of b nodes: by the axis along which it is cut
 abbrev Cuts : (List ℤ → ℕ) → GridSize → ℕ → ℕ → ℕ → ℕ → Type 0
 Cuts t g axis s a b = total_of t (window_at g axis s (a + b)) ≡ total_of t (window_at g axis s a) + total_of t (window_at g axis (s + a) b)
 
-abbrev corner : (List ℤ → ℕ) → GridSize → Family → ℕ → ℕ → ℕ → ℕ
-corner t g f i j l = t (point_at g f i j l)
+-- what the sum takes of the point at these indices
+abbrev at_indices : (List ℤ → ℕ) → GridSize → Family → ℕ → ℕ → ℕ → ℕ
+at_indices t g f i j l = t (point_at g f i j l)
 
 -- the sums of three families, each cut in two
 three_cut : (z x y z' x' y' z'' x'' y'' : ℕ) → z ≡ z' + z'' → x ≡ x' + x'' → y ≡ y' + y'' → z + x + y ≡ z' + x' + y' + (z'' + x'' + y'')
@@ -57,13 +58,13 @@ cut_x t g s a b e =
     let v = window_at g 0 s a in
     let w = window_at g 0 (s + a) b in
     let z : family_sum t u Z ≡ family_sum t v Z + family_sum t w Z =
-    cut_first (corner t v Z) (corner t w Z) a b (nodes_of g 1) (points_of g Z)
+    cut_first (at_indices t v Z) (at_indices t w Z) a b (nodes_of g 1) (points_of g Z)
     (λ i j l. ap (λ x. t (x ∷ node_at g 1 j ∷ place_at g 2 l ∷ [])) (node_on (at g.origin 0) g.pitch s a i)) in
     let x : family_sum t u X ≡ family_sum t v X + family_sum t w X =
-    cut_third (corner t v X) (corner t w X) (nodes_of g 1) (nodes_of g 2) ((a + b) * k) (a * k) (b * k) (apart a b k)
+    cut_third (at_indices t v X) (at_indices t w X) (nodes_of g 1) (nodes_of g 2) ((a + b) * k) (a * k) (b * k) (apart a b k)
     (λ i j l. ap (λ x. t (x ∷ node_at g 1 i ∷ node_at g 2 j ∷ [])) (place_on (at g.origin 0) g.pitch g.step s a k l e)) in
     let y : family_sum t u Y ≡ family_sum t v Y + family_sum t w Y =
-    cut_first (corner t v Y) (corner t w Y) a b (nodes_of g 2) (points_of g Y)
+    cut_first (at_indices t v Y) (at_indices t w Y) a b (nodes_of g 2) (points_of g Y)
     (λ i j l. ap (λ x. t (x ∷ place_at g 1 l ∷ node_at g 2 j ∷ [])) (node_on (at g.origin 0) g.pitch s a i)) in
     three_cut (family_sum t u Z) (family_sum t u X) (family_sum t u Y) (family_sum t v Z) (family_sum t v X) (family_sum t v Y)
     (family_sum t w Z) (family_sum t w X) (family_sum t w Y) z x y
@@ -75,13 +76,13 @@ cut_y t g s a b e =
     let v = window_at g 1 s a in
     let w = window_at g 1 (s + a) b in
     let z : family_sum t u Z ≡ family_sum t v Z + family_sum t w Z =
-    cut_second (corner t v Z) (corner t w Z) (nodes_of g 0) a b (points_of g Z)
+    cut_second (at_indices t v Z) (at_indices t w Z) (nodes_of g 0) a b (points_of g Z)
     (λ i j l. ap (λ x. t (node_at g 0 i ∷ x ∷ place_at g 2 l ∷ [])) (node_on (at g.origin 1) g.pitch s a j)) in
     let x : family_sum t u X ≡ family_sum t v X + family_sum t w X =
-    cut_first (corner t v X) (corner t w X) a b (nodes_of g 2) (points_of g X)
+    cut_first (at_indices t v X) (at_indices t w X) a b (nodes_of g 2) (points_of g X)
     (λ i j l. ap (λ x. t (place_at g 0 l ∷ x ∷ node_at g 2 j ∷ [])) (node_on (at g.origin 1) g.pitch s a i)) in
     let y : family_sum t u Y ≡ family_sum t v Y + family_sum t w Y =
-    cut_third (corner t v Y) (corner t w Y) (nodes_of g 0) (nodes_of g 2) ((a + b) * k) (a * k) (b * k) (apart a b k)
+    cut_third (at_indices t v Y) (at_indices t w Y) (nodes_of g 0) (nodes_of g 2) ((a + b) * k) (a * k) (b * k) (apart a b k)
     (λ i j l. ap (λ x. t (node_at g 0 i ∷ x ∷ node_at g 2 j ∷ [])) (place_on (at g.origin 1) g.pitch g.step s a k l e)) in
     three_cut (family_sum t u Z) (family_sum t u X) (family_sum t u Y) (family_sum t v Z) (family_sum t v X) (family_sum t v Y)
     (family_sum t w Z) (family_sum t w X) (family_sum t w Y) z x y
@@ -93,13 +94,13 @@ cut_z t g s a b e =
     let v = window_at g 2 s a in
     let w = window_at g 2 (s + a) b in
     let z : family_sum t u Z ≡ family_sum t v Z + family_sum t w Z =
-    cut_third (corner t v Z) (corner t w Z) (nodes_of g 0) (nodes_of g 1) ((a + b) * k) (a * k) (b * k) (apart a b k)
+    cut_third (at_indices t v Z) (at_indices t w Z) (nodes_of g 0) (nodes_of g 1) ((a + b) * k) (a * k) (b * k) (apart a b k)
     (λ i j l. ap (λ x. t (node_at g 0 i ∷ node_at g 1 j ∷ x ∷ [])) (place_on (at g.origin 2) g.pitch g.step s a k l e)) in
     let x : family_sum t u X ≡ family_sum t v X + family_sum t w X =
-    cut_second (corner t v X) (corner t w X) (nodes_of g 1) a b (points_of g X)
+    cut_second (at_indices t v X) (at_indices t w X) (nodes_of g 1) a b (points_of g X)
     (λ i j l. ap (λ x. t (place_at g 0 l ∷ node_at g 1 i ∷ x ∷ [])) (node_on (at g.origin 2) g.pitch s a j)) in
     let y : family_sum t u Y ≡ family_sum t v Y + family_sum t w Y =
-    cut_second (corner t v Y) (corner t w Y) (nodes_of g 0) a b (points_of g Y)
+    cut_second (at_indices t v Y) (at_indices t w Y) (nodes_of g 0) a b (points_of g Y)
     (λ i j l. ap (λ x. t (node_at g 0 i ∷ place_at g 1 l ∷ x ∷ [])) (node_on (at g.origin 2) g.pitch s a j)) in
     three_cut (family_sum t u Z) (family_sum t u X) (family_sum t u Y) (family_sum t v Z) (family_sum t v X) (family_sum t v Y)
     (family_sum t w Z) (family_sum t w X) (family_sum t w Y) z x y
