@@ -1,0 +1,5 @@
+pub mod Standing
+pub mod IndexSums
+pub mod LatticeSums
+pub mod WindowSums
+pub mod JobWindows

@@ -1,0 +1,3 @@
+pub mod Tangents
+pub mod UpperReading
+pub mod Windows
