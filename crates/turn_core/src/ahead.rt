@@ -35,8 +35,6 @@ fn stop_from(number: u32, version: u32) -> u32
 pub struct AheadStrip {
     /// The version at which it is seen: for contracts alone, without a byte.
     seen: Snapshot<u32>,
-    /// Whether there was no memory for an edit past that version. The turn that needs the edit tells it.
-    is_short: bool,
     strip: Strip,
 }
 
@@ -58,13 +56,13 @@ impl AheadStrip {
     {
         AheadStrip {
             seen: Snapshot::of(&strip.done()),
-            is_short: false,
             strip,
         }
     }
 
-    /// Comes to be seen at a version. Where the edits up to it aren't done yet, they are done up to a stop. After want of memory it comes
-    /// to be seen at the version that is answered.
+    /// Comes to be seen at a version. Where the edits up to it aren't done yet, they are done up to a stop. Want of memory for an edit past
+    /// the version is no failure: whoever needs the edit tries again. Where an edit up to the version found none, the strip comes to be
+    /// seen at the version that is answered.
     fn move_on(&mut self, plan: &Plan, version: u32, stop: u32) -> Result<(), u32>
         requires plan { self.old.job.plan ≡ plan.now }
         requires further { self.old.done ≤ version }
@@ -74,12 +72,10 @@ impl AheadStrip {
         ensures err { IfErr result (λ at. (at ≡ self.new.done) × IsStopped self.old self.new version) }
     {
         if self.strip.done() < version {
-            if !self.is_short {
-                self.is_short = raise(&mut self.strip, plan, stop).is_err();
-            }
-            if self.strip.done() < version {
-                self.is_short = false;
-                let at = self.strip.done();
+            // How far the strip came decides, and not whether it came to the stop.
+            let _tried = raise(&mut self.strip, plan, stop);
+            let at = self.strip.done();
+            if at < version {
                 self.seen = Snapshot::of(&at);
                 return Err(at);
             }
@@ -151,11 +147,7 @@ impl AheadStrip {
         requires done { done ≡ self.done }
         ensures { IfOk result (λ strip. strip ≡ self) }
     {
-        let AheadStrip {
-            seen: _,
-            is_short: _,
-            strip,
-        } = self;
+        let AheadStrip { seen: _, strip } = self;
         if done == strip.done() {
             return Ok(strip);
         }
