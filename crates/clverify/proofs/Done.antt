@@ -19,7 +19,7 @@ use Rattle.clverify.specs.Settled.{IsReport}
 use Rattle.clverify.specs.declared.answer.Answer.{Answer}
 use Rattle.clverify.specs.declared.status.Status.{Status}
 use Rattle.job_inputs.specs.Tasks.{made_task}
-use Rattle.job_inputs.specs.declared.stopped.Stopped.{Stopped}
+use Rattle.input_faults.specs.declared.stopped.Stopped.{Stopped}
 
 -- the facts of a task that is the same
 pub facts_made : (done : Result JobFacts NoMemory) (made task : Task) → IfOk done (λ facts. facts ≡ facts_of made) → made ≡ task → IfOk done (λ facts. facts ≡ facts_of task)

@@ -3,7 +3,7 @@ use Rattle.std.proofs.Common.{◌≡◌, ◌⊎◌, ℕ, List, Option, Some, Non
 use Rattle.std.specs.Io.KnownBytes.{Keeps}
 use Rattle.vf_io.specs.Files.{Files}
 use Rattle.report_text.specs.Refusals.{refusal_of}
-use Rattle.report_text.specs.declared.fault.Fault.{Fault}
+use Rattle.input_faults.specs.declared.fault.Fault.{Fault}
 use Rattle.clverify.specs.Answer.{Due, IsVerdict, refused, usage_due}
 use Rattle.clverify.specs.Commands.{Command, list_moves, mark_moves, self_test, verify_moves}
 use Rattle.clverify.specs.Due.{command_due}
@@ -15,8 +15,8 @@ use Rattle.clverify.specs.Truth.{HasNoFindings, IsTrueText, TellsTruth}
 use Rattle.clverify.specs.declared.answer.Answer.{Answer}
 use Rattle.clverify.specs.declared.status.Status.{Status}
 use Rattle.clverify.specs.declared.status.Status.TheVariants as ends
-use Rattle.job_inputs.specs.declared.stopped.Stopped.{Stopped}
-use Rattle.job_inputs.specs.declared.stopped.Stopped.TheVariants.{Refused, ReadFault, NoMemory}
+use Rattle.input_faults.specs.declared.stopped.Stopped.{Stopped}
+use Rattle.input_faults.specs.declared.stopped.Stopped.TheVariants.{Refused, ReadFault, NoMemory}
 
 -- where it isn't known what is due, less is said of an answer
 unknown_answer : (status : Status) (d : Due) (old new : Option (List ℕ)) → Answers status (Some d) old new → Answers status None old new

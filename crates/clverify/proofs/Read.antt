@@ -1,11 +1,11 @@
 -- A task that was read is the one that a call's files stand for, and so is its report.
 use Rattle.std.proofs.Common.{◌≡◌, Option, Some, None, Result, Ok, Err, IfOk, IfSome, ap, subst, sym}
 use Rattle.vf_io.specs.Files.{Files}
-use Rattle.report_text.specs.declared.fault.Fault.{Fault}
+use Rattle.input_faults.specs.declared.fault.Fault.{Fault}
 use Rattle.job_report.specs.Tasks.{Task}
 use Rattle.job_inputs.specs.Inputs.{GivesInput}
-use Rattle.job_inputs.specs.declared.stopped.Stopped.{Stopped}
-use Rattle.job_inputs.specs.declared.stopped.Stopped.TheVariants.{Refused, ReadFault, NoMemory}
+use Rattle.input_faults.specs.declared.stopped.Stopped.{Stopped}
+use Rattle.input_faults.specs.declared.stopped.Stopped.TheVariants.{Refused, ReadFault, NoMemory}
 use Rattle.verify_words.specs.Call.{VerifyCall}
 use Rattle.clverify.specs.Answer.{answer_of}
 use Rattle.clverify.specs.Commands.Verify.{IsTrueVerification, ReportsTruly, task_in, verified, verify_due}

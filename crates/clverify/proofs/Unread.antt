@@ -7,7 +7,7 @@ use Rattle.clverify.specs.Commands.Selftest.{IsTrueSelftest}
 use Rattle.job_inputs.specs.Reads.{ReadsOnce}
 use Rattle.clverify.specs.Truth.{IsTrueText}
 use Rattle.clverify.specs.declared.answer.Answer.{Answer}
-use Rattle.job_inputs.specs.declared.stopped.Stopped.{Stopped}
+use Rattle.input_faults.specs.declared.stopped.Stopped.{Stopped}
 
 -- what is true of the summary of a made task is true whatever the files are
 pub true_over_all : (files : Option Files) (report : Result Answer Stopped) (number : ℕ)

@@ -2,7 +2,7 @@
 use Rattle.std.specs.Prelude.{ℕ, List, codes, Result, Ok, Err}
 use Rattle.vf_text.specs.Pages.{line}
 use Rattle.report_text.specs.Refusals.{refusal_of}
-use Rattle.report_text.specs.declared.fault.Fault.{Fault}
+use Rattle.input_faults.specs.declared.fault.Fault.{Fault}
 use Rattle.clverify.specs.declared.status.Status.{Status}
 use Rattle.clverify.specs.declared.status.Status.TheVariants.{Clean, Findings, Usage, Refused}
 

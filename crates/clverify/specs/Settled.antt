@@ -5,8 +5,8 @@ use Rattle.clverify.specs.Outside.{WritesAnswer}
 use Rattle.clverify.specs.declared.answer.Answer.{Answer}
 use Rattle.clverify.specs.declared.status.Status.{Status}
 use Rattle.clverify.specs.declared.status.Status.TheVariants as ends
-use Rattle.job_inputs.specs.declared.stopped.Stopped.{Stopped}
-use Rattle.job_inputs.specs.declared.stopped.Stopped.TheVariants.{Refused, ReadFault, NoMemory}
+use Rattle.input_faults.specs.declared.stopped.Stopped.{Stopped}
+use Rattle.input_faults.specs.declared.stopped.Stopped.TheVariants.{Refused, ReadFault, NoMemory}
 
 -- the text and the status of an answer
 abbrev pub answer_seen : Answer → Due

@@ -4,8 +4,8 @@ ghost use Rattle.clverify.specs.Outside.{WritesAnswer};
 ghost use Rattle.clverify.specs.Settled.{MayEnd, Settles};
 
 use crate::status::Status;
-use job_inputs::Stopped;
-use report_text::{Fault, refusal_text};
+use input_faults::{Fault, Stopped};
+use report_text::refusal_text;
 use std::alloc::Global;
 use vf_io::{Failed, NoMemory, Sink, put_lines};
 

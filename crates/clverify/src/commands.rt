@@ -21,7 +21,7 @@ use crate::commands::list::{list_report, list_words};
 use crate::commands::point::{point_report, point_words};
 use crate::commands::selftest::{selftest_report, selftest_words};
 use crate::commands::verify::{verify_command, verify_report};
-use job_inputs::Stopped;
+use input_faults::Stopped;
 use point_marks::Question;
 use std::alloc::Global;
 use std::sync::Wait;

@@ -2,7 +2,7 @@ ghost use Rattle.std.specs.Prelude.{◌≡◌};
 ghost use Rattle.std.specs.Process.{exit_status};
 ghost use Rattle.clverify.specs.Codes.{code_of};
 
-use report_text::Fault;
+use input_faults::Fault;
 use std::process::ExitCode;
 
 /// How a call of the program ended.

@@ -1,4 +1,4 @@
-use report_text::{Fault, Input};
+use input_faults::{Fault, Input};
 use vf_io::{NoMemory, ReadEnd};
 
 /// How a run ends that writes nothing of what was read.

@@ -5,7 +5,7 @@ ghost use Rattle.setup_file.specs.Sound.{IsSetup};
 use crate::ending::Ending;
 use edit_plan::{MAX_SCRIPT_BYTES, Script, ScriptEnd, read_script};
 use ray_grid::Grid;
-use report_text::{Fault, Input};
+use input_faults::{Fault, Input};
 use setup_file::{Setup, SetupEnd, read_setup};
 use std::alloc::Global;
 use std::rt::Files;

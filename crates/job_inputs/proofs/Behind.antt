@@ -7,15 +7,15 @@ use Rattle.cl_moves.specs.declared.program.Program.{Program}
 use Rattle.cutter_slabs.specs.Cutter.{CutterSize}
 use Rattle.edit_plan.specs.declared.script.Script.{Script}
 use Rattle.job_report.specs.Tasks.{Task}
-use Rattle.point_marks.specs.Cutters.{first_low}
-use Rattle.point_marks.specs.declared.cutters.Usual.{Usual}
-use Rattle.report_text.specs.declared.fault.Fault.{Fault}
-use Rattle.report_text.specs.declared.fault.Fault.TheVariants.{CutterHeight}
+use Rattle.move_cutters.specs.Cutters.{first_low}
+use Rattle.move_cutters.specs.declared.cutters.Usual.{Usual}
+use Rattle.input_faults.specs.declared.fault.Fault.{Fault}
+use Rattle.input_faults.specs.declared.fault.Fault.TheVariants.{CutterHeight}
 use Rattle.setup_file.specs.declared.setup.Setup.{Setup}
 use Rattle.job_inputs.specs.Inputs.{◌>>=◌, GivesInput, script_read_of, setup_read_of}
 use Rattle.job_inputs.specs.Tasks.{task_behind, task_by, task_with, tool_usual, unless_low}
-use Rattle.job_inputs.specs.declared.stopped.Stopped.{Stopped}
-use Rattle.job_inputs.specs.declared.stopped.Stopped.TheVariants.{Refused, ReadFault, NoMemory}
+use Rattle.input_faults.specs.declared.stopped.Stopped.{Stopped}
+use Rattle.input_faults.specs.declared.stopped.Stopped.TheVariants.{Refused, ReadFault, NoMemory}
 
 -- what was looked for among the moves of a program is what is found in them
 pub found_in : (tool : CutterSize) (moves given : List Move) (usual : Usual) (found told : Option ℕ) → usual ≡ tool_usual tool → given ≡ moves

@@ -3,7 +3,7 @@ use Rattle.std.proofs.Common.{ℕ, Result, Ok, Err, IfOk}
 use Rattle.edit_plan.specs.Sound.{IsScript}
 use Rattle.edit_plan.specs.declared.script.Script.{Script}
 use Rattle.ray_grid.specs.Grids.{GridSize}
-use Rattle.job_inputs.specs.declared.stopped.Stopped.{Stopped}
+use Rattle.input_faults.specs.declared.stopped.Stopped.{Stopped}
 
 -- a script for every grid is one for this
 pub at_grid : (read : Result Script Stopped) (moves : ℕ) (grid : GridSize) → IfOk read (λ script. (any : GridSize) → IsScript moves any script)

@@ -10,15 +10,15 @@ use Rattle.edit_plan.specs.Script.{script_of, whole_of_moves}
 use Rattle.edit_plan.specs.declared.fault.ScriptFault.{ScriptFault}
 use Rattle.edit_plan.specs.declared.script.Script.{Script}
 use Rattle.ray_grid.specs.Grids.{GridSize}
-use Rattle.report_text.specs.declared.fault.Fault.{Fault}
-use Rattle.report_text.specs.declared.fault.Fault.TheVariants as faults
-use Rattle.report_text.specs.declared.fault.Input.{Input}
-use Rattle.report_text.specs.declared.fault.Input.TheVariants as inputs
+use Rattle.input_faults.specs.declared.fault.Fault.{Fault}
+use Rattle.input_faults.specs.declared.fault.Fault.TheVariants as faults
+use Rattle.input_faults.specs.declared.fault.Input.{Input}
+use Rattle.input_faults.specs.declared.fault.Input.TheVariants as inputs
 use Rattle.setup_file.specs.Setups.{setup_of}
 use Rattle.setup_file.specs.declared.setup.Setup.{Setup}
 use Rattle.setup_keys.specs.declared.fault.SetupFault.{SetupFault}
-use Rattle.job_inputs.specs.declared.stopped.Stopped.{Stopped}
-use Rattle.job_inputs.specs.declared.stopped.Stopped.TheVariants.{Refused, ReadFault}
+use Rattle.input_faults.specs.declared.stopped.Stopped.{Stopped}
+use Rattle.input_faults.specs.declared.stopped.Stopped.TheVariants.{Refused, ReadFault}
 
 infixl 10 ◌>>=◌
 -- what follows something that has no fault

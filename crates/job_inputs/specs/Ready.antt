@@ -1,17 +1,14 @@
--- What is known of the inputs of a task that were read, so that it can be done; and a task that is ready to be done.
+-- What is known of the inputs of a task that were read, so that it can be done.
 use Rattle.std.specs.Prelude.{◌≡◌, ◌≤◌, None, All, length}
 use Rattle.cl_moves.specs.Moves.{IsMove}
 use Rattle.cl_moves.specs.Program.{most_moves}
 use Rattle.cl_moves.specs.declared.program.Program.{Program}
 use Rattle.edit_plan.specs.Sound.{IsScript}
 use Rattle.edit_plan.specs.declared.script.Script.{Script}
-use Rattle.job_report.specs.Tasks.{Task}
-use Rattle.ray_shapes.specs.declared.solid.Solid.TheVariants.{Bodies}
 use Rattle.setup_file.specs.Sound.{IsSetup}
 use Rattle.setup_file.specs.declared.setup.Setup.{Setup}
-use Rattle.point_marks.specs.Cutters.{first_low}
+use Rattle.move_cutters.specs.Cutters.{first_low}
 use Rattle.job_inputs.specs.Tasks.{tool_usual}
-use Rattle.job_inputs.specs.declared.ready.ReadyTask.{ReadyTask}
 
 -- valid moves, not too many and none with too low a cutter, a setup in its ranges, and a script for both
 pub record IsReady (program : Program) (setup : Setup) (script : Script) : Type 0 where
@@ -20,11 +17,3 @@ pub record IsReady (program : Program) (setup : Setup) (script : Script) : Type 
   pub setup_in : IsSetup setup
   pub high : first_low (tool_usual setup.tool) program.moves ≡ None
   pub script_in : IsScript (length program.moves) setup.grid script
-
--- the task that stands ready
-abbrev pub task_ready : ReadyTask → Task
-task_ready ready = record {
-  job = record { plan = ready.plan; stock = Bodies ready.stock; part = Bodies ready.part; fixture = Bodies ready.fixture };
-  passed = ready.passed;
-  queries = ready.queries;
-}

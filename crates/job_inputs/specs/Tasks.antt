@@ -12,13 +12,13 @@ use Rattle.job_report.specs.Tasks.{Task}
 use Rattle.made_program.specs.Made.{made_moves, made_of}
 use Rattle.made_setup.specs.Made.{made_setup}
 use Rattle.ray_shapes.specs.declared.solid.Solid.TheVariants.{Bodies}
-use Rattle.report_text.specs.declared.fault.Fault.{Fault}
-use Rattle.report_text.specs.declared.fault.Fault.TheVariants.{CutterHeight}
+use Rattle.input_faults.specs.declared.fault.Fault.{Fault}
+use Rattle.input_faults.specs.declared.fault.Fault.TheVariants.{CutterHeight}
 use Rattle.setup_file.specs.Shift.{shifted_of}
 use Rattle.setup_file.specs.declared.setup.Setup.{Setup}
-use Rattle.point_marks.specs.Cutters.{first_low, size_of}
+use Rattle.move_cutters.specs.Cutters.{first_low, size_of}
 use Rattle.job_inputs.specs.Inputs.{◌>>=◌, read_of, script_read_of, setup_read_of}
-use Rattle.point_marks.specs.declared.cutters.Usual.{Usual}
+use Rattle.move_cutters.specs.declared.cutters.Usual.{Usual}
 
 -- a tool as a program would give it
 abbrev pub tool_text : CutterSize → CutterText

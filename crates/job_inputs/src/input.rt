@@ -12,12 +12,11 @@ ghost use Rattle.job_inputs.specs.Inputs.{GivesInput, GivesBytes, bytes_within, 
 ghost use Rattle.job_inputs.specs.Inputs.{most_setup_bytes, read_of, script_read_of, setup_read_of};
 ghost use Rattle.job_inputs.specs.Reads.{ReadsOnce};
 
-use crate::stopped::Stopped;
 use cl_lines::{ClEnd, MAX_BYTES};
 use cl_moves::{Program, read_program};
 use edit_plan::{MAX_SCRIPT_BYTES, Script, ScriptEnd, read_script, whole_script};
+use input_faults::{Fault, Input, Stopped};
 use ray_grid::Grid;
-use report_text::{Fault, Input};
 use setup_file::{Setup, SetupEnd, read_setup};
 use std::alloc::Global;
 use vf_io::{NoMemory, ReadEnd, Shelf, read_all};

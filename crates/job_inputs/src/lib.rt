@@ -2,11 +2,10 @@
 #![tactic(auto)]
 
 mod input;
-mod ready;
-mod stopped;
 mod task;
+mod tool;
 
 pub use input::read_moves;
-pub use ready::{ReadyTask, make_ready};
-pub use stopped::Stopped;
+pub use input_faults::Stopped;
 pub use task::{TaskInputs, made_inputs, read_task};
+pub use tool::{tool_text, usual_of};

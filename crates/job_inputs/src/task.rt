@@ -8,14 +8,13 @@ ghost use Rattle.job_inputs.specs.Reads.{ReadsOnce};
 ghost use Rattle.job_inputs.specs.Tasks.{made_task, task_behind, task_of, task_with};
 
 use crate::input::{read_edits, read_moves, read_setup_of};
-use crate::ready::usual_of;
-use crate::stopped::Stopped;
+use crate::tool::usual_of;
 use cl_moves::Program;
 use edit_plan::{Script, whole_script};
+use input_faults::{Fault, Stopped};
 use made_program::{MADE_MOVES, made_program};
 use made_setup::made_setup;
-use point_marks::low_cutter;
-use report_text::Fault;
+use move_cutters::low_cutter;
 use setup_file::Setup;
 use std::alloc::Global;
 use std::marker::Model;
@@ -24,9 +23,9 @@ use vf_io::{NoMemory, Shelf};
 /// What is verified, as it was read. It is seen as the task that it stands for.
 #[derive(Drop)]
 pub struct TaskInputs {
-    pub(crate) program: Program,
-    pub(crate) setup: Setup,
-    pub(crate) script: Script,
+    pub program: Program,
+    pub setup: Setup,
+    pub script: Script,
 }
 
 impl Model for TaskInputs {

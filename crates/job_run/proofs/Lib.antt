@@ -7,3 +7,6 @@ pub mod Standing
 pub mod Brought
 pub mod Counted
 pub mod FirstStrips
+pub mod Highs
+pub mod Planes
+pub mod Readied

@@ -3,3 +3,5 @@ pub mod Strips
 pub mod Left
 pub mod Founds
 pub mod Asked
+pub mod Ready
+pub mod Finished

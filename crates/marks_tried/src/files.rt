@@ -4,7 +4,8 @@ ghost use Rattle.point_marks.specs.Questions.{IsQuestion};
 
 use axis_cells::Mark;
 use cl_moves::read_program;
-use point_marks::{Question, Usual, low_cutter, marks_of};
+use move_cutters::{Usual, low_cutter};
+use point_marks::{Question, marks_of};
 use std::alloc::Global;
 use std::test::Fail;
 use vf_io::NoMemory;

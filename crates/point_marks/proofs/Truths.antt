@@ -4,10 +4,9 @@ use Rattle.std.proofs.Math.Seq.{take-suc}
 use Rattle.std.proofs.lemmas.Slice.Zip.{all_zipped_more}
 use Rattle.axis_cells.specs.declared.mark.Mark.{Mark}
 use Rattle.cl_moves.specs.declared.moves.Move.{Move}
-use Rattle.point_marks.specs.Cutters.{first_low, is_move_low}
 use Rattle.point_marks.specs.Marks.{AreTrueMarks, IsMarkedTruly}
 use Rattle.point_marks.specs.declared.question.Question.{Question}
-use Rattle.point_marks.specs.declared.cutters.Usual.{Usual}
+use Rattle.move_cutters.specs.declared.cutters.Usual.{Usual}
 
 -- the move behind those that are marked, with its true mark
 pub marked_more : (usual : Usual) (asked question : Question) (moves : List Move) (marks : List (Option Mark)) (i : ℕ) (other : Move) (mark : Option Mark)
@@ -17,13 +16,3 @@ marked_more usual asked question moves marks i other mark same within ahead this
     rw (add-one, take-suc moves i other within)
     (all_zipped_more (IsMarkedTruly usual asked.point) (take i moves) marks (get_or moves i other) mark ahead
     (subst (λ (q : Question). IsMarkedTruly usual q.point (get_or moves i other) mark) same this))
-
-not_first : (low : Bool) (at : ℕ) (rest : Option ℕ) → (if low then Some at else rest) ≡ None → rest ≡ None
-not_first low at rest none = grind arith
-
--- the cutters of the moves behind it are no lower either
-pub high_behind : (usual : Usual) (moves : List Move) (i : ℕ) (other : Move) → i < length moves → first_low usual (drop i moves) ≡ None
-    → first_low usual (drop (i + 1) moves) ≡ None
-high_behind usual moves i other within high =
-    rw add-one
-    (not_first (is_move_low usual (get_or moves i other)) (get_or moves i other).line (first_low usual (drop (suc i) moves)) (rw (drop-cons moves i other within) at high))

@@ -1,3 +1,2 @@
-pub mod Cutters
 pub mod Marks
 pub mod Questions

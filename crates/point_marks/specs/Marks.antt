@@ -10,9 +10,9 @@ use Rattle.cl_moves.specs.declared.moves.Move.{Move}
 use Rattle.cutter_marks.specs.MarkBy.{mark_by}
 use Rattle.cutter_slabs.specs.Cutter.{CutterSize}
 use Rattle.cutter_slabs.specs.Meets.{MeetsLower, MeetsUpper}
-use Rattle.point_marks.specs.Cutters.{cutter_size}
+use Rattle.move_cutters.specs.Cutters.{cutter_size}
 use Rattle.point_marks.specs.declared.question.Question.{Question}
-use Rattle.point_marks.specs.declared.cutters.Usual.{Usual}
+use Rattle.move_cutters.specs.declared.cutters.Usual.{Usual}
 
 -- the mark of the point against a move of a cutter
 abbrev pub cutter_mark : Question → Move → CutterSize → Mark

@@ -1,15 +1,15 @@
 ghost use Rattle.std.specs.Prelude.{◌≡◌, All, IfOk, false, None};
 ghost use Rattle.cl_moves.specs.Moves.{IsMove};
 ghost use Rattle.point_marks.specs.Questions.{IsQuestion};
-ghost use Rattle.point_marks.specs.Cutters.{IsUsual, first_low, is_move_low};
+ghost use Rattle.move_cutters.specs.Cutters.{IsUsual, first_low, is_move_low};
 ghost use Rattle.point_marks.specs.Marks.{AreTrueMarks, IsMarkedTruly, mark_for, marks_for};
 
-use crate::cutters::{Usual, cutter_of, sweep_of};
 use crate::question::Question;
 use axis_cells::Mark;
 use box_bisect::mark_point_uncounted;
 use cl_moves::Move;
 use cutter_slabs::{Cutter, Stacks};
+use move_cutters::{Usual, cutter_of, sweep_of};
 use std::alloc::Global;
 use std::marker::Model;
 use vf_io::NoMemory;

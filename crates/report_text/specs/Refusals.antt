@@ -6,10 +6,10 @@ use Rattle.cl_lines.specs.declared.fault.ClWhy.TheVariants.{LineLong, DanglingDo
 use Rattle.cl_lines.specs.declared.fault.ClWhy.TheVariants.{NumberSyntax, NumberRange, CutterShape}
 use Rattle.cl_lines.specs.declared.fault.ClWhy.TheVariants.{AxisZero, NoPosition, AxisFlip, TooManyMoves}
 use Rattle.cl_lines.specs.Words.{word_name}
-use Rattle.report_text.specs.declared.fault.Fault.{Fault}
-use Rattle.report_text.specs.declared.fault.Fault.TheVariants.{TooLong, Cl, Setup, CutterHeight, Script}
-use Rattle.report_text.specs.declared.fault.Input.{Input}
-use Rattle.report_text.specs.declared.fault.Input.TheVariants as inputs
+use Rattle.input_faults.specs.declared.fault.Fault.{Fault}
+use Rattle.input_faults.specs.declared.fault.Fault.TheVariants.{TooLong, Cl, Setup, CutterHeight, Script}
+use Rattle.input_faults.specs.declared.fault.Input.{Input}
+use Rattle.input_faults.specs.declared.fault.Input.TheVariants as inputs
 use Rattle.report_text.specs.ScriptFaults.{script_fault_text}
 use Rattle.report_text.specs.SetupFaults.{setup_fault_text}
 

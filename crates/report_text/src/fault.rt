@@ -4,38 +4,11 @@ ghost use Rattle.report_text.specs.Refusals.{refusal_of, fault_text, input_name,
 use crate::counted::write_counted;
 use crate::script_fault::write_script_fault;
 use crate::setup_fault::write_setup_fault;
-use cl_lines::{ClFault, ClWhy};
-use edit_plan::ScriptFault;
-use setup_keys::SetupFault;
+use cl_lines::ClWhy;
+use input_faults::{Fault, Input};
 use std::alloc::Global;
 use vf_io::NoMemory;
 use vf_text::Page;
-
-/// The files that are read.
-#[derive(Clone, Copy)]
-pub enum Input {
-    /// The cutter location text.
-    Cl,
-    /// The setup.
-    Setup,
-    /// The script.
-    Script,
-}
-
-/// Why an input is refused.
-#[derive(Clone, Copy)]
-pub enum Fault {
-    /// The file has more bytes than its limit.
-    TooLong(Input),
-    /// The cutter location text has a fault.
-    Cl(ClFault),
-    /// The setup has a fault.
-    Setup(SetupFault),
-    /// The cutter of the move on this line is less high than its corner radius.
-    CutterHeight(u32),
-    /// The script has a fault.
-    Script(ScriptFault),
-}
 
 /// The one line of a refusal.
 pub fn refusal_text(alloc: Global, fault: &Fault) -> Result<Vec<u8>, NoMemory>

@@ -12,7 +12,8 @@ mod selftest;
 mod setup_fault;
 mod verdict;
 
-pub use fault::{Fault, Input, refusal_text};
+pub use fault::refusal_text;
+pub use input_faults::{Fault, Input};
 pub use job_report::{Facts, Found};
 pub use listing::list_text;
 pub use marking::point_text;

@@ -1,6 +1,7 @@
 use cl_lines::{ClFault, ClWhy, Word};
 use edit_plan::{ScriptFault, ScriptWhy};
-use report_text::{Fault, Input, refusal_text};
+use input_faults::{Fault, Input};
+use report_text::refusal_text;
 use setup_keys::{KeyName, SetupFault};
 use std::alloc::Global;
 use std::test::Fail;

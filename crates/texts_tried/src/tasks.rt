@@ -1,4 +1,6 @@
-use job_inputs::{Stopped, made_inputs, make_ready, read_moves, read_task};
+use input_faults::Stopped;
+use job_inputs::{made_inputs, read_moves, read_task};
+use job_run::make_ready;
 use report_text::refusal_text;
 use std::alloc::Global;
 use std::test::Fail;

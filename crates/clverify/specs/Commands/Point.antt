@@ -5,16 +5,16 @@ use Rattle.axis_cells.specs.declared.mark.Mark.{Mark}
 use Rattle.cl_moves.specs.declared.program.Program.{Program}
 use Rattle.cl_records.specs.Kinds.{tallest}
 use Rattle.report_text.specs.Marking.{marking_of}
-use Rattle.report_text.specs.declared.fault.Fault.TheVariants.{CutterHeight}
+use Rattle.input_faults.specs.declared.fault.Fault.TheVariants.{CutterHeight}
 use Rattle.vf_io.specs.Files.{Files, bytes_of}
 use Rattle.clverify.specs.Answer.{Due, answer_of, refused}
 use Rattle.clverify.specs.Commands.Questions.{question_of}
-use Rattle.point_marks.specs.Cutters.{first_low}
+use Rattle.move_cutters.specs.Cutters.{first_low}
 use Rattle.job_inputs.specs.Inputs.{read_of}
 use Rattle.point_marks.specs.Marks.{AreTrueMarks, marks_for}
 use Rattle.verify_words.specs.Words.{Word, Words, is_name}
 use Rattle.point_marks.specs.declared.question.Question.{Question}
-use Rattle.point_marks.specs.declared.cutters.Usual.{Usual}
+use Rattle.move_cutters.specs.declared.cutters.Usual.{Usual}
 use Rattle.clverify.specs.declared.status.Status.TheVariants.{Clean}
 
 -- its first word

@@ -10,7 +10,7 @@ use Rattle.job_report.specs.Tasks.{Task}
 use Rattle.job_report.specs.Truth.{IsTrueReport}
 use Rattle.job_report.specs.declared.facts.Found.{Found}
 use Rattle.report_text.specs.Report.{report_of}
-use Rattle.report_text.specs.declared.fault.Fault.{Fault}
+use Rattle.input_faults.specs.declared.fault.Fault.{Fault}
 use Rattle.verify_words.specs.Call.{VerifyCall}
 use Rattle.verify_words.specs.Words.{Word, Words}
 use Rattle.vf_io.specs.Files.{Files, bytes_of}

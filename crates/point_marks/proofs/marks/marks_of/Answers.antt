@@ -1,6 +1,7 @@
 use Rattle.std.proofs.Common.{rules, false, [], None, arith}
 use Rattle.std.proofs.lemmas.Grind.{common_steps}
-use Rattle.point_marks.proofs.Truths.{high_behind, marked_more}
+use Rattle.move_cutters.proofs.Highs.{high_behind}
+use Rattle.point_marks.proofs.Truths.{marked_more}
 use Rattle.point_marks.proofs.marks.marks_of.Goals as goal
 
 pub loop-next-preserved : goal.loop-next-preserved

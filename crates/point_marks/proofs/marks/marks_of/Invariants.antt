@@ -1,5 +1,5 @@
 use Rattle.std.proofs.Common.{◌≡◌, take, drop, None}
-use Rattle.point_marks.specs.Cutters.{first_low}
+use Rattle.move_cutters.specs.Cutters.{first_low}
 use Rattle.point_marks.specs.Marks.{AreTrueMarks, marks_for}
 use Rattle.point_marks.proofs.marks.marks_of.Given as goal
 

@@ -1,0 +1,29 @@
+use cl_lines::ClFault;
+use edit_plan::ScriptFault;
+use setup_keys::SetupFault;
+
+/// The files that are read.
+#[derive(Clone, Copy)]
+pub enum Input {
+    /// The cutter location text.
+    Cl,
+    /// The setup.
+    Setup,
+    /// The script.
+    Script,
+}
+
+/// Why an input is refused.
+#[derive(Clone, Copy)]
+pub enum Fault {
+    /// The file has more bytes than its limit.
+    TooLong(Input),
+    /// The cutter location text has a fault.
+    Cl(ClFault),
+    /// The setup has a fault.
+    Setup(SetupFault),
+    /// The cutter of the move on this line is less high than its corner radius.
+    CutterHeight(u32),
+    /// The script has a fault.
+    Script(ScriptFault),
+}

@@ -1,0 +1,113 @@
+ghost use Rattle.std.specs.Prelude.{◌≡◌, neg_ℤ, map, length, None, All, IfOk, false};
+ghost use Rattle.cl_moves.specs.Moves.{IsMove};
+ghost use Rattle.edit_plan.specs.Queries.{IsQuery};
+ghost use Rattle.job_report.specs.Tasks.{IsTask};
+ghost use Rattle.setup_file.specs.Shift.{shifted_of};
+ghost use Rattle.setup_file.specs.Sound.{IsSetup, IsTool};
+ghost use Rattle.move_cutters.specs.Cutters.{first_low, is_move_low};
+ghost use Rattle.job_inputs.specs.Tasks.{job_move, tool_usual};
+ghost use Rattle.job_run.specs.Ready.{task_ready};
+
+use crate::bodies::JobBodies;
+use cl_moves::Move;
+use cutter_slabs::Cutter;
+use edit_plan::{Queries, Script};
+use job_inputs::{TaskInputs, tool_text, usual_of};
+use move_cutters::{size, sweep_of};
+use ray_shapes::Bodies;
+use setup_file::{Setup, shifted};
+use std::alloc::Global;
+use strip_plan::{PlanDraft, PlanMove};
+use vf_io::NoMemory;
+
+/// A task that is ready to be done: what its plan is made of; the bodies that are judged; how many records of the program were passed
+/// over; and the queries.
+#[derive(Drop)]
+pub struct ReadyTask {
+    pub plan: PlanDraft,
+    pub bodies: JobBodies,
+    pub passed: u32,
+    pub queries: Queries,
+}
+
+/// A move with the cutter that it is made with.
+fn plan_move(tool: &Cutter, next: &Move) -> PlanMove
+    requires tool { IsTool tool.now }
+    requires valid { IsMove next.now }
+    requires high { is_move_low (tool_usual tool.now) next.now ≡ false }
+    ensures { result ≡ job_move tool.now next.now }
+{
+    PlanMove::new(
+        sweep_of(next),
+        size(&usual_of(tool), &next.cutter.unwrap_or(tool_text(tool))),
+        next.rapid,
+        next.line,
+    )
+}
+
+/// The moves of a program in order, each with its cutter.
+fn plan_moves(alloc: Global, tool: &Cutter, moves: &[Move]) -> Result<Vec<PlanMove>, NoMemory>
+    requires tool { IsTool tool.now }
+    requires valid { All IsMove moves.now }
+    requires high { first_low (tool_usual tool.now) moves.now ≡ None }
+    ensures { IfOk result (λ made. made.items ≡ map (job_move tool.now) moves.now) }
+{
+    let mut made = Vec::with_capacity(alloc, moves.len())?;
+    for next in moves {
+        made.push(plan_move(tool, next))?;
+    }
+    Ok(made)
+}
+
+/// The part of a setup, lowered by its tolerance.
+fn lowered_part(alloc: Global, setup: &Setup) -> Result<Bodies, NoMemory>
+    requires { IsSetup setup.now }
+    ensures { IfOk result (λ part. part ≡ shifted_of (neg_ℤ setup.now.tolerance) setup.now.part) }
+{
+    shifted(alloc, setup.part.as_slice(), -setup.tolerance)
+}
+
+/// The fixtures of a setup, raised by their clearance.
+fn raised_fixture(alloc: Global, setup: &Setup) -> Result<Bodies, NoMemory>
+    requires { IsSetup setup.now }
+    ensures { IfOk result (λ fixture. fixture ≡ shifted_of setup.now.clearance setup.now.fixture) }
+{
+    shifted(alloc, setup.fixture.as_slice(), setup.clearance)
+}
+
+/// The stock of a setup, its part as it may be cut and its fixtures as they are kept clear.
+fn task_bodies(alloc: Global, setup: &Setup) -> Result<JobBodies, NoMemory>
+    requires { IsSetup setup.now }
+    ensures stock { IfOk result (λ made. made.stock ≡ setup.now.stock) }
+    ensures part { IfOk result (λ made. made.part ≡ shifted_of (neg_ℤ setup.now.tolerance) setup.now.part) }
+    ensures fixture { IfOk result (λ made. made.fixture ≡ shifted_of setup.now.clearance setup.now.fixture) }
+{
+    Ok(JobBodies {
+        stock: setup.stock.copy()?,
+        part: lowered_part(alloc, setup)?,
+        fixture: raised_fixture(alloc, setup)?,
+    })
+}
+
+/// Makes a task ready to be done. Fails only for want of memory.
+pub fn make_ready(alloc: Global, inputs: TaskInputs) -> Result<ReadyTask, NoMemory>
+    ensures task { IfOk result (λ ready. task_ready ready ≡ inputs) }
+    ensures asked { IfOk result (λ ready. All (IsQuery ready.plan.grid (length ready.plan.edits)) ready.queries) }
+    ensures valid { IfOk result (λ ready. IsTask (task_ready ready)) }
+{
+    let TaskInputs {
+        program,
+        setup,
+        script,
+    } = inputs;
+    let moves = plan_moves(alloc, &setup.tool, program.moves.as_slice())?;
+    let Script { edits, queries } = script;
+    let plan = PlanDraft::new(alloc, setup.grid, setup.slabs, setup.depth, moves, edits)?;
+    let bodies = task_bodies(alloc, &setup)?;
+    Ok(ReadyTask {
+        plan,
+        bodies,
+        passed: program.passed,
+        queries,
+    })
+}

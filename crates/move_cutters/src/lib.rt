@@ -1,0 +1,6 @@
+//! The cutter that each move of a program is made with, and its motion.
+#![tactic(auto)]
+
+mod cutters;
+
+pub use cutters::{Usual, cutter_of, low_cutter, size, sweep_of};

@@ -1,6 +1,0 @@
-use Rattle.std.proofs.Common.{◌≡◌, drop}
-use Rattle.point_marks.specs.Cutters.{first_low}
-use Rattle.point_marks.proofs.cutters.low_cutter.Given as goal
-
-abbrev pub invariant-loop-next : goal.invariant-loop-next
-invariant-loop-next l = first_low l.usual (drop l.next-index l.moves) ≡ first_low l.usual l.moves
