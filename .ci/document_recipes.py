@@ -76,8 +76,8 @@ def build(answers, code):
 
 CASES = {
     "LC_ALL=C awk -F": filters(NX, NX_DUE) + [({"in.cls": NX.replace("/DRILL", "/TCUTTER").encode()}, {}, 1)],
-    "LC_ALL=C sed '1s/^\\xef\\xbb\\xbf//; s/^[Nn]": filters(NUMBERED, "UNITS/INCHES\nGOTO/1,2,3\nGOTO/4,5,6\n"),
-    "LC_ALL=C sed '1s/^\\xef\\xbb\\xbf//' in": filters(NX, NX),
+    "LC_ALL=C awk 'NR == 1 { sub(/^\\357\\273\\277/, \"\") } {": filters(NUMBERED, "UNITS/INCHES\nGOTO/1,2,3\nGOTO/4,5,6\n"),
+    "LC_ALL=C awk 'NR == 1 { sub(/^\\357\\273\\277/, \"\") } 1": filters(NX, NX),
     "iconv": [({"in.cls": text.encode("utf-16")}, {"out.cls": text.encode()}, 0) for text in (NX, NX.replace("\n", "\r\n"))],
     "awk '/^move / { for (n = 7": [({"listing.txt": LISTING.encode()}, {"stdout": b"x -7000 1000\ny -500 900\nz -20000 50000\n"}, 0)],
     "awk '/^move / { for (n = 1": [({"listing.txt": LISTING.encode()}, {"stdout": b"move 3 line 6 30\n"}, 0)],
