@@ -1,6 +1,8 @@
-//! Tries of what all stands on: shelves and sinks, sets by their ranges, tangents, roots, the slabs of a cutter, counts, and one ray.
+//! Tries of what all stands on: shelves and sinks, sets by their ranges, tangents, roots, the slabs of a cutter, windows, bodies on rays, counts, and one ray.
 #![tactic(auto)]
 
+#[cfg(test)]
+mod bodies;
 #[cfg(test)]
 mod calls;
 #[cfg(test)]
@@ -11,6 +13,8 @@ mod cut_shelves;
 mod dexels;
 #[cfg(test)]
 mod folders;
+#[cfg(test)]
+mod grids;
 #[cfg(test)]
 mod lines_put;
 #[cfg(test)]

@@ -6,13 +6,13 @@ use vf_spans::Spans;
 
 /// The bits of a set, and how many ranges it has.
 #[derive(Clone, Copy)]
-struct Shown {
-    bits: u8,
-    ranges: u32,
+pub(crate) struct Shown {
+    pub(crate) bits: u8,
+    pub(crate) ranges: u32,
 }
 
 /// Whether the set has these bits and as many ranges.
-fn shows(set: &Spans, shown: Shown) -> bool {
+pub(crate) fn shows(set: &Spans, shown: Shown) -> bool {
     for i in 0..9 {
         if set.has(i) != is_marked(shown.bits, i) {
             return false;
@@ -56,7 +56,7 @@ struct Row {
     meet: Shown,
 }
 
-const ROWS: [Row; 7] = [
+const ROWS: [Row; 8] = [
     Row {
         what: "no range and none",
         first: 0,
@@ -121,6 +121,24 @@ const ROWS: [Row; 7] = [
         },
         meet: Shown {
             bits: 0b0001_1000,
+            ranges: 1,
+        },
+    },
+    // Of 0, 1, 2 and 2, 3, 4: all five; 0 and 1; 2.
+    Row {
+        what: "one range and one that it overlaps",
+        first: 0b0000_0111,
+        second: 0b0001_1100,
+        union: Shown {
+            bits: 0b0001_1111,
+            ranges: 1,
+        },
+        minus: Shown {
+            bits: 0b0000_0011,
+            ranges: 1,
+        },
+        meet: Shown {
+            bits: 0b0000_0100,
             ranges: 1,
         },
     },

@@ -8,3 +8,5 @@ mod job;
 pub mod status;
 pub mod top;
 pub mod verdict;
+
+pub use made_program::made_program;

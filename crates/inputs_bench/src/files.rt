@@ -4,8 +4,8 @@ ghost use Rattle.setup_file.specs.Sound.{IsSetup};
 
 use crate::ending::Ending;
 use edit_plan::{MAX_SCRIPT_BYTES, Script, ScriptEnd, read_script};
-use ray_grid::Grid;
 use input_faults::{Fault, Input};
+use ray_grid::Grid;
 use setup_file::{Setup, SetupEnd, read_setup};
 use std::alloc::Global;
 use std::rt::Files;

@@ -17,4 +17,6 @@ mod starting;
 mod strip;
 mod turning;
 
+pub use job_facts::{PointState, Totals};
 pub use strip::Strip;
+pub use strip_plan::Plan;

@@ -1,4 +1,4 @@
-//! Tries of texts: pieces of lines, the words of `verify`, listings, refusals and reports, a made program, and tasks as they are read.
+//! Tries of texts: pieces of lines, texts of records, the words of `verify`, listings, refusals and reports, a made program, and tasks as they are read.
 #![tactic(auto)]
 
 #[cfg(test)]
@@ -7,6 +7,8 @@ mod listings;
 mod made_moves;
 #[cfg(test)]
 mod pieces;
+#[cfg(test)]
+mod record_texts;
 #[cfg(test)]
 mod refusals;
 #[cfg(test)]
