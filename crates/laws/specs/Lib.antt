@@ -1,1 +1,2 @@
 pub mod Clearance
+pub mod SeenGouge

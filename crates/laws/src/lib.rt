@@ -2,5 +2,7 @@
 #![tactic(auto)]
 
 mod clearance;
+mod seen_gouge;
 
 pub use clearance::clearance_laws;
+pub use seen_gouge::{Places, seen_gouge_laws};
