@@ -23,7 +23,7 @@ LIST = r"`[\w:]+`(?:(?:, and |, | and )`[\w:]+`)*"
 CALLS = re.compile(r"(%s)(?: of `(\w+)`)?: (%s)(?:, clauses? (%s))?" % (LIST, LIST, LIST))
 CLAUSES = re.compile(r"`([\w:]+)`(?: of `(\w+)`)?, clauses? (%s)" % LIST)
 # Words of other systems, and of the past.
-OUTSIDE = {"CIRC_INTERPOLATION", "POINTS_ONLY", "NotBuilt"}
+OUTSIDE = {"CIRC_INTERPOLATION", "POINTS_ONLY", "NotBuilt", "expandCyclePoint"}
 
 
 def folders(top):
@@ -71,7 +71,7 @@ def is_there(top, document, path):
     """Whether a path leads somewhere, from the places that a document may mean."""
     own = os.path.dirname(document)
     starts = [top, os.path.join(top, "crates"), os.path.join(top, own), os.path.join(top, "crates", "*")]
-    return "/out/" in path or any(glob.glob(os.path.join(start, path.rstrip("/") + end)) for start in starts for end in ("", ".antt", ".rt"))
+    return "/out/" in path + "/" or any(glob.glob(os.path.join(start, path.rstrip("/") + end)) for start in starts for end in ("", ".antt", ".rt"))
 
 
 def crates_of(top, document, call, crate):

@@ -3,3 +3,8 @@ pub mod IndexSums
 pub mod LatticeSums
 pub mod WindowSums
 pub mod JobWindows
+pub mod Lengths
+pub mod Moved
+pub mod Least
+pub mod FirstAbove
+pub mod BoxPoints

@@ -1,3 +1,5 @@
+pub mod Clearance
+pub mod SeenGouge
 pub mod Tangents
 pub mod UpperReading
 pub mod Windows
