@@ -19,4 +19,4 @@ mod turning;
 
 pub use job_facts::{PointState, Totals};
 pub use strip::Strip;
-pub use strip_plan::Plan;
+pub use strip_plan::{Plan, PlanMove as Job};
