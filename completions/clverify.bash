@@ -1,6 +1,6 @@
 # Completion of clverify for bash: source this file, or put it as `clverify` into a folder of bash-completion.
 
-# Files below the word that stands there; where an ending is given, those with it, if there are any.
+# Files that begin with a word; where an ending is given, those with it, if there are any.
 _clverify_files() {
     compopt -o filenames 2>/dev/null
     if [ -n "${2-}" ]; then
@@ -55,7 +55,7 @@ _clverify() {
         _clverify_words "$word" 'list point selftest verify'
         return
     fi
-    # The words of point stand in one order: CL X Y Z --depth M --slabs N.
+    # The words of point have one order: CL X Y Z --depth M --slabs N.
     case ${COMP_WORDS[1]}:$COMP_CWORD in
     verify:*) _clverify_verify "$word" ;;
     list:2 | point:2) _clverify_files "$word" ;;
