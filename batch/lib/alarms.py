@@ -8,9 +8,9 @@ from typing import NamedTuple
 from . import records
 
 USUAL = os.path.join(os.path.dirname(os.path.dirname(os.path.abspath(__file__))), "alarms.toml")
-KEYS = {"name", "text", "line", "behind"}
+KEYS = {"name", "text", "line", "after"}
 TEXTS = ("report", "listing")
-BEHIND = "first tool change"
+AFTER = "first tool change"
 MOVE_LINE = re.compile(r"move \d+ line (\d+) ")
 SHOWN = 3  # lines that are kept of an alarm
 
@@ -23,22 +23,22 @@ class Alarm(NamedTuple):
     name: str
     text: str
     line: str
-    behind: str
+    after: str
 
 
 def alarm_of(table, number):
     wrong = "alarm %d: " % number
     if not isinstance(table, dict) or not {"name", "text", "line"} <= set(table) <= KEYS:
-        raise AlarmFault(wrong + "it needs name, text and line, and may have behind")
+        raise AlarmFault(wrong + "it needs name, text and line, and may have after")
     if not all(isinstance(value, str) for value in table.values()):
         raise AlarmFault(wrong + "each value is a text in quotes")
-    if table["text"] not in TEXTS or table.get("behind", BEHIND) != BEHIND:
-        raise AlarmFault(wrong + "text is 'report' or 'listing', and behind '%s'" % BEHIND)
+    if table["text"] not in TEXTS or table.get("after", AFTER) != AFTER:
+        raise AlarmFault(wrong + "text is 'report' or 'listing', and after '%s'" % AFTER)
     try:
         re.compile(table["line"])
     except re.error as why:
         raise AlarmFault(wrong + "line is no regular expression: %s" % why) from None
-    return Alarm(table["name"], table["text"], table["line"], table.get("behind", ""))
+    return Alarm(table["name"], table["text"], table["line"], table.get("after", ""))
 
 
 def read_alarms(path):
@@ -57,15 +57,15 @@ def read_alarms(path):
 
 
 def counts(alarm, line, change):
-    """Whether a line that matches counts: of moves, those ahead of the first tool change may not."""
+    """Whether a line that matches counts: of moves, those before the first tool change may not."""
     move = MOVE_LINE.match(line)
-    return not (alarm.behind and move and change is not None and int(move.group(1)) < change)
+    return not (alarm.after and move and change is not None and int(move.group(1)) < change)
 
 
 def raised(alarms, texts, data):
     """The alarms that these texts raise, by their kind, for the file with these bytes: name, how many lines, and the first of them."""
     change, found = None, []
-    if any(alarm.behind for alarm in alarms):
+    if any(alarm.after for alarm in alarms):
         change = records.first_tool_change(data)
     for alarm in alarms:
         pattern = re.compile(alarm.line)

@@ -70,7 +70,7 @@ class Teller:
 
 
 def details(result):
-    """What the line of a job says beside its state."""
+    """What the line of a job says next to its state."""
     parts = [result["why"]] if result.get("why") else []
     if result.get("unsafe"):
         parts.append("%d of %d moves unsafe" % (result["unsafe"], result["left"]))

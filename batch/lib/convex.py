@@ -1,7 +1,7 @@
 """A convex piece of a mesh as planes of whole numbers, rounded outwards. It needs numpy and scipy, whose qhull finds the hull.
 
 Each plane of the hull gets whole a, b, c near its direction, and the least whole d so that no corner of the piece lies beyond it: that
-is reckoned in exact fractions, so the piece lies within its body whatever a, b, c are. How much larger the body is at most is the
+is computed in exact fractions, so the piece lies within its body whatever a, b, c are. How much larger the body is at most is the
 distance of its own corners from the piece, since the distance from a convex piece is greatest at a corner.
 """
 
@@ -16,7 +16,7 @@ from . import polyhedra, setups
 MOST_NORMAL = 10_000
 MOST_D = 100_000_000_000
 SAME = 1e-9  # how far two directions of unit length may differ and be one
-SLACK = 1e-3  # micrometres that what is told is above what is reckoned in floating point
+SLACK = 1e-3  # micrometres that are added to what is computed in floating point
 
 
 class PieceFault(Exception):

@@ -7,6 +7,7 @@ results alone: a job is done where its result stands in its place, whoever put i
 import concurrent.futures
 import json
 import os
+import shlex
 import shutil
 import subprocess
 import sys
@@ -16,6 +17,7 @@ from . import alarms, jobs, plans, stamps
 
 HERE = os.path.dirname(os.path.dirname(os.path.abspath(__file__)))
 RUN_ONE = os.path.join(HERE, "run-one")
+MOST_NAMES, SHARES = 20, 4  # jobs that GNU parallel hands over at once, at most, and how many such shares each place gets at least
 MOST_TASKS = 1_000  # of an array, where Slurm doesn't say
 POLL = 0.5  # seconds between two looks for results
 ASKS = 4  # looks for results for each question to Slurm
@@ -55,7 +57,7 @@ def read_queue(path):
 
 
 def share(names, number, of):
-    """Every so-manieth name, from the number on."""
+    """Every OF-th name, from the number on."""
     return names[number::of]
 
 
@@ -79,8 +81,8 @@ def run_local(todo, settings, folder, options, tell):
 # ---------------------------------------------------------------- engines
 
 
-def told_as_they_come(todo, folder, tell, is_over):
-    """Tells the results as they come, until the engine is over; the ones that came last too."""
+def report_as_they_come(todo, folder, tell, is_over):
+    """Reports the results as they come, until the engine is over; those that came last too."""
     missing = [job.name for job in todo]
     while True:
         over = is_over()
@@ -102,17 +104,19 @@ def needs(command, package):
 def run_parallel(todo, settings, folder, options, tell):
     """Hands the jobs to GNU parallel."""
     needs("parallel", "parallel")
-    words = ["parallel", "--will-cite", "--jobs", str(options.jobs), "--retries", "2", "--max-args", "1"]
+    at_a_time = options.jobs * max(1, len(options.sshlogin))
+    names_each = max(1, min(MOST_NAMES, len(todo) // (SHARES * at_a_time)))
+    words = ["parallel", "--will-cite", "--jobs", str(options.jobs), "--retries", "2", "--max-args", str(names_each)]
     for host in options.sshlogin:
         words += ["--sshlogin", host]
-    words += options.engine_option + [RUN_ONE, queue_path(folder), "{}"]
+    words += options.engine_option + [shlex.quote(RUN_ONE), shlex.quote(queue_path(folder)), "{}"]
     names = "".join(job.name + "\n" for job in todo)
     with open(os.path.join(folder, "queue", "parallel.txt"), "ab") as said:
         process = subprocess.Popen(words, stdin=subprocess.PIPE, stdout=said, stderr=said, text=True)
         try:
             process.stdin.write(names)
             process.stdin.close()
-            told_as_they_come(todo, folder, tell, lambda: process.poll() is not None)
+            report_as_they_come(todo, folder, tell, lambda: process.poll() is not None)
             process.wait()
         except BaseException:
             process.terminate()
@@ -144,13 +148,14 @@ def in_queue(number):
 
 
 def array_script(folder, tasks):
-    return """#!/bin/sh
-#SBATCH --job-name=clverify-batch
-#SBATCH --requeue
-#SBATCH --open-mode=append
-#SBATCH --output=%s/queue/slurm-%%A_%%a.txt
-exec %s %s --share "$SLURM_ARRAY_TASK_ID" %d
-""" % (folder, RUN_ONE, queue_path(folder), tasks)
+    """What each task of an array does: it takes its share of the queue."""
+    return "#!/bin/sh\nexec %s %s --share \"$SLURM_ARRAY_TASK_ID\" %d\n" % (shlex.quote(RUN_ONE), shlex.quote(queue_path(folder)), tasks)
+
+
+def array_words(folder, tasks, at_a_time):
+    said = os.path.join(folder, "queue", "slurm-").replace("%", "%%") + "%A_%a.txt"
+    return ["sbatch", "--parsable", "--job-name=clverify-batch", "--requeue", "--open-mode=append", "--output=" + said,
+            "--array=0-%d%%%d" % (tasks - 1, at_a_time)]
 
 
 def forget_array(folder):
@@ -167,12 +172,10 @@ def forget_array(folder):
 def run_slurm(todo, settings, folder, options, tell):
     """Hands the jobs to Slurm, as an array each of whose tasks takes a share of them."""
     needs("sbatch", "slurm-client")
-    if any(blank in folder + RUN_ONE for blank in " \t\"'\\"):
-        raise EngineFault("Slurm's script can't name a folder with blanks or quotes: %s" % folder)
     forget_array(folder)
     tasks = min(len(todo), most_tasks())
-    done = subprocess.run(["sbatch", "--parsable", "--array=0-%d%%%d" % (tasks - 1, options.jobs)] + options.engine_option,
-                          input=array_script(folder, tasks), capture_output=True, text=True)
+    done = subprocess.run(array_words(folder, tasks, options.jobs) + options.engine_option, input=array_script(folder, tasks),
+                          capture_output=True, text=True)
     if done.returncode != 0:
         raise EngineFault("sbatch: %s" % done.stderr.strip())
     number = done.stdout.strip().split(";")[0]
@@ -180,7 +183,7 @@ def run_slurm(todo, settings, folder, options, tell):
         f.write(number + "\n")
     looks = iter(range(sys.maxsize))
     try:
-        told_as_they_come(todo, folder, tell, lambda: next(looks) % ASKS == ASKS - 1 and not in_queue(number))
+        report_as_they_come(todo, folder, tell, lambda: next(looks) % ASKS == ASKS - 1 and not in_queue(number))
     except BaseException:
         asked(["scancel", number])
         raise
@@ -191,7 +194,7 @@ ENGINES = {"local": run_local, "parallel": run_parallel, "slurm": run_slurm}
 
 
 def run_all(todo, settings, folder, options, tell):
-    """Runs the jobs. Those that an engine lost are handed over again, so often as the options say; what is lost then is told so."""
+    """Runs the jobs. Those that an engine lost are handed over again, as often as the options say; what is lost after that is reported as lost."""
     told = {}
 
     def tell_once(result):

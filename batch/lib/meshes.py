@@ -6,7 +6,7 @@ import struct
 from fractions import Fraction
 from typing import NamedTuple
 
-HEAD, RECORD = 84, 50  # bytes of binary STL: ahead of the facets, and of each facet
+HEAD, RECORD = 84, 50  # bytes of binary STL: before the facets, and of each facet
 
 
 class MeshFault(Exception):
@@ -36,10 +36,10 @@ def number(word, path):
 
 
 def read_binary(data, path):
-    """One solid, whose facets stand behind a head of 80 bytes and their number."""
+    """One solid, whose facets stand after a head of 80 bytes and their number."""
     count, = struct.unpack_from("<I", data, HEAD - 4)
     if len(data) < HEAD + RECORD * count:
-        raise MeshFault("%s: it is cut off: %d facets are told, and %d are there" % (path, count, (len(data) - HEAD) // RECORD))
+        raise MeshFault("%s: it is cut off: it says %d facets, and %d are there" % (path, count, (len(data) - HEAD) // RECORD))
     facets = []
     for at in range(count):
         numbers = struct.unpack_from("<12f", data, HEAD + RECORD * at)[3:]
@@ -185,11 +185,11 @@ def decimal(value):
 
 def off_text(solids):
     """Solids as one OFF text; each is its corners and its faces, a face the numbers of its corners."""
-    lines, faces, behind = [], [], 0
+    lines, faces, before = [], [], 0
     for _, corners, own in solids:
         lines += [" ".join(map(decimal, corner)) for corner in corners]
-        faces += ["%d %s" % (len(face), " ".join(str(at + behind) for at in face)) for face in own]
-        behind += len(corners)
+        faces += ["%d %s" % (len(face), " ".join(str(at + before) for at in face)) for face in own]
+        before += len(corners)
     return "\n".join(["OFF", "%d %d 0" % (len(lines), len(faces))] + lines + faces) + "\n"
 
 

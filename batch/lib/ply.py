@@ -48,7 +48,7 @@ def head(count, unit_name, binary):
 
 
 def body_of(points, unit, binary):
-    """The points, one after the other, as they stand behind the head."""
+    """The points, one after the other, as they stand after the head."""
     for point in points:
         row = row_of(point, unit)
         yield POINT.pack(*row) if binary else ("%.9g %.9g %.9g %d %d %d %d %d %d\n" % row).encode()

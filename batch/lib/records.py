@@ -9,7 +9,7 @@ from typing import NamedTuple
 
 BLANKS = b" \t"
 WORD = re.compile(rb"[ \t]*([A-Za-z0-9_-]*)[ \t]*")
-# What tells of another tool. LOAD does so only as LOAD/TOOL, TOOL as TOOL PATH/NAME,TOOL,NAME.
+# The records of a tool change. LOAD does so only as LOAD/TOOL, TOOL as TOOL PATH/NAME,TOOL,NAME.
 TOOL_WORDS = ("LOADTL", "TLDATA", "TOOLNO")
 NO_OPERATION, NO_TOOL = "no operation named", "no tool named"
 
@@ -56,12 +56,12 @@ def records_of(data):
 
 
 def parameters(rest):
-    """What stands between the commas behind a slash."""
+    """What stands between the commas after a slash."""
     return [part.strip() for part in rest.lstrip("/").split(",")]
 
 
 def changes_tool(record):
-    """Whether a record tells of another tool."""
+    """Whether a record is of a tool change."""
     if record.word == "LOAD":
         return parameters(record.rest)[0].upper() == "TOOL"
     if record.word == "TOOL":
@@ -84,7 +84,7 @@ def path_of(record):
 
 
 class Notes:
-    """What the notes ahead of a move say of its operation and its tool."""
+    """What the notes before a move say of its operation and its tool."""
 
     def __init__(self):
         self.path = self.note = self.tool = self.loaded = self.sizes = ""

@@ -27,7 +27,8 @@ class Move(NamedTuple):
         return self.counts[at:at + 2]
 
     def is_safe(self):
-        return not any(self.pair(name)[1] for name in PAIRS)
+        """Whether the second number of each pair is 0."""
+        return not (self.counts[3] or self.counts[5] or self.counts[7])
 
 
 def move_of(line):
@@ -35,10 +36,10 @@ def move_of(line):
     match = MOVE.fullmatch(line)
     if not match:
         return None
-    words = match.groups()
-    move = Move(int(words[0]), int(words[1]), words[2], tuple(map(int, words[3:11])))
-    if (words[11] == "safe") != move.is_safe():
-        raise Unreadable("a move is called %s against its own counts: %s" % (words[11], line))
+    number, record, kind, *counts, safe = match.groups()
+    move = Move(int(number), int(record), kind, tuple(map(int, counts)))
+    if (safe == "safe") != move.is_safe():
+        raise Unreadable("a move is called %s against its own counts: %s" % (safe, line))
     return move
 
 

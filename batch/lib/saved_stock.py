@@ -92,16 +92,16 @@ def read(data):
     refuse(2, "no grid of a setup", not is_grid(grid))
     rays, before = [], None
     for number, line in enumerate(lines[2:], 3):
-        refuse(number, "the text ends ahead of its 'end'", number == len(lines))
+        refuse(number, "the text ends before its 'end'", number == len(lines))
         if line == "end":
-            refuse(number + 1, "something stands behind the end", lines[number:] != [""])
+            refuse(number + 1, "something stands after the end", lines[number:] != [""])
             return grid, rays
         ray = ray_of(line, number, grid)
         order = list(FAMILIES).index(ray.family), ray.i, ray.j
         refuse(number, "rays are out of order", before is not None and order <= before)
         rays.append(ray)
         before = order
-    raise StockFault("stock line %d: the text ends ahead of its 'end'" % len(lines))
+    raise StockFault("stock line %d: the text ends before its 'end'" % len(lines))
 
 
 def text_of(grid, rays):

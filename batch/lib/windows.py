@@ -1,11 +1,12 @@
 """Windows of a grid: whole nodes of it, each window a grid of its own, so that every point of the lattice is in exactly one.
 
 Along an axis with n nodes, and q points for each node, a window from node a on and below node b has the rays through its nodes, and of
-the rays along the axis the points from a q on and below b q: those behind its last node too, up to the next window. Point l of such a
+the rays along the axis the points from a q on and below b q: those after its last node too, up to the next window. Point l of such a
 ray of the window is point a q + l of the whole grid, at the same place, since q steps are a pitch.
 """
 
 import itertools
+import operator
 import re
 from typing import NamedTuple
 
@@ -25,7 +26,7 @@ class CannotCut(Exception):
 class Window(NamedTuple):
     name: str
     low: tuple  # its first node along each axis
-    high: tuple  # the node behind its last
+    high: tuple  # the node after its last
 
 
 # ---------------------------------------------------------------- the grid
@@ -160,7 +161,8 @@ class Sum:
         for at, (move, own) in enumerate(zip(self.moves, report.moves)):
             if move[:3] != own[:3]:
                 raise reports.Unreadable("the report of %s is of another job" % window.name)
-            self.moves[at] = move._replace(counts=tuple(map(sum, zip(move.counts, own.counts))))
+            if any(own.counts):
+                self.moves[at] = reports.Move(*move[:3], tuple(map(operator.add, move.counts, own.counts)))
         self.totals = tuple(map(sum, zip(self.totals, report.totals)))
         for at, (question, answer) in enumerate(zip(self.questions, report.answers)):
             self.answer(window, at, question, answer)

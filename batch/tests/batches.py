@@ -1,4 +1,4 @@
-"""Tries of clverify-batch: states, findings by operation and tool, stamps, what is kept, and what is lost."""
+"""Tests of clverify-batch: states, findings by operation and tool, stamps, what is kept, and what is lost."""
 
 import glob
 import json
@@ -7,7 +7,7 @@ import re
 import shutil
 import xml.etree.ElementTree as xml
 
-from . import calls, made_jobs
+from . import calls, generated_jobs
 
 EXAMPLES = os.path.join(calls.TOP, "examples")
 NOTED = """$$ ROUGHING
@@ -22,7 +22,7 @@ TLDATA/MILL,8.0,0.0,30.0
 GOTO/8,-6,-7
 GOTO/8,-6,20
 FINI
-PPRINT BEHIND FINI
+PPRINT AFTER FINI
 """
 # A plan, and what is said of it.
 WRONG_PLANS = [
@@ -57,17 +57,17 @@ def read(*path):
 
 
 def check_made(tally, name, made, folder):
-    """The results of made jobs are those that were planted, each once, and nothing else."""
+    """The results of generated jobs are those that were planted, each once, and nothing else."""
     results = results_of(folder)
     tally.same(name + ": the jobs", sorted(results), sorted(job.name for job in made))
-    wrong = [job.name for job in made if results.get(job.name, {}).get("state") != made_jobs.FAULTS[job.fault][0]]
+    wrong = [job.name for job in made if results.get(job.name, {}).get("state") != generated_jobs.FAULTS[job.fault][0]]
     tally.same(name + ": the states", wrong, [])
     text = read(folder, "summary.txt")
     parts = {part.split(":")[0]: part for part in text.split("\n\n")[1:]}
-    unlike = [job.name for job in made if (made_jobs.FAULTS[job.fault][1] not in parts.get(job.name, "")) or (job.fault == "clean") != (job.name not in parts)]
+    unlike = [job.name for job in made if (generated_jobs.FAULTS[job.fault][1] not in parts.get(job.name, "")) or (job.fault == "clean") != (job.name not in parts)]
     tally.same(name + ": the summary", unlike, [])
     tally.same(name + ": nothing in part", glob.glob(os.path.join(folder, "jobs", "*", "*.part")), [])
-    counts = {state: sum(made_jobs.FAULTS[job.fault][0] == state for job in made) for state in ("clean", "findings", "refused")}
+    counts = {state: sum(generated_jobs.FAULTS[job.fault][0] == state for job in made) for state in ("clean", "findings", "refused")}
     tally.true(name + ": the count", text.startswith("%d jobs: %d clean, %d with findings, %d refused, 0 failed\n" % (len(made), *counts.values())), text[:80])
 
 
@@ -78,7 +78,7 @@ def reports_are_the_programs(tally, name, made, folder, program):
 
 
 def states(tally, folder, program):
-    made, plan = made_jobs.make(os.path.join(folder, "made"), 16, 2)
+    made, plan = generated_jobs.make(os.path.join(folder, "made"), 16, 2)
     results = os.path.join(folder, "made", "plan.results")
     called = calls.call("clverify-batch", plan, "--program", program, "--jobs", 2)
     tally.same("a batch: its code", called.code, 1)
@@ -95,7 +95,7 @@ def outputs_agree(tally, made, results):
     suite = xml.parse(os.path.join(results, "junit.xml")).getroot().find("testsuite")
     cases = {case.get("name"): [each.tag for each in case] for case in suite}
     tags = {"clean": [], "findings": ["failure"], "refused": ["error"]}
-    tally.same("JUnit: the cases", cases, {job.name: tags[made_jobs.FAULTS[job.fault][0]] for job in made})
+    tally.same("JUnit: the cases", cases, {job.name: tags[generated_jobs.FAULTS[job.fault][0]] for job in made})
     tally.same("JUnit: the counts", [suite.get(key) for key in ("tests", "failures", "errors")], ["16", "7", "1"])
     run = json.loads(read(results, "results.sarif"))["runs"][0]
     found = {(result["ruleId"], result["message"]["text"].split(":")[0]) for result in run["results"]}
@@ -130,7 +130,7 @@ def unchanged(tally, made, plan, results, program):
 
 def notes(tally, folder, program):
     """Findings by operation and tool, and the four alarms with what they pass over."""
-    calls.write(folder, "block.toml", made_jobs.SETUP)
+    calls.write(folder, "block.toml", generated_jobs.SETUP)
     calls.write(folder, "noted.cls", NOTED)
     calls.write(folder, "ahead.cls", NOTED.replace("CUTTER/8,0,4,0,0,0,30\n", "").replace("GOTO/-8,-6,-7", "CUTTER/8,0,4,0,0,0,30").replace(
         "LOADTL/3,ADJUST,3\nFROM/0,0,60\nGOTO/-8,-6,5\n", "FROM/0,0,60\nGOTO/-8,-6,5\nLOADTL/3,ADJUST,3\n").replace(",-7", ",2"))
@@ -142,12 +142,12 @@ def notes(tally, folder, program):
                  "    moves 4 left 0 passed 4", "3 jobs: 1 clean, 2 with findings, 0 refused, 0 failed"):
         tally.true("notes: %s" % line.strip(), line in called.out, called.out)
     tally.true("an annotation", "::error file=noted.cls,line=7,title=clverify%3A noted::OPERATION NAME : Pocketing.1, tool 3: 1 move into" in called.out, called.out)
-    tally.true("a move ahead of the first tool change", "cutter none" in calls.program(program, "list", os.path.join(folder, "ahead.cls")).out)
+    tally.true("a move before the first tool change", "cutter none" in calls.program(program, "list", os.path.join(folder, "ahead.cls")).out)
 
 
 def failures(tally, folder, program):
     """A job that is killed, finds no memory, takes too long or isn't there is one failed job, by name."""
-    made, plan = made_jobs.make(os.path.join(folder, "failing"), 6, 7)
+    made, plan = generated_jobs.make(os.path.join(folder, "failing"), 6, 7)
     body = 'case $file in *0001*) kill -9 $$ ;; *0002*) exit 6 ;; *0003*) exec sleep 30 ;; *0004*) echo nonsense; exit 0 ;; esac'
     fake = calls.stand_in(folder, "failing.sh", program, body)
     os.remove(made[5].cl)
@@ -165,7 +165,7 @@ def failures(tally, folder, program):
 
 def stopped(tally, folder, program):
     """A batch that is killed goes on where it was, and keeps others out while it runs. From the fifth job on the program waits for a file."""
-    made, plan = made_jobs.make(os.path.join(folder, "stopped"), 14, 4)
+    made, plan = generated_jobs.make(os.path.join(folder, "stopped"), 14, 4)
     results, go = os.path.join(folder, "stopped", "plan.results"), os.path.join(folder, "go")
     slow = calls.stand_in(folder, "slow.sh", program, 'case $file in ""|*000[0-3]*) ;; *) while [ ! -e "%s" ]; do sleep 0.05; done ;; esac' % go)
     running = calls.started("clverify-batch", plan, "--program", slow, "--jobs", 2)

@@ -1,4 +1,4 @@
-"""Tries of what needs no packages: polyhedra of setups, meshes, saved stock and PLY; and what setup-from-stl says without its packages."""
+"""Tests of what needs no packages: polyhedra of setups, meshes, saved stock and PLY; and what setup-from-stl says without its packages."""
 
 import glob
 import importlib.util

@@ -1,4 +1,4 @@
-"""Tries of clverify-split: the report of the windows is that of the whole grid, byte for byte."""
+"""Tests of clverify-split: the report of the windows is that of the whole grid, byte for byte."""
 
 import functools
 import importlib.machinery
@@ -39,7 +39,7 @@ LONG = 411  # nodes along x, more than a grid may have
 
 @functools.cache
 def second_reading():
-    """The reckoning of reports point by point that stands in examples/, apart from the program."""
+    """The computation of reports point by point that stands in examples/, apart from the program."""
     loader = importlib.machinery.SourceFileLoader("compare_verify", os.path.join(EXAMPLES, "compare_verify"))
     module = importlib.util.module_from_spec(importlib.util.spec_from_loader(loader.name, loader))
     loader.exec_module(module)
@@ -62,7 +62,7 @@ def examples(tally, folder, program):
 
 
 def made(tally, folder, program):
-    """Made jobs, many of them refused, cut at random."""
+    """generated jobs, many of them refused, cut at random."""
     verify = second_reading()
     rng = random.Random("windows")
     for number in range(MADE):
@@ -85,7 +85,7 @@ def parts_for(setup, rng):
 
 @functools.cache
 def long_due():
-    """The report of the long grid, reckoned point by point, and its code."""
+    """The report of the long grid, computed point by point, and its code."""
     verify = second_reading()
     moves, passed = verify.reading.program(PATH.encode())
     setup = verify.inputs.setup_of((SMALL % (400, 1_000 * LONG, 1_000 * LONG)).encode())
@@ -96,7 +96,7 @@ def long_due():
 
 
 def long_grid(tally, folder, program):
-    """A grid of more nodes than the program takes, against the reckoning point by point; and what can't be cut."""
+    """A grid of more nodes than the program takes, against the computation point by point; and what can't be cut."""
     text = SMALL % (LONG, 1_000 * LONG, 1_000 * LONG)
     setup, cl, script = (calls.write(folder, name, data) for name, data in (("long.toml", text), ("long.cls", PATH), ("long.script", SCRIPT)))
 

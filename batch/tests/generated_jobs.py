@@ -1,4 +1,4 @@
-"""Made jobs: small programs of two operations in one setup, some with a fault that was planted. What is due of each is known from how it
+"""generated jobs: small programs of two operations in one setup, some with a fault that was planted. What is due of each is known from how it
 was made, not from what the program says."""
 
 import os
