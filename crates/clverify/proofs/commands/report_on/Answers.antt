@@ -26,7 +26,7 @@ returns-in-Point-clause-sound g c =
     IfOk c.point_report.result (λ answer. IsTrueText answer.status files (command_seen command) answer.text.items)))
     (sym c.in-Point.is)
     (without_findings (g.S.Shelf.files c.args.shelf.now) c.point_report.result
-    (λ files text. IsTrueMarking c.in-Point.question.now (bytes_of files c.in-Point.file.now) text) c.point_report.ensures.clean c.point_report.ensures.sound)
+    (λ files text. IsTrueMarking c.in-Point.question (bytes_of files c.in-Point.file.now) text) c.point_report.ensures.clean c.point_report.ensures.sound)
 
 pub returns-in-Selftest-clause-report : goal.returns-in-Selftest-clause-report
 returns-in-Selftest-clause-report g c =
