@@ -1,6 +1,6 @@
 -- The facts of a task that was made ready are its facts, and what is written of them is true.
-use Rattle.std.proofs.Common.{◌≡◌, true, false, ℕ, suc, ◌+◌, Bool, ◌&&◌, List, [], ◌∷◌, Result, Ok, Err, IfOk, arith, refl, subst, sym, ap, ◌∙◌, ⊎_elim}
-use Rattle.std.specs.List.{All, Contains, list_all}
+use Rattle.std.proofs.Common.{◌≡◌, true, false, ℕ, suc, Bool, List, [], ◌∷◌, Result, Ok, Err, IfOk, arith, refl, subst, sym, ap, ⊎_elim}
+use Rattle.std.specs.List.{Contains, list_all}
 use Rattle.std.proofs.lemmas.Bool.{and_cases, cases_Bool}
 use Rattle.std.proofs.lemmas.List.Sums.{AllPass-from_list_all}
 use Rattle.job_facts.specs.Counts.{is_safe}

@@ -1,10 +1,9 @@
 -- The strips of the draft are those of the plan.
-use Rattle.std.proofs.Common.{◌≡◌, ◌∙◌, subst, ap}
+use Rattle.std.proofs.Common.{subst}
 use Rattle.job_model.specs.Tasks.{PlanOf}
 use Rattle.job_run.specs.Finished.{IsFinished}
 use Rattle.job_run.specs.Jobs.{job_with}
 use Rattle.job_run.specs.declared.finished.FinishedJob.{FinishedJob}
-use Rattle.job_run.proofs.Brought.{up_from}
 use Rattle.job_run.proofs.Standing.{of_made}
 use Rattle.job_run.proofs.finished.finish_job.Goals as goal
 

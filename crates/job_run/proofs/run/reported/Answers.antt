@@ -2,8 +2,7 @@
 use Rattle.std.proofs.Common.{◌≡◌, ◌∙◌, length, map, ap}
 use Rattle.std.proofs.lemmas.List.{length-map}
 use Rattle.job_report.specs.Facts.{are_answered}
-use Rattle.job_report.specs.Report.{answered, facts_of}
-use Rattle.job_report.specs.declared.facts.Facts.{Facts}
+use Rattle.job_report.specs.Report.{answered}
 use Rattle.turn_core.specs.World.{answer_of}
 use Rattle.job_run.specs.Asked.{asked_with}
 use Rattle.job_run.proofs.Asked.{all_answered, asked_is}
