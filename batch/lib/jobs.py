@@ -15,7 +15,7 @@ from . import alarms, records, reports, stamps
 # What a code of the program means that is no answer about the files.
 FAILED = {2: "the program doesn't know these words: is it older than the scripts?", 4: "a file couldn't be read",
           5: "the report couldn't be written: is the disk full?", 6: "no memory was found",
-          125: "the program wasn't built, or gave no answer", 126: "the program can't be run", 127: "the program isn't there"}
+          125: "the program wasn't built, or gave no answer", 126: "the program can't be run", 127: "the program isn't there, or can't be loaded"}
 CLEAN, FINDINGS, REFUSED, UNREAD = 0, 1, 3, 4
 MOST_SAID = 300  # characters of what a program says on standard error
 PART = re.compile(r"(?:report|listing|result)\.(.*)\.([0-9]+)\.[0-9]+\.part")
@@ -182,7 +182,7 @@ def run_job(job, settings, folder):
             return None
         text = read(part).decode("ascii", "replace")
         result["report"] = stamps.sum_of(part)
-        if stamps.sum_of(settings.program) != settings.program_sum:
+        if stamps.sum_of_program(settings.program) != settings.program_sum:
             failed(result, "the program on this machine isn't the one of the batch")
         else:
             judge(result, job, settings, ended, text, scratch)

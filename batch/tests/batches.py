@@ -7,6 +7,8 @@ import re
 import shutil
 import xml.etree.ElementTree as xml
 
+from lib import engines, jobs, plans, stamps
+
 from . import calls, generated_jobs
 
 EXAMPLES = os.path.join(calls.TOP, "examples")
@@ -185,6 +187,23 @@ def stopped(tally, folder, program):
     check_made(tally, "killed and gone on", made, results)
 
 
+def shares(tally, folder, program):
+    """What an engine starts: it takes names or a share, leaves what is done, and knows another program from the batch's."""
+    made, plan = generated_jobs.make(os.path.join(folder, "shared"), 5, 9)
+    results, own = os.path.join(folder, "shared", "results"), calls.stand_in(folder, "own.sh", program, "")
+    settings = jobs.Settings(own, stamps.sum_of(own), [], "")
+    engines.write_queue(results, plans.read_plan(plan), settings)
+    queue = engines.queue_path(results)
+    tally.same("run-one by names", (calls.call("run-one", queue, made[1].name).code, sorted(results_of(results))), (0, [made[1].name]))
+    before = results_of(results)[made[1].name]
+    tally.same("run-one by a share", calls.call("run-one", queue, "--share", 1, 2).code, 0)
+    tally.same("its share", sorted(results_of(results)), [made[1].name, made[3].name])
+    tally.same("what is done is left", results_of(results)[made[1].name], before)
+    calls.stand_in(folder, "own.sh", program, "# another program")
+    calls.call("run-one", queue, made[0].name)
+    tally.same("another program", results_of(results)[made[0].name]["why"], "the program on this machine isn't the one of the batch")
+
+
 def refusals(tally, folder, program):
     """Plans, alarms and programs that can't be taken are named, and nothing runs."""
     for text, words in WRONG_PLANS:
@@ -222,7 +241,7 @@ def faults(tally, folder, program):
 
 
 def run(tally, folder, program):
-    for each in (states, notes, failures, stopped, refusals, faults):
+    for each in (states, notes, failures, stopped, shares, refusals, faults):
         own = os.path.join(folder, each.__name__)
         os.makedirs(own)
         each(tally, own, program)
