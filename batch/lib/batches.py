@@ -28,6 +28,15 @@ def add_words(parser):
     parser.add_argument("--memory", type=positive, default=0, metavar="MIB", help="the most memory of a job (default: no limit)")
 
 
+def called(main):
+    """Calls a script's main function. Where the reader of its output went away, it ends without a word."""
+    try:
+        main()
+    except BrokenPipeError:
+        os.dup2(os.open(os.devnull, os.O_WRONLY), sys.stdout.fileno())
+        sys.exit(1)
+
+
 def positive(text):
     if not text.isdigit() or int(text) == 0:
         raise ValueError(text)

@@ -82,13 +82,14 @@ def run_local(todo, settings, folder, options, tell):
 
 
 def report_as_they_come(todo, folder, tell, is_over):
-    """Reports the results as they come, until the engine is over; those that came last too."""
+    """Reports the results as they come, until the engine is over; those that came last too. One that failed waits for the end: on a machine
+    that is going down the program may be killed a moment before what waits for it, and the engine may run that job once more."""
     missing = [job.name for job in todo]
     while True:
         over = is_over()
         for name in list(missing):
             result = stamps.read_result(folder, name)
-            if result:
+            if result and (over or result["state"] != "failed"):
                 missing.remove(name)
                 tell(result)
         if over or not missing:
@@ -99,6 +100,15 @@ def report_as_they_come(todo, folder, tell, is_over):
 def needs(command, package):
     if not shutil.which(command):
         raise EngineFault("%s isn't on this machine (Debian's package is %s)" % (command, package))
+
+
+def hand_over(pipe, text):
+    """Writes a text into the input of an engine, which may have ended already."""
+    try:
+        pipe.write(text)
+        pipe.close()
+    except BrokenPipeError:
+        pass
 
 
 def run_parallel(todo, settings, folder, options, tell):
@@ -114,8 +124,7 @@ def run_parallel(todo, settings, folder, options, tell):
     with open(os.path.join(folder, "queue", "parallel.txt"), "ab") as said:
         process = subprocess.Popen(words, stdin=subprocess.PIPE, stdout=said, stderr=said, text=True)
         try:
-            process.stdin.write(names)
-            process.stdin.close()
+            hand_over(process.stdin, names)
             report_as_they_come(todo, folder, tell, lambda: process.poll() is not None)
             process.wait()
         except BaseException:

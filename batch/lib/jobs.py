@@ -61,7 +61,7 @@ def run(words, settings, output):
         finally:
             running.discard(process)
         said.seek(0)
-        text = said.read(MOST_SAID).decode(errors="replace").strip()
+        text = " ".join(said.read(MOST_SAID).decode(errors="replace").split())
     if not why and code < 0:
         why = "killed by signal %d (%s)" % (-code, signal_name(-code))
     return Ended(None if why else code, why, text)
