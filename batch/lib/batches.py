@@ -3,10 +3,12 @@
 import fcntl
 import os
 import sys
+import time
 
 from . import alarms, engines, jobs, programs, stamps
 
-ENDED = ("clean", "findings", "refused", "failed")
+# Seconds between two looks at the lock: a process that a killed batch was just starting may hold it for a moment.
+WAITS = (0.1, 0.2, 0.3, 0.4, 0)
 
 
 class Taken(Exception):
@@ -60,10 +62,13 @@ class Lock:
     def __init__(self, folder):
         os.makedirs(folder, exist_ok=True)
         self.file = open(os.path.join(folder, "lock"), "w")
-        try:
-            fcntl.flock(self.file, fcntl.LOCK_EX | fcntl.LOCK_NB)
-        except OSError:
-            raise Taken("another batch is at work in %s" % folder) from None
+        for wait in WAITS:
+            try:
+                fcntl.flock(self.file, fcntl.LOCK_EX | fcntl.LOCK_NB)
+                return
+            except OSError:
+                time.sleep(wait)
+        raise Taken("another batch is at work in %s" % folder)
 
 
 class Teller:

@@ -19,6 +19,7 @@ HERE = os.path.dirname(os.path.dirname(os.path.abspath(__file__)))
 RUN_ONE = os.path.join(HERE, "run-one")
 MOST_NAMES, SHARES = 20, 4  # jobs that GNU parallel hands over at once, at most, and how many such shares each place gets at least
 MOST_TASKS = 1_000  # of an array, where Slurm doesn't say
+TASKS_EACH = 16  # tasks of an array for each that runs at a time: starting one takes Slurm about a second
 POLL = 0.5  # seconds between two looks for results
 ASKS = 4  # looks for results for each question to Slurm
 
@@ -182,7 +183,7 @@ def run_slurm(todo, settings, folder, options, tell):
     """Hands the jobs to Slurm, as an array each of whose tasks takes a share of them."""
     needs("sbatch", "slurm-client")
     forget_array(folder)
-    tasks = min(len(todo), most_tasks())
+    tasks = min(len(todo), most_tasks(), TASKS_EACH * options.jobs)
     done = subprocess.run(array_words(folder, tasks, options.jobs) + options.engine_option, input=array_script(folder, tasks),
                           capture_output=True, text=True)
     if done.returncode != 0:

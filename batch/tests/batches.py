@@ -58,6 +58,12 @@ def read(*path):
         return f.read()
 
 
+def checked_now(called):
+    """How many jobs a batch checked, and how many it took as they were; or what it said in place of that."""
+    match = re.search(r"(\d+) checked now, (\d+) unchanged", called.out)
+    return tuple(map(int, match.groups())) if match else called
+
+
 def check_made(tally, name, made, folder):
     """The results of generated jobs are those that were planted, each once, and nothing else."""
     results = results_of(folder)
@@ -111,7 +117,7 @@ def unchanged(tally, made, plan, results, program):
     """What hasn't changed isn't checked again; what has, is."""
     def again(name, due, *words):
         called = calls.call("clverify-batch", plan, "--program", program, *words)
-        tally.same(name, re.search(r"(\d+) checked now", called.out).group(1), str(due))
+        tally.same(name, checked_now(called), (due, 16 - due))
 
     again("nothing has changed", 0)
     with open(made[3].cl, "a") as f:
@@ -160,7 +166,7 @@ def failures(tally, folder, program):
                  "6 jobs: 1 clean, 0 with findings, 0 refused, 5 failed"):
         tally.true("failures: %s" % line, line in called.out, called.out)
     path_of = os.path.join(folder, "failing", "plan.results")
-    tally.same("failures are tried again", re.search(r"(\d+) checked now", calls.call("clverify-batch", plan, "--program", program).out).group(1), "6")
+    tally.same("failures are tried again", checked_now(calls.call("clverify-batch", plan, "--program", program)), (6, 0))
     tally.same("what a failure left", {name: each["state"] for name, each in results_of(path_of).items()},
                {job.name: "failed" if job is made[5] else "clean" for job in made})
 
@@ -182,7 +188,7 @@ def stopped(tally, folder, program):
     # What the program still wrote for a batch that isn't there any more is no result.
     calls.write(folder, "go", "")
     called = calls.call("clverify-batch", plan, "--program", slow, "--jobs", 4)
-    tally.same("it goes on", re.search(r"(\d+) checked now, (\d+) unchanged", called.out).groups(), ("10", "4"))
+    tally.same("it goes on", checked_now(called), (10, 4))
     tally.same("what was done isn't done again", {name: results_of(results)[name] for name in done}, done)
     check_made(tally, "killed and gone on", made, results)
 
