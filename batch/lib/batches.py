@@ -108,5 +108,7 @@ def run_batch(todo, settings, folder, options, again=False, stream=None):
         print("%d of %d jobs haven't changed since they were checked" % (kept, len(todo)), file=stream, flush=True)
     left = [job for job in todo if job.name not in results]
     results.update(engines.run_all(left, settings, folder, options, Teller(stream, len(todo), kept)))
+    for job in left:
+        jobs.clear(stamps.place_of(folder, job.name), True)
     lock.file.close()
     return [results[job.name] for job in todo], kept

@@ -1,5 +1,6 @@
 """One job: the program is run on its files, and its answer is judged and kept with a stamp."""
 
+import contextlib
 import os
 import re
 import signal
@@ -156,12 +157,14 @@ def is_alive(number):
     return True
 
 
-def clear(place):
-    """Takes away what runs of this machine that were killed left in a job's folder. Those of other machines may still be at work."""
-    for name in os.listdir(place):
+def clear(place, is_over=False):
+    """Takes away what runs that were killed left in a job's folder: those of this machine, and all where the batch is over. A run on a lost
+    machine that still writes finds its file gone then, and leaves the result that is there."""
+    for name in os.listdir(place) if os.path.isdir(place) else []:
         match = PART.fullmatch(name)
-        if match and match.group(1) == socket.gethostname() and not is_alive(int(match.group(2))):
-            os.remove(os.path.join(place, name))
+        if match and (is_over or match.group(1) == socket.gethostname() and not is_alive(int(match.group(2)))):
+            with contextlib.suppress(FileNotFoundError):
+                os.remove(os.path.join(place, name))
 
 
 def run_job(job, settings, folder):
