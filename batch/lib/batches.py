@@ -3,10 +3,12 @@
 import fcntl
 import os
 import sys
+import time
 
 from . import alarms, engines, jobs, programs, stamps
 
-ENDED = ("clean", "findings", "refused", "failed")
+# Seconds between two looks at the lock: a process that a killed batch was just starting may hold it for a moment.
+WAITS = (0.1, 0.2, 0.3, 0.4, 0)
 
 
 class Taken(Exception):
@@ -26,6 +28,15 @@ def add_words(parser):
     parser.add_argument("--tries", type=positive, default=2, metavar="N", help="how often a job that an engine lost is handed over in all (default 2)")
     parser.add_argument("--seconds", type=float, default=0, metavar="S", help="a job that takes longer is ended, and failed (default: no limit)")
     parser.add_argument("--memory", type=positive, default=0, metavar="MIB", help="the most memory of a job (default: no limit)")
+
+
+def called(main):
+    """Calls a script's main function. Where the reader of its output went away, it ends without a word."""
+    try:
+        main()
+    except BrokenPipeError:
+        os.dup2(os.open(os.devnull, os.O_WRONLY), sys.stdout.fileno())
+        sys.exit(1)
 
 
 def positive(text):
@@ -51,10 +62,13 @@ class Lock:
     def __init__(self, folder):
         os.makedirs(folder, exist_ok=True)
         self.file = open(os.path.join(folder, "lock"), "w")
-        try:
-            fcntl.flock(self.file, fcntl.LOCK_EX | fcntl.LOCK_NB)
-        except OSError:
-            raise Taken("another batch is at work in %s" % folder) from None
+        for wait in WAITS:
+            try:
+                fcntl.flock(self.file, fcntl.LOCK_EX | fcntl.LOCK_NB)
+                return
+            except OSError:
+                time.sleep(wait)
+        raise Taken("another batch is at work in %s" % folder)
 
 
 class Teller:
@@ -94,5 +108,7 @@ def run_batch(todo, settings, folder, options, again=False, stream=None):
         print("%d of %d jobs haven't changed since they were checked" % (kept, len(todo)), file=stream, flush=True)
     left = [job for job in todo if job.name not in results]
     results.update(engines.run_all(left, settings, folder, options, Teller(stream, len(todo), kept)))
+    for job in left:
+        jobs.clear(stamps.place_of(folder, job.name), True)
     lock.file.close()
     return [results[job.name] for job in todo], kept

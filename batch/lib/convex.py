@@ -14,8 +14,8 @@ from scipy.spatial import ConvexHull, QhullError
 from . import polyhedra, setups
 
 MOST_NORMAL = 10_000
-MOST_D = 100_000_000_000
-SAME = 1e-9  # how far two directions of unit length may differ and be one
+SAME = 1e-9  # how far the angles of two directions may differ and count as the same
+EXACT = 1e-3  # micrometres within which facets are of one plane, whatever file they come from
 SLACK = 1e-3  # micrometres that are added to what is computed in floating point
 
 
@@ -79,24 +79,39 @@ def least_d(normal, corners):
     return max(math.ceil(sum(n * x for n, x in zip(normal, corner))) for corner in corners)
 
 
-def planes_of(hull, corners):
-    """The planes of a hull, each direction once."""
-    directions = dict.fromkeys(direction_of(normal) for normal in unlike(hull.equations[:, :3]))
+def faces_of(hull, flat):
+    """The planes of a hull, the largest facets first. A facet that lies within so many micrometres of a plane that is there needs none of its
+    own: facets of one face of the body differ by the rounding of their file."""
+    corners = hull.points[hull.simplices]
+    areas = numpy.linalg.norm(numpy.cross(corners[:, 1] - corners[:, 0], corners[:, 2] - corners[:, 0]), axis=1)
+    found = numpy.empty((0, 4))
+    for at in numpy.argsort(-areas, kind="stable"):
+        depths = -(corners[at] @ found[:, :3].T + found[:, 3])
+        if not (depths <= flat).all(axis=0).any():
+            found = numpy.vstack([found, hull.equations[at]])
+            if len(found) > setups.MOST_PLANES:
+                raise PieceFault("it has more than %d planes: save it from the CAD system with coarser facets" % setups.MOST_PLANES)
+    return found[:, :3]
+
+
+def planes_of(hull, corners, flat):
+    """The planes of a body around a hull, each direction once, and by how much it is larger at most."""
+    directions = dict.fromkeys(map(direction_of, faces_of(hull, flat)))
     planes = [(*normal, least_d(normal, corners)) for normal in directions]
-    if len(planes) > setups.MOST_PLANES:
-        raise PieceFault("it has %d planes, and %d is the most: write it from the CAD system with coarser facets" % (len(planes), setups.MOST_PLANES))
-    if any(abs(plane[3]) > MOST_D for plane in planes):
-        raise PieceFault("it lies too far from the zero point")
-    return planes
+    return planes, enlarged_by(planes, hull)
 
 
-def unlike(normals):
-    """The directions, those that qhull has more than once for facets in one plane only once."""
-    found = []
-    for normal in normals:
-        if not any(numpy.abs(normal - other).max() <= SAME for other in found):
-            found.append(normal)
-    return found
+def best_planes(hull, corners, flat):
+    """The planes with like ones merged; or with each of them, where that body is smaller by more than a dent may be deep."""
+    merged = planes_of(hull, corners, flat)
+    if merged[1] > flat:
+        try:
+            exact = planes_of(hull, corners, EXACT)
+        except PieceFault:
+            return merged
+        if exact[1] < merged[1] - flat:
+            return exact
+    return merged
 
 
 # ---------------------------------------------------------------- distances
@@ -158,5 +173,4 @@ def body_of(facets, unit, flat, take_hull):
         if not take_hull:
             raise PieceFault(why + "; cut it into convex pieces, or take its hull by --hull")
         note = why + "; its hull was taken"
-    planes = planes_of(hull, list(exact.values()))
-    return Body(planes, enlarged_by(planes, hull), note)
+    return Body(*best_planes(hull, list(exact.values()), flat), note)

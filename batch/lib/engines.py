@@ -19,6 +19,7 @@ HERE = os.path.dirname(os.path.dirname(os.path.abspath(__file__)))
 RUN_ONE = os.path.join(HERE, "run-one")
 MOST_NAMES, SHARES = 20, 4  # jobs that GNU parallel hands over at once, at most, and how many such shares each place gets at least
 MOST_TASKS = 1_000  # of an array, where Slurm doesn't say
+TASKS_EACH = 16  # tasks of an array for each that runs at a time: starting one takes Slurm about a second
 POLL = 0.5  # seconds between two looks for results
 ASKS = 4  # looks for results for each question to Slurm
 
@@ -82,13 +83,14 @@ def run_local(todo, settings, folder, options, tell):
 
 
 def report_as_they_come(todo, folder, tell, is_over):
-    """Reports the results as they come, until the engine is over; those that came last too."""
+    """Reports the results as they come, until the engine is over; those that came last too. One that failed waits for the end: on a machine
+    that is going down the program may be killed a moment before what waits for it, and the engine may run that job once more."""
     missing = [job.name for job in todo]
     while True:
         over = is_over()
         for name in list(missing):
             result = stamps.read_result(folder, name)
-            if result:
+            if result and (over or result["state"] != "failed"):
                 missing.remove(name)
                 tell(result)
         if over or not missing:
@@ -99,6 +101,15 @@ def report_as_they_come(todo, folder, tell, is_over):
 def needs(command, package):
     if not shutil.which(command):
         raise EngineFault("%s isn't on this machine (Debian's package is %s)" % (command, package))
+
+
+def hand_over(pipe, text):
+    """Writes a text into the input of an engine, which may have ended already."""
+    try:
+        pipe.write(text)
+        pipe.close()
+    except BrokenPipeError:
+        pass
 
 
 def run_parallel(todo, settings, folder, options, tell):
@@ -114,8 +125,7 @@ def run_parallel(todo, settings, folder, options, tell):
     with open(os.path.join(folder, "queue", "parallel.txt"), "ab") as said:
         process = subprocess.Popen(words, stdin=subprocess.PIPE, stdout=said, stderr=said, text=True)
         try:
-            process.stdin.write(names)
-            process.stdin.close()
+            hand_over(process.stdin, names)
             report_as_they_come(todo, folder, tell, lambda: process.poll() is not None)
             process.wait()
         except BaseException:
@@ -173,7 +183,7 @@ def run_slurm(todo, settings, folder, options, tell):
     """Hands the jobs to Slurm, as an array each of whose tasks takes a share of them."""
     needs("sbatch", "slurm-client")
     forget_array(folder)
-    tasks = min(len(todo), most_tasks())
+    tasks = min(len(todo), most_tasks(), TASKS_EACH * options.jobs)
     done = subprocess.run(array_words(folder, tasks, options.jobs) + options.engine_option, input=array_script(folder, tasks),
                           capture_output=True, text=True)
     if done.returncode != 0:

@@ -1,5 +1,6 @@
 """One job: the program is run on its files, and its answer is judged and kept with a stamp."""
 
+import contextlib
 import os
 import re
 import signal
@@ -15,7 +16,7 @@ from . import alarms, records, reports, stamps
 # What a code of the program means that is no answer about the files.
 FAILED = {2: "the program doesn't know these words: is it older than the scripts?", 4: "a file couldn't be read",
           5: "the report couldn't be written: is the disk full?", 6: "no memory was found",
-          125: "the program wasn't built, or gave no answer", 126: "the program can't be run", 127: "the program isn't there"}
+          125: "the program wasn't built, or gave no answer", 126: "the program can't be run", 127: "the program isn't there, or can't be loaded"}
 CLEAN, FINDINGS, REFUSED, UNREAD = 0, 1, 3, 4
 MOST_SAID = 300  # characters of what a program says on standard error
 PART = re.compile(r"(?:report|listing|result)\.(.*)\.([0-9]+)\.[0-9]+\.part")
@@ -61,7 +62,7 @@ def run(words, settings, output):
         finally:
             running.discard(process)
         said.seek(0)
-        text = said.read(MOST_SAID).decode(errors="replace").strip()
+        text = " ".join(said.read(MOST_SAID).decode(errors="replace").split())
     if not why and code < 0:
         why = "killed by signal %d (%s)" % (-code, signal_name(-code))
     return Ended(None if why else code, why, text)
@@ -156,12 +157,14 @@ def is_alive(number):
     return True
 
 
-def clear(place):
-    """Takes away what runs of this machine that were killed left in a job's folder. Those of other machines may still be at work."""
-    for name in os.listdir(place):
+def clear(place, is_over=False):
+    """Takes away what runs that were killed left in a job's folder: those of this machine, and all where the batch is over. A run on a lost
+    machine that still writes finds its file gone then, and leaves the result that is there."""
+    for name in os.listdir(place) if os.path.isdir(place) else []:
         match = PART.fullmatch(name)
-        if match and match.group(1) == socket.gethostname() and not is_alive(int(match.group(2))):
-            os.remove(os.path.join(place, name))
+        if match and (is_over or match.group(1) == socket.gethostname() and not is_alive(int(match.group(2)))):
+            with contextlib.suppress(FileNotFoundError):
+                os.remove(os.path.join(place, name))
 
 
 def run_job(job, settings, folder):
@@ -182,7 +185,7 @@ def run_job(job, settings, folder):
             return None
         text = read(part).decode("ascii", "replace")
         result["report"] = stamps.sum_of(part)
-        if stamps.sum_of(settings.program) != settings.program_sum:
+        if stamps.sum_of_program(settings.program) != settings.program_sum:
             failed(result, "the program on this machine isn't the one of the batch")
         else:
             judge(result, job, settings, ended, text, scratch)

@@ -14,10 +14,10 @@ class NoProgram(Exception):
     """No program can be run, and why."""
 
 
-def says_usage(program):
+def says_usage(program, said=subprocess.DEVNULL):
     """Whether a program is a clverify: called without words it writes the usage line."""
     try:
-        done = subprocess.run([program], stdin=subprocess.DEVNULL, capture_output=True)
+        done = subprocess.run([program], stdin=subprocess.DEVNULL, stdout=subprocess.PIPE, stderr=said)
     except OSError as why:
         raise NoProgram("%s: %s" % (program, why)) from None
     return done.returncode == USAGE_CODE and done.stdout.startswith(USAGE.encode())
@@ -32,7 +32,8 @@ def find(name):
         path = os.path.abspath(path)
     elif os.path.exists(os.path.join(TOP, "clverify")):
         wrapper = os.path.join(TOP, "clverify")
-        if not says_usage(wrapper):
+        # It may have to prove and build, which takes long: what it says of that is shown.
+        if not says_usage(wrapper, None):
             raise NoProgram("%s has no program: see what it says, or name one by --program" % wrapper)
         path = BUILT
     else:

@@ -1,5 +1,6 @@
 """Stamps: what was checked by what. A result carries the sums of its files, of the program and of the list of alarms."""
 
+import functools
 import hashlib
 import json
 import os
@@ -16,8 +17,18 @@ def sum_of(path):
         return None
 
 
-def sum_of_text(text):
-    return hashlib.sha256(text.encode()).hexdigest()
+@functools.lru_cache(16)
+def known_sum(path, *_):
+    return sum_of(path)
+
+
+def sum_of_program(path):
+    """The sum of a file that is asked for again and again: it is read anew only where its time, its size or its place on the disk changed."""
+    try:
+        at = os.stat(path)
+    except OSError:
+        return None
+    return known_sum(path, at.st_mtime_ns, at.st_ctime_ns, at.st_size, at.st_ino)
 
 
 def sums_of(job, settings):

@@ -7,6 +7,8 @@ import re
 import shutil
 import xml.etree.ElementTree as xml
 
+from lib import engines, jobs, plans, stamps
+
 from . import calls, generated_jobs
 
 EXAMPLES = os.path.join(calls.TOP, "examples")
@@ -54,6 +56,12 @@ def results_of(folder):
 def read(*path):
     with open(os.path.join(*path), encoding="utf-8") as f:
         return f.read()
+
+
+def checked_now(called):
+    """How many jobs a batch checked, and how many it took as they were; or what it said in place of that."""
+    match = re.search(r"(\d+) checked now, (\d+) unchanged", called.out)
+    return tuple(map(int, match.groups())) if match else called
 
 
 def check_made(tally, name, made, folder):
@@ -109,7 +117,7 @@ def unchanged(tally, made, plan, results, program):
     """What hasn't changed isn't checked again; what has, is."""
     def again(name, due, *words):
         called = calls.call("clverify-batch", plan, "--program", program, *words)
-        tally.same(name, re.search(r"(\d+) checked now", called.out).group(1), str(due))
+        tally.same(name, checked_now(called), (due, 16 - due))
 
     again("nothing has changed", 0)
     with open(made[3].cl, "a") as f:
@@ -158,7 +166,7 @@ def failures(tally, folder, program):
                  "6 jobs: 1 clean, 0 with findings, 0 refused, 5 failed"):
         tally.true("failures: %s" % line, line in called.out, called.out)
     path_of = os.path.join(folder, "failing", "plan.results")
-    tally.same("failures are tried again", re.search(r"(\d+) checked now", calls.call("clverify-batch", plan, "--program", program).out).group(1), "6")
+    tally.same("failures are tried again", checked_now(calls.call("clverify-batch", plan, "--program", program)), (6, 0))
     tally.same("what a failure left", {name: each["state"] for name, each in results_of(path_of).items()},
                {job.name: "failed" if job is made[5] else "clean" for job in made})
 
@@ -180,9 +188,26 @@ def stopped(tally, folder, program):
     # What the program still wrote for a batch that isn't there any more is no result.
     calls.write(folder, "go", "")
     called = calls.call("clverify-batch", plan, "--program", slow, "--jobs", 4)
-    tally.same("it goes on", re.search(r"(\d+) checked now, (\d+) unchanged", called.out).groups(), ("10", "4"))
+    tally.same("it goes on", checked_now(called), (10, 4))
     tally.same("what was done isn't done again", {name: results_of(results)[name] for name in done}, done)
     check_made(tally, "killed and gone on", made, results)
+
+
+def shares(tally, folder, program):
+    """What an engine starts: it takes names or a share, leaves what is done, and knows another program from the batch's."""
+    made, plan = generated_jobs.make(os.path.join(folder, "shared"), 5, 9)
+    results, own = os.path.join(folder, "shared", "results"), calls.stand_in(folder, "own.sh", program, "")
+    settings = jobs.Settings(own, stamps.sum_of(own), [], "")
+    engines.write_queue(results, plans.read_plan(plan), settings)
+    queue = engines.queue_path(results)
+    tally.same("run-one by names", (calls.call("run-one", queue, made[1].name).code, sorted(results_of(results))), (0, [made[1].name]))
+    before = results_of(results)[made[1].name]
+    tally.same("run-one by a share", calls.call("run-one", queue, "--share", 1, 2).code, 0)
+    tally.same("its share", sorted(results_of(results)), [made[1].name, made[3].name])
+    tally.same("what is done is left", results_of(results)[made[1].name], before)
+    calls.stand_in(folder, "own.sh", program, "# another program")
+    calls.call("run-one", queue, made[0].name)
+    tally.same("another program", results_of(results)[made[0].name]["why"], "the program on this machine isn't the one of the batch")
 
 
 def refusals(tally, folder, program):
@@ -222,7 +247,7 @@ def faults(tally, folder, program):
 
 
 def run(tally, folder, program):
-    for each in (states, notes, failures, stopped, refusals, faults):
+    for each in (states, notes, failures, stopped, shares, refusals, faults):
         own = os.path.join(folder, each.__name__)
         os.makedirs(own)
         each(tally, own, program)

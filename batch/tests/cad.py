@@ -31,7 +31,8 @@ def hull_solid(name, points):
 
 
 def made_points(rng, number):
-    """The points of a made piece, in millimetres: a ball's, a box that leans, a thin plate, a wedge, a needle."""
+    """The points of a generated piece, in millimetres, and how many decimals they have: a ball's, a box that leans, a thin plate, a wedge, a
+    needle."""
     kind, middle = number % 5, rng.uniform(-300, 300, 3)
     turn = numpy.linalg.qr(rng.normal(size=(3, 3)))[0]
     box = numpy.array([[x, y, z] for x in (0, 1) for y in (0, 1) for z in (0, 1)], dtype=float)
@@ -41,7 +42,8 @@ def made_points(rng, number):
     else:
         sizes = {1: (80, 50, 30), 2: (200, 150, 0.8), 3: (40, 60, 20), 4: (300, 1, 1)}[kind]
         points = (box[:6] if kind == 3 else box) * sizes @ turn
-    return numpy.round(points + middle, rng.choice([2, 4, 6]))
+    decimals = int(rng.choice([2, 4, 6]))
+    return numpy.round(points + middle, decimals), decimals
 
 
 def distance(point, corners):
@@ -76,14 +78,18 @@ def body_holds_piece(tally, name, text, facets, rng):
 def made(tally, folder):
     rng = numpy.random.default_rng(7)
     for number in range(PIECES):
-        solid = hull_solid("piece %d" % number, made_points(rng, number))
+        points, decimals = made_points(rng, number)
+        solid = hull_solid("piece %d" % number, points)
         facets = [tuple(tuple(solid[1][at]) for at in face) for face in solid[2]]
         form = ("text.stl", "binary.stl", "some.off")[number % 3]
         data = {"text.stl": meshes.stl_text([solid], lambda face: (0, 0, 0)), "binary.stl": bodies.binary_stl(facets), "some.off": meshes.off_text([solid])}[form]
         path = calls.write(folder, form, data)
         called = calls.call("setup-from-stl", path)
-        name = "made piece %d, %s" % (number, form)
+        name = "generated piece %d, %s" % (number, form)
         if tally.true(name, called.code == 0, called.said):
+            # With two decimals the corners of a face don't lie in one plane.
+            if number % 5 and decimals > 2:
+                tally.same(name + ": merged planes", TOLD.search(called.out).group(2), "5" if number % 5 == 3 else "6")
             body_holds_piece(tally, name, called.out, meshes.pieces_of(path, form)[0].facets, rng)
 
 
@@ -103,7 +109,7 @@ def refusals(tally, folder):
     many = [facet for n in range(65) for facet in box_facets((3 * n, 0, 0), (3 * n + 2, 2, 2))]
     flat = [((0, 0, 0), (1, 0, 0), (0, 1, 0)), ((0, 0, 0), (0, 1, 0), (1, 0, 0))]
     for name, data, words in (("dent.off", dent, "it isn't convex: near"), ("open.stl", bodies.binary_stl(box_facets((0, 0, 0), (5, 5, 5), {3})), "it isn't closed"),
-                              ("ball.stl", meshes.stl_text([ball], lambda face: (0, 0, 0)), "it has 116 planes, and 64 is the most"),
+                              ("ball.stl", meshes.stl_text([ball], lambda face: (0, 0, 0)), "it has more than 64 planes"),
                               ("many.stl", bodies.binary_stl(many), "65 pieces, and a setup has at most 64 bodies of part"),
                               ("flat.stl", bodies.binary_stl(flat), "it has no volume"),
                               ("far.stl", bodies.binary_stl(box_facets((0, 0, 0), (2_000, 5, 5))), "beyond a metre"),

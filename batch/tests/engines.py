@@ -30,10 +30,10 @@ def told_once(tally, name, out, count):
 
 
 class Losing:
-    """Loses a node once so many results are there, and brings it back after a while."""
+    """Loses a node once so many results are there. It comes back after some seconds, or where `back` is called."""
 
     def __init__(self, node, results, at, seconds):
-        self.node, self.results, self.at, self.seconds, self.seen = node, results, at, seconds, None
+        self.node, self.results, self.at, self.seconds, self.seen, self.is_back = node, results, at, seconds, None, False
         self.thread = threading.Thread(target=self.work, daemon=True)
         self.thread.start()
 
@@ -45,8 +45,14 @@ class Losing:
                 self.node.lose()
                 self.seen = done
             time.sleep(0.05)
-        time.sleep(self.seconds)
-        if self.seen is not None:
+        if self.seen is not None and self.seconds:
+            time.sleep(self.seconds)
+            self.node.start()
+            self.is_back = True
+
+    def back(self):
+        self.thread.join()
+        if self.seen is not None and not self.is_back:
             self.node.start()
 
 
@@ -70,25 +76,23 @@ def by_engine(tally, name, made, plan, program, local, words):
     return results
 
 
-def with_a_lost_node(tally, name, made, plan, program, node, words, seconds, needs_again):
-    """A node is lost in the middle, with the jobs that run there, and comes back later."""
+def with_a_lost_node(tally, name, made, plan, program, node, words, seconds, is_alone):
+    """A node is lost in the middle, with the jobs that run there. It comes back after some seconds, or, with 0, after the batch has ended;
+    if it was the only one, its jobs are then lost, by name, and the same words go on."""
     results = os.path.join(os.path.dirname(plan), name + ", lost.results")
     slow = slowed(os.path.dirname(plan), program)
     losing = Losing(node, results, len(made) // 3, seconds)
     called = calls.call("clverify-batch", plan, "--program", slow, "--results", results, *words)
-    losing.thread.join()
+    losing.back()
     tally.true("%s, a node lost after %s of %d jobs" % (name, losing.seen, len(made)), losing.seen and losing.seen < len(made))
-    if needs_again:
+    told_once(tally, name + ", a node lost", called.out, len(made))
+    if is_alone:
         lost = int(re.search(r"refused, (\d+) failed", called.out).group(1))
-        kept = len(made) - lost
-        said = len(re.findall("not checked: lost: no result came back in 1 tries", called.out))
+        said = len(re.findall("not checked: lost: no result came back in 2 tries", called.out))
         tally.true("%s, the node stayed away: what was lost is said by name" % name, lost == said > 0, (lost, said))
         called = calls.call("clverify-batch", plan, "--program", slow, "--results", results, *words)
-        tally.true("%s, the same words go on" % name, "%d checked now, %d unchanged" % (lost, kept) in called.out, called.out[:200])
-    else:
-        told_once(tally, name + ", a node lost", called.out, len(made))
+        tally.true("%s, the same words go on" % name, "%d checked now, %d unchanged" % (lost, len(made) - lost) in called.out, called.out[:200])
     batches.check_made(tally, name + ", a node lost", made, results)
-    return results
 
 
 def killed_and_gone_on(tally, name, made, plan, program, words):
@@ -118,14 +122,23 @@ def run(tally, folder, program, count, at_a_time):
     slurm(tally, folder, program, made, plan, few, few_plan, local, jobs)
 
 
+def split(tally, name, folder, program, words):
+    """The windows of a grid by an engine give the report of the whole grid."""
+    files = [os.path.join(calls.TOP, "examples", "verify_gouge", file) for file in ("part.cls", "setup.toml")]
+    due = calls.program(program, "verify", *files)
+    called = calls.call("clverify-split", *files, 3, 2, 2, "--program", program, "--folder", os.path.join(folder, name + " windows"), *words)
+    tally.same(name + ": windows of a grid", (called.code, called.out), (due.code, due.out))
+
+
 def parallel(tally, folder, program, made, plan, few, few_plan, local, jobs):
     os.makedirs(os.path.join(folder, "ssh"))
     node = nodes.SshNode(os.path.join(folder, "ssh"))
     words = (*jobs, "--engine", "parallel", "--sshlogin", node.login)
     try:
         by_engine(tally, "parallel", made, plan, program, local, words)
-        with_a_lost_node(tally, "parallel", few, few_plan, program, node, (*words, "--tries", 1), 2, True)
-        with_a_lost_node(tally, "parallel with a second host", few, few_plan, program, node, (*words, "--sshlogin", ":"), 2, False)
+        split(tally, "parallel", folder, program, words)
+        with_a_lost_node(tally, "parallel", few, few_plan, program, node, words, 0, True)
+        with_a_lost_node(tally, "parallel with a second host", few, few_plan, program, node, (*words, "--sshlogin", ":"), 0, False)
         killed_and_gone_on(tally, "parallel", few, few_plan, program, words)
     finally:
         node.stop()
@@ -138,6 +151,7 @@ def slurm(tally, folder, program, made, plan, few, few_plan, local, jobs):
     words = (*jobs, "--engine", "slurm")
     try:
         by_engine(tally, "slurm", made, plan, program, local, words)
+        split(tally, "slurm", folder, program, words)
         with_a_lost_node(tally, "slurm", few, few_plan, program, node, words, 15, False)
         killed_and_gone_on(tally, "slurm", few, few_plan, program, words)
     finally:

@@ -58,11 +58,13 @@ def below(top):
 
 
 def end(numbers):
-    for number in numbers:
-        try:
-            os.kill(number, signal.SIGKILL)
-        except ProcessLookupError:
-            pass
+    """Ends processes at once: all are held first, so that none sees another end."""
+    for kind in (signal.SIGSTOP, signal.SIGKILL):
+        for number in numbers:
+            try:
+                os.kill(number, kind)
+            except ProcessLookupError:
+                pass
 
 
 class Daemon:

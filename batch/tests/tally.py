@@ -15,7 +15,7 @@ class Tally:
             self.passed += 1
         else:
             self.failed += 1
-            print("FAILED: %s%s" % (name, ": %s" % said if said else ""), flush=True)
+            print("FAILED: %s%s" % (name, ": " + str(said) if said else ""), flush=True)
         return is_so
 
     def same(self, name, got, due):
