@@ -1,8 +1,8 @@
 """Tests of what is written for others, by their own readers: SARIF by the object model of python3-sarif-python-om, JUnit by
 python3-junitparser, PLY and STL by python3-vtk9.
 
-The JSON schema of SARIF 2.1.0 isn't in Debian, and no schema of JUnit is. The object model was generated from the schema: its classes have
-each member's name, and those without a default are required. So every object is held against its class here."""
+No JSON schema of SARIF 2.1.0 and no schema of JUnit was found among Debian's packages. The object model was generated from the schema:
+its classes have each member's name, and those without a default are required. So every object is held against its class here."""
 
 import importlib
 import json
