@@ -38,9 +38,9 @@ ELSEWHERE = SETUP.replace("[-19_970, -14_970, -9_970]", "[100_000, 100_000, 100_
 # What is planted, and the state and the words that are due in the summary.
 FAULTS = {
     "clean": ("clean", ""),
-    "gouge": ("findings", "FINISH, D6, tool 2: 2 moves into the part"),
-    "rapid": ("findings", "ROUGH, D8, tool 1: 1 move through stock in rapid motion"),
-    "clamp": ("findings", "ROUGH, D8, tool 1: 2 moves too near to a fixture"),
+    "gouge": ("findings", "FINISH, MILL_6, tool 2: 2 moves into the part"),
+    "rapid": ("findings", "ROUGH, MILL_8, tool 1: 1 move through stock in rapid motion"),
+    "clamp": ("findings", "ROUGH, MILL_8, tool 1: 2 moves too near to a fixture"),
     "arc": ("refused", "Unsupported CIRCLE"),
     "cutter": ("findings", "alarm: cutter none"),
     "empty": ("findings", "alarm: moves 0"),
@@ -60,13 +60,13 @@ def path_of(number, fault):
     rng = random.Random("job %d" % number)
     x, y = 8 + rng.randrange(0, 40) / 10, 6 + rng.randrange(0, 20) / 10
     rapid = "RAPID\n" if fault == "rapid" else ""
-    lines = ["PARTNO JOB %d" % number, "UNITS/MM", "TOOL PATH/ROUGH,TOOL,D8", "LOADTL/1"]
+    lines = ["PARTNO JOB %d" % number, "UNITS/MM", "TOOL PATH/ROUGH,TOOL,MILL_8", "LOADTL/1"]
     lines += [] if fault == "cutter" else ["CUTTER/8,0,4,0,0,0,30"]
     lines += ["FROM/0,0,60", "RAPID", "GOTO/-8,-6,8", "FEDRAT/MMPM,300", "GOTO/-8,-6,-2", "GOTO/%.3f,-6,-2" % x]
     lines += ["GOTO/-17,-6,-2"] * (fault == "clamp")
     lines += ["CIRCLE/0,0,0,4"] * (fault == "arc")
     lines += [(rapid + "GOTO/%.3f,%.3f,-2" % (x, y)), "GOTO/-8,%.3f,-2" % y, "GOTO/-8,-6,-2", "GOTO/-8,-6,1", "RAPID", "GOTO/-8,-6,60", "END-OF-PATH"]
-    lines += ["TOOL PATH/FINISH,TOOL,D6", "LOADTL/2"] + ([] if fault == "cutter" else ["CUTTER/6,0,3,0,0,0,30"])
+    lines += ["TOOL PATH/FINISH,TOOL,MILL_6", "LOADTL/2"] + ([] if fault == "cutter" else ["CUTTER/6,0,3,0,0,0,30"])
     lines += ["RAPID", "GOTO/-8,-6,8", "GOTO/-8,-6,-4.98", "GOTO/%.3f,-6,-4.98" % x]
     lines += ["GOTO/%.3f,-4,-6.5" % x] * (fault == "gouge")
     lines += ["GOTO/%.3f,-6,1" % x] if fault == "gouge" else ["GOTO/%.3f,%.3f,-4.98" % (x, y), "GOTO/%.3f,%.3f,1" % (x, y)]
