@@ -75,4 +75,5 @@ FindingsAreSums =
 abbrev pub SafeInEach : Type 0
 SafeInEach =
     (job : Job) (axis : ℕ) (counts : List ℕ) (earlier : List JobMove) (move : JobMove) → IsCut job.plan.grid axis counts
-    → IsTrue (is_safe (found_in earlier move job)) ↔ All (λ part. IsTrue (is_safe (found_in earlier move part))) (window_jobs job axis counts)
+    → IsTrue (is_safe (found_in earlier move job))
+    ↔ All (λ part. IsTrue (is_safe (found_in earlier move part))) (window_jobs job axis counts)
