@@ -2,13 +2,15 @@
 use axis_cells::Sweep;
 use cutter_slabs::Cutter;
 use edit_plan::{Edit, Edits};
-use job_facts::{Counts, Totals};
+use job_counts::{Counts, Totals};
 use ray_grid::{Grid, Ray};
-use ray_shapes::{Bodies, Body, Plane, RayShape, Solid, body_spans};
+use ray_shapes::{Bodies, Body, Plane, RayShape, Solid, solid_spans};
 use rstd::{Global, Vec as List};
 use std::time::Instant;
 use strip_journal::Strip;
 use strip_plan::{Plan, PlanMove};
+use vf_io::NoMemory;
+use vf_spans::Spans;
 
 /// A job as its lines tell it. The bodies are moved by the tolerance and the clearance once both are known.
 struct Job {
@@ -113,6 +115,7 @@ fn read(text: &str) -> Job {
                     r: n[14],
                     h: n[15],
                     flank: 0,
+                    base: 0,
                 };
                 job.moves.push(PlanMove::new(sweep, cutter, n[0] == 1, 0)).unwrap();
             }
@@ -125,7 +128,7 @@ fn read(text: &str) -> Job {
 fn raise(strip: &mut Strip, plan: &Plan, version: u32) {
     while strip.done() < version {
         let left = version - strip.done();
-        if strip.pass_over(plan, left) < left {
+        if strip.skip_untouched(plan, left) < left {
             strip.advance(plan).unwrap();
         }
     }
@@ -152,6 +155,11 @@ fn sum_of(counts: &[Counts]) -> u64 {
     sum
 }
 
+/// What gives a solid's points on the rays of the grid.
+fn shape<'a>(grid: &'a Grid, solid: &'a Solid) -> RayShape<impl Fn(&Ray) -> Result<Spans, NoMemory> + 'a> {
+    RayShape::new(*grid, solid, move |ray: &Ray| solid_spans(Global, solid, grid, ray))
+}
+
 fn main() {
     let words: Vec<String> = std::env::args().collect();
     let to_the_end = words.get(2).is_some_and(|word| word == "s");
@@ -164,11 +172,9 @@ fn main() {
     }
     let plan = Plan::new(Global, grid, job.slabs, job.depth, job.moves, edits).unwrap();
     let planned = Instant::now();
-    let shape = |bodies: List<Body>| {
-        let none = Solid::Bodies(Bodies::new(List::new(Global)));
-        RayShape::new(grid, none, move |ray: &Ray| body_spans(Global, bodies.as_slice(), &grid, ray))
-    };
-    let (stock, part, fixture) = (shape(job.stock), shape(job.part), shape(job.fixture));
+    let solid = |bodies: List<Body>| Solid::Bodies(Bodies::new(bodies));
+    let (stock, part, fixture) = (solid(job.stock), solid(job.part), solid(job.fixture));
+    let (stock, part, fixture) = (shape(&grid, &stock), shape(&grid, &part), shape(&grid, &fixture));
     let fresh = |number| Strip::fresh(Global, &plan, number, &stock, &part, &fixture).unwrap();
     let mut strips: Vec<Strip> = (0..grid.strips()).map(fresh).collect();
     let filled = Instant::now();

@@ -3,7 +3,7 @@ use Rattle.std.proofs.Common.{negsuc, ℕ, ◌+◌, ◌*◌, ◌≤◌, ◌<◌,
 use Rattle.std.proofs.lemmas.Int.{ints}
 use Rattle.bern_form.specs.Forms.{lifted, product22, scaled2}
 use Rattle.space.specs.Ranges.{IsPoint}
-use Rattle.space.specs.Motion.{IsSweep, Motion}
+use Rattle.space.specs.Sweeps.{IsSweep, SweepOf}
 use Rattle.bern_form.specs.Slab.{IsSlab, SlabSize}
 use Rattle.bern_form.specs.Cells.{d_list, start_axis, start_offset, end_axis, end_offset, n_list, scaled_square, u_list, w_list}
 use Rattle.bern_form.specs.Sizes.{axis_limit, offset_limit, scale_limit}
@@ -17,7 +17,7 @@ length_small : (z : ℤ) (n : ℕ) → pos 0 ≤ℤ z → z ≤ℤ pos n → n �
 length_small (pos k) n h l b = omega (arith, ints, l)
 length_small (negsuc k) n h l b = absurd (omega (arith, ints, h))
 
-pub coefficients_small : (s : SlabSize) (m : Motion) (p : List ℤ) (k S : ℕ) → IsSlab s → IsSweep m → IsPoint p → k < S → S ≤ scale_limit → CoefficientsAreSmall s m p k S
+pub coefficients_small : (s : SlabSize) (m : SweepOf) (p : List ℤ) (k S : ℕ) → IsSlab s → IsSweep m → IsPoint p → k < S → S ≤ scale_limit → CoefficientsAreSmall s m p k S
 coefficients_small s m p k S slab sweep point within few =
     let P = start_offset m p k S in let Q = end_offset m p k S in let A = start_axis m k S in let C = end_axis m k S in
     let hP = offset_within m p k S sweep point (omega arith) few in let hQ = offset_within m p (k + 1) S sweep point (omega arith) few in

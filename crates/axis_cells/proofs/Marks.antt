@@ -4,13 +4,13 @@ use Rattle.std.specs.List.{All, Contains, list_all}
 use Rattle.std.proofs.lemmas.Int.{ints}
 use Rattle.std.proofs.lemmas.List.Recursion.{and_at}
 use Rattle.std.proofs.lemmas.Bool.Decides.{not_from_Decides}
-use Rattle.space.specs.Motion.{IsSweep, IsTime, Motion}
 use Rattle.space.specs.Reach.{is_in_reach}
+use Rattle.space.specs.Sweeps.{IsSweep, IsTime, SweepOf}
 use Rattle.space.proofs.Naturals.{natural}
 use Rattle.space.proofs.ReachLemmas.{InReach, decides_in_reach}
 use Rattle.space.proofs.Tests.{decides_le}
 use Rattle.bern_form.specs.Slab.{IsSlab, SlabSize}
-use Rattle.bern_form.specs.Marks.{held_at_sample, is_left_on_cell, is_possible}
+use Rattle.bern_form.specs.Marks.{held_at_sample, is_possible_with, is_unexcluded_on_cell}
 use Rattle.bern_form.proofs.Relations.{HeldAtSample, HoldsAt}
 use Rattle.bern_form.proofs.Decided.{decides_held, says_no}
 use Rattle.bern_form.proofs.Reach.{held_within, reach_more}
@@ -19,7 +19,7 @@ use Rattle.axis_cells.specs.declared.mark.Mark.TheVariants.{Clear, Possible, Rem
 use Rattle.axis_cells.specs.Exclusion.{fits_in_reach}
 use Rattle.axis_cells.specs.Marked.{mark_from}
 
-held_in_reach : (reach : ℤ) (s : SlabSize) (m : Motion) (p : List ℤ) (a b : ℕ) → IsSlab s → fits_in_reach reach s ≡ true → IsSweep m → IsTime a b → HoldsAt s m p a b → InReach reach m.from m.to p
+held_in_reach : (reach : ℤ) (s : SlabSize) (m : SweepOf) (p : List ℤ) (a b : ℕ) → IsSlab s → fits_in_reach reach s ≡ true → IsSweep m → IsTime a b → HoldsAt s m p a b → InReach reach m.from m.to p
 held_in_reach reach s m p a b valid fit sweep time held =
     let fits : (s.hi +ℤ s.dia) ≤ℤ reach = (decides_le (s.hi +ℤ s.dia) reach).0 fit in
     let hi = natural s.hi (omega (arith, ints, valid.above_tip, valid.ordered)) in
@@ -31,7 +31,7 @@ held_in_reach reach s m p a b valid fit sweep time held =
 fits_among : (reach : ℤ) (slabs : List SlabSize) (s : SlabSize) → list_all (fits_in_reach reach) slabs ≡ true → Contains slabs s → fits_in_reach reach s ≡ true
 fits_among reach slabs s all among = subst (λ s. fits_in_reach reach s ≡ true) among.2 (and_at (list_all (fits_in_reach reach)) (fits_in_reach reach) refl (λ x xs. refl) slabs among.0 s among.1 all)
 
-pub none_out_of_reach : (reach : ℤ) (slabs : List SlabSize) (m : Motion) (p : List ℤ) (S : ℕ) → list_all (fits_in_reach reach) slabs ≡ true → All IsSlab slabs → IsSweep m → 0 < S
+pub none_out_of_reach : (reach : ℤ) (slabs : List SlabSize) (m : SweepOf) (p : List ℤ) (S : ℕ) → list_all (fits_in_reach reach) slabs ≡ true → All IsSlab slabs → IsSweep m → 0 < S
     → is_in_reach reach m.from m.to p ≡ false → held_at_sample slabs m p S ≡ false
 none_out_of_reach reach slabs m p S fits valid sweep some out =
     says_no (HeldAtSample slabs m p S) (held_at_sample slabs m p S) (decides_held slabs m p S) (λ held.
@@ -47,22 +47,22 @@ cond_false : (b : Bool) (x y : Mark) → b ≡ false → (if b then x else y) �
 cond_false b x y h = cc
 
 -- the mark where no inner slab holds the point at a sample
-pub mark_possible : (inner outer : List SlabSize) (reach : ℤ) (m : Motion) (p : List ℤ) (S T : ℕ) → S ≡ T → held_at_sample inner m p S ≡ false
-    → is_in_reach reach m.from m.to p ≡ true → is_left_on_cell outer m p S ≡ true → Possible ≡ mark_from inner outer reach m p T
+pub mark_possible : (inner outer : List SlabSize) (reach : ℤ) (m : SweepOf) (p : List ℤ) (S T : ℕ) → S ≡ T → held_at_sample inner m p S ≡ false
+    → is_in_reach reach m.from m.to p ≡ true → is_unexcluded_on_cell outer m p S ≡ true → Possible ≡ mark_from inner outer reach m p T
 mark_possible inner outer reach m p S T same none near left =
-    subst (λ n. Possible ≡ mark_from inner outer reach m p n) same (sym (cond_false (held_at_sample inner m p S) Removed (if is_possible outer reach m p S then Possible else Clear) none
-    ∙ cond_true (is_possible outer reach m p S) Possible Clear (ap (λ b. b && is_left_on_cell outer m p S) near ∙ left)))
+    subst (λ n. Possible ≡ mark_from inner outer reach m p n) same (sym (cond_false (held_at_sample inner m p S) Removed (if is_possible_with outer reach m p S then Possible else Clear) none
+    ∙ cond_true (is_possible_with outer reach m p S) Possible Clear (ap (λ b. b && is_unexcluded_on_cell outer m p S) near ∙ left)))
 
-pub mark_clear : (inner outer : List SlabSize) (reach : ℤ) (m : Motion) (p : List ℤ) (S T : ℕ) → S ≡ T → held_at_sample inner m p S ≡ false
-    → is_possible outer reach m p S ≡ false → Clear ≡ mark_from inner outer reach m p T
+pub mark_clear : (inner outer : List SlabSize) (reach : ℤ) (m : SweepOf) (p : List ℤ) (S T : ℕ) → S ≡ T → held_at_sample inner m p S ≡ false
+    → is_possible_with outer reach m p S ≡ false → Clear ≡ mark_from inner outer reach m p T
 mark_clear inner outer reach m p S T same none out =
-    subst (λ n. Clear ≡ mark_from inner outer reach m p n) same (sym (cond_false (held_at_sample inner m p S) Removed (if is_possible outer reach m p S then Possible else Clear) none
-    ∙ cond_false (is_possible outer reach m p S) Possible Clear out))
+    subst (λ n. Clear ≡ mark_from inner outer reach m p n) same (sym (cond_false (held_at_sample inner m p S) Removed (if is_possible_with outer reach m p S then Possible else Clear) none
+    ∙ cond_false (is_possible_with outer reach m p S) Possible Clear out))
 
 -- out of reach, or left on no cell, it is not possible
-pub far_not_possible : (outer : List SlabSize) (reach : ℤ) (m : Motion) (p : List ℤ) (S : ℕ) → is_in_reach reach m.from m.to p ≡ false → is_possible outer reach m p S ≡ false
-far_not_possible outer reach m p S far = ap (λ b. b && is_left_on_cell outer m p S) far
+pub far_not_possible : (outer : List SlabSize) (reach : ℤ) (m : SweepOf) (p : List ℤ) (S : ℕ) → is_in_reach reach m.from m.to p ≡ false → is_possible_with outer reach m p S ≡ false
+far_not_possible outer reach m p S far = ap (λ b. b && is_unexcluded_on_cell outer m p S) far
 
-pub out_not_possible : (outer : List SlabSize) (reach : ℤ) (m : Motion) (p : List ℤ) (S : ℕ) → is_in_reach reach m.from m.to p ≡ true → is_left_on_cell outer m p S ≡ false
-    → is_possible outer reach m p S ≡ false
-out_not_possible outer reach m p S near out = ap (λ b. b && is_left_on_cell outer m p S) near ∙ out
+pub out_not_possible : (outer : List SlabSize) (reach : ℤ) (m : SweepOf) (p : List ℤ) (S : ℕ) → is_in_reach reach m.from m.to p ≡ true → is_unexcluded_on_cell outer m p S ≡ false
+    → is_possible_with outer reach m p S ≡ false
+out_not_possible outer reach m p S near out = ap (λ b. b && is_unexcluded_on_cell outer m p S) near ∙ out

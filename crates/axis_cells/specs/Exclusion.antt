@@ -1,7 +1,7 @@
 -- The tests of a slab by what a sample and a cell of a point keep.
 use Rattle.std.specs.Prelude.{◌≡◌, Bool, not, ◌||◌, List, ℕ, ℤ, pos, ◌+ℤ◌, ◌*ℤ◌, int_le, All}
 use Rattle.std.specs.List.{list_any}
-use Rattle.space.specs.Motion.{Motion}
+use Rattle.space.specs.Sweeps.{SweepOf}
 use Rattle.bern_form.specs.Forms.{IsSmall, all_negative, all_positive, difference4, lifted, product22, scaled2}
 use Rattle.bern_form.specs.Slab.{SlabSize, covers}
 use Rattle.bern_form.specs.Cells.{across_list, along_list, n_list, u_list, w_list}
@@ -27,7 +27,7 @@ abbrev pub leaves_some : ℤ → Bool → List ℤ → List ℤ → List ℤ →
 leaves_some scale behind n height width slabs = list_any (λ s. not (excluded_by scale behind n height width s)) slabs
 
 -- these are the forms of cell k of S for the point p
-pub record IsCellOf (scale : ℤ) (behind : Bool) (n height width : List ℤ) (m : Motion) (p : List ℤ) (k S : ℕ) : Type 0 where
+pub record IsCellOf (scale : ℤ) (behind : Bool) (n height width : List ℤ) (m : SweepOf) (p : List ℤ) (k S : ℕ) : Type 0 where
   pub scale_is : scale ≡ pos S
   pub behind_is : behind ≡ all_negative (u_list m p k S)
   pub n_is : n ≡ n_list m k S
@@ -35,7 +35,7 @@ pub record IsCellOf (scale : ℤ) (behind : Bool) (n height width : List ℤ) (m
   pub width_is : width ≡ w_list m p k S
 
 -- every coefficient of the four lists of a slab on cell k of S is below 4 * 10^37 in absolute value
-pub record CoefficientsAreSmall (s : SlabSize) (m : Motion) (p : List ℤ) (k S : ℕ) : Type 0 where
+pub record CoefficientsAreSmall (s : SlabSize) (m : SweepOf) (p : List ℤ) (k S : ℕ) : Type 0 where
   pub ahead : All IsSmall (u_list m p k S)
   pub low : All IsSmall (along_list m p k S s.lo)
   pub high : All IsSmall (along_list m p k S s.hi)

@@ -24,3 +24,25 @@ pub fn scaled_square(scale: u32, length: i32) -> i128
     let length = scaled(scale, length);
     length * length
 }
+
+/// A length of a slab times the scale, in 64 bits.
+#[inline]
+fn short_scaled(scale: u32, length: i32) -> i64
+    requires scale { scale ≤ scale_limit }
+    requires length { unsigned_abs length ≤ 300000 }
+    ensures value { result ≡ pos scale *ℤ length }
+    ensures small { unsigned_abs result ≤ length_limit }
+{
+    i64::from(scale) * i64::from(length)
+}
+
+/// The square of a length of a slab, times the square of the scale, in 64 bits.
+#[inline]
+pub fn short_scaled_square(scale: u32, length: i32) -> i64
+    requires scale { scale ≤ scale_limit }
+    requires length { unsigned_abs length ≤ 300000 }
+    ensures { result ≡ scaled_square scale length }
+{
+    let length = short_scaled(scale, length);
+    length * length
+}

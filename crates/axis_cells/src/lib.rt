@@ -12,7 +12,7 @@ mod sample;
 mod sweep;
 
 pub use cell::scalar_product_on_cell;
-pub use length::scaled_square;
+pub use length::{scaled_square, short_scaled_square};
 pub use mark::Mark;
 pub use plain::plain_mark;
 pub use point::{at_sample, cell_excludes, cells_of};

@@ -2,7 +2,7 @@ ghost use Rattle.std.specs.Prelude.{◌≡◌, ◌^◌, ◌<◌, ◌≤◌, fals
 ghost use Rattle.std.specs.List.{list_all};
 ghost use Rattle.space.specs.Ranges.{IsPoint};
 ghost use Rattle.space.specs.Reach.{is_in_reach};
-ghost use Rattle.bern_form.specs.Marks.{NeverHeld, held_at_sample, is_left_on_cell};
+ghost use Rattle.bern_form.specs.Marks.{NeverHeld, held_at_sample, is_unexcluded_on_cell};
 ghost use Rattle.bern_form.specs.Sizes.{scale_limit};
 ghost use Rattle.bern_form.specs.Slab.{IsSlab, SlabSize};
 ghost use Rattle.axis_cells.specs.Exclusion.{fits_in_reach};
@@ -33,10 +33,10 @@ fn is_held_at_sample(sweep: &Sweep, slabs: &[Slab], point: &[i32; 3], scale: u32
 }
 
 /// Whether some of the slabs is not excluded on some cell.
-fn is_left_on_cell(sweep: &Sweep, slabs: &[Slab], point: &[i32; 3], scale: u32) -> bool
+fn is_unexcluded_on_cell(sweep: &Sweep, slabs: &[Slab], point: &[i32; 3], scale: u32) -> bool
     requires point { IsPoint point.now }
     requires scale { scale ≤ scale_limit }
-    ensures { result ≡ is_left_on_cell slabs.now sweep.now point.now scale }
+    ensures { result ≡ is_unexcluded_on_cell slabs.now sweep.now point.now scale }
 {
     for k in 0..scale {
         if Cell::of_point(sweep, point, k, scale).leaves_some(slabs) {
@@ -69,7 +69,7 @@ fn all_fit_in_reach(slabs: &[Slab], reach: i32) -> bool
 }
 
 /// The same as `is_held_at_sample`, for a point out of reach. Slabs that fit into the reach hold no such point at any time, so
-/// no sample is tried. So the many moves that are far from a point cost next to nothing.
+/// no sample is tested. So the many moves that are far from a point cost next to nothing.
 fn is_held_out_of_reach(
     sweep: &Sweep,
     slabs: &[Slab],
@@ -83,7 +83,7 @@ fn is_held_out_of_reach(
     requires scale { scale ≤ scale_limit }
     ensures { result ≡ held_at_sample slabs.now sweep.now point.now scale }
 {
-    // A sweep is valid by its type, which is known where a field of it is seen.
+    // Reading a field of the sweep gives the prover its invariant.
     let _valid = &sweep.from;
     if all_fit_in_reach(slabs, reach) {
         return false;
@@ -118,7 +118,7 @@ pub fn plain_mark(
     if is_held_at_sample(sweep, inner, &point, scale) {
         return Mark::Removed;
     }
-    if is_left_on_cell(sweep, outer, &point, scale) {
+    if is_unexcluded_on_cell(sweep, outer, &point, scale) {
         return Mark::Possible;
     }
     Mark::Clear

@@ -45,7 +45,7 @@ pub fn cell_excludes(sweep: &Sweep, slab: &Slab, point: [i32; 3], k: u32, depth:
     ensures small { CoefficientsAreSmall slab.now sweep.now point k (2 ^ depth) }
     ensures never { IsTrue result → (a b : ℕ) → IsInCell k (2 ^ depth) a b → holds_at slab.now sweep.now point a b ≡ false }
 {
-    // A sweep and a slab are valid by their types, which is known where a field of theirs is seen.
+    // Reading a field of a sweep and of a slab gives the prover their invariants.
     let _valid = &sweep.from;
     let _slab = &slab.lo;
     Cell::of_point(sweep, &point, k, cells_of(depth)).excludes(slab)

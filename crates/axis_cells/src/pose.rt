@@ -1,12 +1,12 @@
 ghost use Rattle.std.specs.Prelude.{◌≡◌, ◌*◌, ◌<◌, ◌≤◌, ◌*ℤ◌, pos, unsigned_abs};
 ghost use Rattle.space.specs.Ranges.{IsPoint, IsWithin};
 ghost use Rattle.space.specs.Vectors.{at};
-ghost use Rattle.space.specs.Motion.{axis_at, between, offset, offset_at};
+ghost use Rattle.space.specs.Sweeps.{axis_at, between, offset, offset_at};
 ghost use Rattle.bern_form.specs.Sizes.{axis_limit, offset_limit, scale_limit};
 
 use crate::sweep::Sweep;
 
-/// Where a point stands towards the cutter at one sample: its offset from the tip, and the axis, both times the scale.
+/// Where a point is relative to the cutter at one sample: its offset from the tip, and the axis, both times the scale.
 #[derive(Drop)]
 pub struct Pose {
     pub offset: [i64; 3],

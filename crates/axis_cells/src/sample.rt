@@ -96,6 +96,7 @@ impl Sample {
         }
     }
 
+    /// Of a pose at this scale, at most 1024.
     pub fn of_pose(pose: &Pose, scale: u32) -> Sample
         requires { scale ≤ scale_limit }
         ensures scale { result.scale ≡ scale }

@@ -14,9 +14,9 @@ pub struct Sweep {
 }
 
 impl Model for Sweep {
-    ghost use Rattle.space.specs.Motion.{Motion, IsSweep};
+    ghost use Rattle.space.specs.Sweeps.{SweepOf, IsSweep};
 
-    ghost Value = { Motion };
+    ghost Value = { SweepOf };
 
     ghost view = { λ s. record { from = s.from; to = s.to; axis_from = s.axis_from; axis_to = s.axis_to } };
 

@@ -7,13 +7,13 @@ use Rattle.std.proofs.lemmas.Bool.Decides.{Decides-and, Decides-or, Decides-not,
 use Rattle.std.proofs.lemmas.List.{get_or_default}
 use Rattle.std.proofs.lemmas.List.FromFn.{length-range_with_len, get_or-range_with_len}
 use Rattle.space.specs.Vectors.{dot, spread}
-use Rattle.space.specs.Motion.{Motion, IsTime, axis_at, offset_at}
+use Rattle.space.specs.Sweeps.{SweepOf, IsTime, axis_at, offset_at}
 use Rattle.space.proofs.ReachLemmas.{InReach, decides_in_reach}
 use Rattle.space.proofs.Tests.{decides_le, decides_lt}
 use Rattle.bern_form.specs.Forms.{all_negative, all_positive}
 use Rattle.bern_form.specs.Slab.{SlabSize, covers, holds_at}
 use Rattle.bern_form.specs.Cells.{across_list, along_list, is_excluded, u_list}
-use Rattle.bern_form.specs.Marks.{NeverHeld, some_below, some_holds, held_at_sample, is_left_on, is_left_on_cell, is_possible}
+use Rattle.bern_form.specs.Marks.{NeverHeld, some_below, some_holds, held_at_sample, is_unexcluded_on, is_unexcluded_on_cell, is_possible_with}
 use Rattle.bern_form.proofs.Relations.{AllExcluded, AllNegative, AllPositive, Covers, Excluded, HeldAtSample, HoldsAt as SlabHoldsAt, IsPossible, LeftOn, LeftOnCell, SomeHolds}
 
 -- a test of the numbers below n
@@ -71,7 +71,7 @@ decides_covers s b u n w =
     let covered : Covers s b u n w = record { forward = h.0; above = h.1.0; below = h.1.1.0; near = h.1.1.1 } in covered)
     (λ (c : Covers s b u n w). (c.forward, (c.above, (c.below, c.near)))) all
 
-pub decides_some_holds : (slabs : List SlabSize) (m : Motion) (p : List ℤ) (a b : ℕ) → Decides (some_holds slabs m p a b) (SomeHolds slabs m p a b)
+pub decides_some_holds : (slabs : List SlabSize) (m : SweepOf) (p : List ℤ) (a b : ℕ) → Decides (some_holds slabs m p a b) (SomeHolds slabs m p a b)
 decides_some_holds slabs m p a b =
     let P = offset_at m p (pos a) (pos b) in let A = axis_at m (pos a) (pos b) in
     Decides-like (some_holds slabs m p a b)
@@ -79,7 +79,7 @@ decides_some_holds slabs m p a b =
     (λ (h : SomeHolds slabs m p a b). (h.slab, h.among, h.holds))
     (decides_among (λ s. holds_at s m p a b) (λ s. SlabHoldsAt s m p a b) slabs (λ s. decides_covers s (pos b) (dot P A) (dot A A) (spread P A)))
 
-pub decides_held : (slabs : List SlabSize) (m : Motion) (p : List ℤ) (S : ℕ) → Decides (held_at_sample slabs m p S) (HeldAtSample slabs m p S)
+pub decides_held : (slabs : List SlabSize) (m : SweepOf) (p : List ℤ) (S : ℕ) → Decides (held_at_sample slabs m p S) (HeldAtSample slabs m p S)
 decides_held slabs m p S =
     Decides-like (held_at_sample slabs m p S)
     (λ (h : (k : ℕ) × (k < S + 1) × SomeHolds slabs m p k S). let l = h.1 in let held : HeldAtSample slabs m p S = record { sample = h.0; within = omega (arith, l); held = h.2 } in held)
@@ -92,39 +92,39 @@ decides_negative c = Decides-by_and (λ z. int_lt z (pos 0)) (λ z. z <ℤ pos 0
 pub decides_positive : (c : List ℤ) → Decides (all_positive c) (AllPositive c)
 decides_positive c = Decides-by_and (λ z. int_lt (pos 0) z) (λ z. pos 0 <ℤ z) (list_all (λ z. int_lt (pos 0) z)) (λ z. decides_lt (pos 0) z) refl (λ x xs. refl) c
 
-pub decides_excluded : (s : SlabSize) (m : Motion) (p : List ℤ) (k S : ℕ) → Decides (is_excluded s m p k S) (Excluded s m p k S)
+pub decides_excluded : (s : SlabSize) (m : SweepOf) (p : List ℤ) (k S : ℕ) → Decides (is_excluded s m p k S) (Excluded s m p k S)
 decides_excluded s m p k S =
     Decides-or _ _ (decides_negative (u_list m p k S))
     (Decides-or _ _ (decides_negative (along_list m p k S s.lo)) (Decides-or _ _ (decides_positive (along_list m p k S s.hi)) (decides_positive (across_list m p k S s.dia))))
 
-pub decides_left_on : (slabs : List SlabSize) (m : Motion) (p : List ℤ) (k S : ℕ) → Decides (is_left_on slabs m p k S) (LeftOn slabs m p k S)
+pub decides_left_on : (slabs : List SlabSize) (m : SweepOf) (p : List ℤ) (k S : ℕ) → Decides (is_unexcluded_on slabs m p k S) (LeftOn slabs m p k S)
 decides_left_on slabs m p k S =
-    Decides-like (is_left_on slabs m p k S)
+    Decides-like (is_unexcluded_on slabs m p k S)
     (λ (h : (s : SlabSize) × Contains slabs s × ¬ Excluded s m p k S). let left : LeftOn slabs m p k S = record { slab = h.0; among = h.1; left = h.2 } in left)
     (λ (h : LeftOn slabs m p k S). (h.slab, h.among, h.left))
     (decides_among (λ s. not (is_excluded s m p k S)) (λ s. ¬ Excluded s m p k S) slabs (λ s. Decides-not (is_excluded s m p k S) (decides_excluded s m p k S)))
 
-pub decides_left : (slabs : List SlabSize) (m : Motion) (p : List ℤ) (S : ℕ) → Decides (is_left_on_cell slabs m p S) (LeftOnCell slabs m p S)
+pub decides_left : (slabs : List SlabSize) (m : SweepOf) (p : List ℤ) (S : ℕ) → Decides (is_unexcluded_on_cell slabs m p S) (LeftOnCell slabs m p S)
 decides_left slabs m p S =
-    Decides-like (is_left_on_cell slabs m p S)
+    Decides-like (is_unexcluded_on_cell slabs m p S)
     (λ (h : (k : ℕ) × (k < S) × LeftOn slabs m p k S). let left : LeftOnCell slabs m p S = record { cell = h.0; within = h.1; left = h.2 } in left)
     (λ (h : LeftOnCell slabs m p S). (h.cell, h.within, h.left))
-    (decides_below (λ k. is_left_on slabs m p k S) (λ k. LeftOn slabs m p k S) S (λ k. decides_left_on slabs m p k S))
+    (decides_below (λ k. is_unexcluded_on slabs m p k S) (λ k. LeftOn slabs m p k S) S (λ k. decides_left_on slabs m p k S))
 
-pub decides_possible : (outer : List SlabSize) (reach : ℤ) (m : Motion) (p : List ℤ) (S : ℕ) → Decides (is_possible outer reach m p S) (IsPossible outer reach m p S)
+pub decides_possible : (outer : List SlabSize) (reach : ℤ) (m : SweepOf) (p : List ℤ) (S : ℕ) → Decides (is_possible_with outer reach m p S) (IsPossible outer reach m p S)
 decides_possible outer reach m p S =
-    Decides-like (is_possible outer reach m p S)
+    Decides-like (is_possible_with outer reach m p S)
     (λ (h : InReach reach m.from m.to p × LeftOnCell outer m p S). let possible : IsPossible outer reach m p S = record { in_reach = h.0; left = h.1 } in possible)
     (λ (h : IsPossible outer reach m p S). (h.in_reach, h.left))
     (Decides-and _ _ (decides_in_reach reach m.from m.to p) (decides_left outer m p S))
 
 -- a slab that is left on no cell is excluded on each
-pub excluded_unless_left : (outer : List SlabSize) (m : Motion) (p : List ℤ) (S : ℕ) → ¬ LeftOnCell outer m p S → AllExcluded outer m p S
+pub excluded_unless_left : (outer : List SlabSize) (m : SweepOf) (p : List ℤ) (S : ℕ) → ¬ LeftOnCell outer m p S → AllExcluded outer m p S
 excluded_unless_left outer m p S none = λ s k among l.
     ⊎_elim (λ yes. (decides_excluded s m p k S).0 yes)
     (λ no. absurd (none record { cell = k; within = l; left = record { slab = s; among = among; left = not_from_Decides (is_excluded s m p k S) (decides_excluded s m p k S) no } }))
     (cases_Bool (is_excluded s m p k S))
 
 -- slabs of which none holds the point at a time never hold it
-pub never_held : (slabs : List SlabSize) (m : Motion) (p : List ℤ) → ((a b : ℕ) → IsTime a b → ¬ SomeHolds slabs m p a b) → NeverHeld slabs m p
+pub never_held : (slabs : List SlabSize) (m : SweepOf) (p : List ℤ) → ((a b : ℕ) → IsTime a b → ¬ SomeHolds slabs m p a b) → NeverHeld slabs m p
 never_held slabs m p none = λ a b time. says_no (SomeHolds slabs m p a b) (some_holds slabs m p a b) (decides_some_holds slabs m p a b) (none a b time)

@@ -5,11 +5,11 @@ use Rattle.std.proofs.lemmas.Bool.{cases_lt}
 use Rattle.std.proofs.lemmas.Bool.Decides.{not_from_Decides}
 use Rattle.std.proofs.Math.Nat.{mul-le-mul_left}
 use Rattle.bern_form.specs.Forms.{value2, value4}
-use Rattle.space.specs.Motion.{Motion, IsTime, offset_at, axis_at}
+use Rattle.space.specs.Sweeps.{SweepOf, IsTime, offset_at, axis_at}
 use Rattle.space.specs.Vectors.{dot, spread}
 use Rattle.bern_form.specs.Slab.{SlabSize, holds_at}
 use Rattle.bern_form.specs.Cells.{IsInCell, is_excluded, u_list, along_list, across_list}
-use Rattle.bern_form.specs.Marks.{NeverHeld, is_left_on_cell}
+use Rattle.bern_form.specs.Marks.{NeverHeld, is_unexcluded_on_cell}
 use Rattle.bern_form.proofs.Relations.{AllExcluded, Excluded, HoldsAt}
 use Rattle.bern_form.proofs.Decided.{decides_covers, decides_excluded, decides_left, excluded_unless_left, never_held, says_no}
 use Rattle.bern_form.proofs.Places.{late, early, u_place, along_place, across_place}
@@ -41,7 +41,7 @@ apart_below u v h k = omega (arith, ints)
 below_zero : (u : ℤ) → u <ℤ pos 0 → pos 0 ≤ℤ u → ⊥
 below_zero u h k = omega (arith, ints)
 
-pub excluded_not_held : (s : SlabSize) (m : Motion) (p : List ℤ) (k S a b : ℕ) → IsInCell k S a b → Excluded s m p k S → HoldsAt s m p a b → ⊥
+pub excluded_not_held : (s : SlabSize) (m : SweepOf) (p : List ℤ) (k S a b : ℕ) → IsInCell k S a b → Excluded s m p k S → HoldsAt s m p a b → ⊥
 excluded_not_held s m p k S a b time out held =
     let after = time.after in let before = time.before in let some = time.denominator in
     let x = a * S - k * b in let y = (k + 1) * b - a * S in
@@ -72,7 +72,7 @@ excluded_not_held s m p k S a b time out held =
     out
 
 -- the same by the tests
-pub excluded_holds_not : (s : SlabSize) (m : Motion) (p : List ℤ) (k S a b : ℕ) → is_excluded s m p k S ≡ true → IsInCell k S a b → holds_at s m p a b ≡ false
+pub excluded_holds_not : (s : SlabSize) (m : SweepOf) (p : List ℤ) (k S a b : ℕ) → is_excluded s m p k S ≡ true → IsInCell k S a b → holds_at s m p a b ≡ false
 excluded_holds_not s m p k S a b out time =
     let P = offset_at m p (pos a) (pos b) in let A = axis_at m (pos a) (pos b) in
     says_no (HoldsAt s m p a b) (holds_at s m p a b) (decides_covers s (pos b) (dot P A) (dot A A) (spread P A)) (excluded_not_held s m p k S a b time ((decides_excluded s m p k S).0 out))
@@ -91,12 +91,12 @@ pub cell_of : (a b S : ℕ) → IsTime a b → 0 < S → (k : ℕ) × (k < S) ×
 cell_of a b S time l = cell_from a b S time.0 S (let t = mul-le-mul_left S time.1 in omega arith) l
 
 -- slabs that are excluded on every cell hold the point at no rational time
-pub excluded_never_held : (slabs : List SlabSize) (m : Motion) (p : List ℤ) (S : ℕ) → 0 < S → AllExcluded slabs m p S → NeverHeld slabs m p
+pub excluded_never_held : (slabs : List SlabSize) (m : SweepOf) (p : List ℤ) (S : ℕ) → 0 < S → AllExcluded slabs m p S → NeverHeld slabs m p
 excluded_never_held slabs m p S l out = never_held slabs m p (λ a b time held.
     let k = cell_of a b S time l in
     excluded_not_held held.slab m p k.0 S a b k.2 (out held.slab k.0 held.among k.1) held.holds)
 
 -- the same by the test: slabs that are left on no cell
-pub left_nowhere : (slabs : List SlabSize) (m : Motion) (p : List ℤ) (S : ℕ) → 0 < S → is_left_on_cell slabs m p S ≡ false → NeverHeld slabs m p
+pub left_nowhere : (slabs : List SlabSize) (m : SweepOf) (p : List ℤ) (S : ℕ) → 0 < S → is_unexcluded_on_cell slabs m p S ≡ false → NeverHeld slabs m p
 left_nowhere slabs m p S l none =
-    excluded_never_held slabs m p S l (excluded_unless_left slabs m p S (not_from_Decides (is_left_on_cell slabs m p S) (decides_left slabs m p S) none))
+    excluded_never_held slabs m p S l (excluded_unless_left slabs m p S (not_from_Decides (is_unexcluded_on_cell slabs m p S) (decides_left slabs m p S) none))

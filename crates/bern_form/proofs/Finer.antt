@@ -6,11 +6,11 @@ use Rattle.std.proofs.lemmas.Bool.{cases_Bool, cases_lt}
 use Rattle.std.proofs.lemmas.Bool.Decides.{Decides-not, Decides-or, not_from_Decides}
 use Rattle.std.proofs.Math.Nat.{mul-le-mul, two-pow-succ}
 use Rattle.std.proofs.Math.Pow.{pow_mono}
-use Rattle.space.specs.Motion.{Motion}
+use Rattle.space.specs.Sweeps.{SweepOf}
 use Rattle.bern_form.specs.Slab.{SlabSize}
 use Rattle.bern_form.specs.Cells.{IsInCell, scaled_square}
-use Rattle.bern_form.specs.Marks.{is_left_on, some_holds}
-use Rattle.bern_form.specs.Between.{d_between, height_less, is_excluded_between, is_excluded_with, is_left_between, n_between, u_between, width_less}
+use Rattle.bern_form.specs.Marks.{is_unexcluded_on, some_holds}
+use Rattle.bern_form.specs.Between.{d_between, height_less, is_excluded_between, is_excluded_with, is_unexcluded_between, n_between, u_between, width_less}
 use Rattle.bern_form.proofs.Relations.{AllNegative, AllPositive, LeftOn, SomeHolds}
 use Rattle.bern_form.proofs.Decided.{decides_among, decides_left_on, decides_negative, decides_positive, decides_some_holds, says_no}
 use Rattle.bern_form.proofs.Exclusion.{excluded_not_held}
@@ -24,7 +24,7 @@ ExcludedWith s S u n d =
     ⊎ (AllNegative (height_less (scaled_square S s.lo) u n)
     ⊎ (AllPositive (height_less (scaled_square S s.hi) u n) ⊎ AllPositive (width_less (scaled_square S s.dia) u n d)))
 
-abbrev pub ExcludedBetween : SlabSize → Motion → List ℤ → ℕ → ℕ → ℕ → Type 0
+abbrev pub ExcludedBetween : SlabSize → SweepOf → List ℤ → ℕ → ℕ → ℕ → Type 0
 ExcludedBetween s m p j k S = ExcludedWith s S (u_between m p j k S) (n_between m j k S) (d_between m p j k S)
 
 pub decides_with : (s : SlabSize) (S : ℕ) (u n d : List ℤ) → Decides (is_excluded_with s S u n d) (ExcludedWith s S u n d)
@@ -52,7 +52,7 @@ last_with s S u n d x =
     (λ c. inr (inr (inr (last_positive4 (width_less dia U N D) (width_less dia u n d) (omega arith) (width_last dia u n d) c)))) z) y) x
 
 -- what is excluded between the samples j and k is excluded between j and the sample i in the middle, and between i and k
-pub first_excluded : (s : SlabSize) (m : Motion) (p : List ℤ) (j i k S : ℕ) → j + k ≡ 2 * i → ExcludedBetween s m p j k S → ExcludedBetween s m p j i S
+pub first_excluded : (s : SlabSize) (m : SweepOf) (p : List ℤ) (j i k S : ℕ) → j + k ≡ 2 * i → ExcludedBetween s m p j k S → ExcludedBetween s m p j i S
 first_excluded s m p j i k S h x =
     let u = u_between m p j i S in let n = n_between m j i S in let d = d_between m p j i S in
     first_with s S u n d
@@ -60,7 +60,7 @@ first_excluded s m p j i k S h x =
     (subst (λ l. ExcludedWith s S (whole_of_first u) l (d_between m p j k S)) (n_of_first m j i k S h)
     (subst (λ l. ExcludedWith s S l (n_between m j k S) (d_between m p j k S)) (u_of_first m p j i k S h) x)))
 
-pub last_excluded : (s : SlabSize) (m : Motion) (p : List ℤ) (j i k S : ℕ) → j + k ≡ 2 * i → ExcludedBetween s m p j k S → ExcludedBetween s m p i k S
+pub last_excluded : (s : SlabSize) (m : SweepOf) (p : List ℤ) (j i k S : ℕ) → j + k ≡ 2 * i → ExcludedBetween s m p j k S → ExcludedBetween s m p i k S
 last_excluded s m p j i k S h x =
     let u = u_between m p i k S in let n = n_between m i k S in let d = d_between m p i k S in
     last_with s S u n d
@@ -69,29 +69,29 @@ last_excluded s m p j i k S h x =
     (subst (λ l. ExcludedWith s S l (n_between m j k S) (d_between m p j k S)) (u_of_last m p j i k S h) x)))
 
 -- each of the slabs is excluded between the samples j and k
-pub record AllOut (slabs : List SlabSize) (m : Motion) (p : List ℤ) (j k S : ℕ) : Type 0 where
+pub record AllOut (slabs : List SlabSize) (m : SweepOf) (p : List ℤ) (j k S : ℕ) : Type 0 where
   pub each : (s : SlabSize) → Contains slabs s → ExcludedBetween s m p j k S
 
-pub all_out : (slabs : List SlabSize) (m : Motion) (p : List ℤ) (j k S : ℕ) → is_left_between slabs m p j k S ≡ false → AllOut slabs m p j k S
+pub all_out : (slabs : List SlabSize) (m : SweepOf) (p : List ℤ) (j k S : ℕ) → is_unexcluded_between slabs m p j k S ≡ false → AllOut slabs m p j k S
 all_out slabs m p j k S none =
     let decides = λ (s : SlabSize). decides_with s S (u_between m p j k S) (n_between m j k S) (d_between m p j k S) in
     record {
       each = λ s among.
           ⊎_elim (λ yes. (decides s).0 yes)
-          (λ no. absurd (not_from_Decides (is_left_between slabs m p j k S)
+          (λ no. absurd (not_from_Decides (is_unexcluded_between slabs m p j k S)
           (decides_among (λ t. not (is_excluded_between t m p j k S)) (λ t. ¬ ExcludedBetween t m p j k S) slabs (λ t. Decides-not (is_excluded_between t m p j k S) (decides t)))
           none (s, among, not_from_Decides (is_excluded_between s m p j k S) (decides s) no)))
           (cases_Bool (is_excluded_between s m p j k S));
     }
 
-out_first : (slabs : List SlabSize) (m : Motion) (p : List ℤ) (j i k S : ℕ) → j + k ≡ 2 * i → AllOut slabs m p j k S → AllOut slabs m p j i S
+out_first : (slabs : List SlabSize) (m : SweepOf) (p : List ℤ) (j i k S : ℕ) → j + k ≡ 2 * i → AllOut slabs m p j k S → AllOut slabs m p j i S
 out_first slabs m p j i k S h out = record { each = λ s among. first_excluded s m p j i k S h (out.each s among) }
 
-out_last : (slabs : List SlabSize) (m : Motion) (p : List ℤ) (j i k S : ℕ) → j + k ≡ 2 * i → AllOut slabs m p j k S → AllOut slabs m p i k S
+out_last : (slabs : List SlabSize) (m : SweepOf) (p : List ℤ) (j i k S : ℕ) → j + k ≡ 2 * i → AllOut slabs m p j k S → AllOut slabs m p i k S
 out_last slabs m p j i k S h out = record { each = λ s among. last_excluded s m p j i k S h (out.each s among) }
 
 -- on each cell between them
-out_on_cell : (slabs : List SlabSize) (m : Motion) (p : List ℤ) (S n j c : ℕ) → AllOut slabs m p j (j + 2 ^ n) S → j ≤ c → c < j + 2 ^ n → AllOut slabs m p c (c + 1) S
+out_on_cell : (slabs : List SlabSize) (m : SweepOf) (p : List ℤ) (S n j c : ℕ) → AllOut slabs m p j (j + 2 ^ n) S → j ≤ c → c < j + 2 ^ n → AllOut slabs m p c (c + 1) S
 out_on_cell slabs m p S zero j c out after before = let e : j ≡ c = omega arith in subst (λ k. AllOut slabs m p k (k + 1) S) e out
 out_on_cell slabs m p S (suc n) j c out after before =
     let i = j + 2 ^ n in let k = j + 2 ^ suc n in
@@ -103,10 +103,10 @@ out_on_cell slabs m p S (suc n) j c out after before =
     (λ late. out_on_cell slabs m p S n i c (subst (λ z. AllOut slabs m p i z S) e (out_last slabs m p j i k S h out)) late (omega arith))
     (cases_lt c i)
 
-pub left_on_none : (slabs : List SlabSize) (m : Motion) (p : List ℤ) (S n j c : ℕ) → AllOut slabs m p j (j + 2 ^ n) S → j ≤ c → c < j + 2 ^ n → is_left_on slabs m p c S ≡ false
+pub left_on_none : (slabs : List SlabSize) (m : SweepOf) (p : List ℤ) (S n j c : ℕ) → AllOut slabs m p j (j + 2 ^ n) S → j ≤ c → c < j + 2 ^ n → is_unexcluded_on slabs m p c S ≡ false
 left_on_none slabs m p S n j c out after before =
     let here = out_on_cell slabs m p S n j c out after before in
-    says_no (LeftOn slabs m p c S) (is_left_on slabs m p c S) (decides_left_on slabs m p c S) (λ left. left.left (here.each left.slab left.among))
+    says_no (LeftOn slabs m p c S) (is_unexcluded_on slabs m p c S) (decides_left_on slabs m p c S) (λ left. left.left (here.each left.slab left.among))
 
 -- and held at none of their samples
 cell_at : (j e i : ℕ) → 0 < e → j ≤ i → i ≤ j + e → (c : ℕ) × (j ≤ c) × (c < j + e) × (c ≤ i) × (i ≤ c + 1)
@@ -116,7 +116,7 @@ cell_at j e i some after before =
 some_cells : (n : ℕ) → 0 < 2 ^ n
 some_cells n = let some : 2 ^ 0 ≤ 2 ^ n = pow_mono {i = 0} {j = n} (omega arith) in some
 
-pub held_at_none : (slabs : List SlabSize) (m : Motion) (p : List ℤ) (S n j i : ℕ) → 0 < S → AllOut slabs m p j (j + 2 ^ n) S → j ≤ i → i ≤ j + 2 ^ n → some_holds slabs m p i S ≡ false
+pub held_at_none : (slabs : List SlabSize) (m : SweepOf) (p : List ℤ) (S n j i : ℕ) → 0 < S → AllOut slabs m p j (j + 2 ^ n) S → j ≤ i → i ≤ j + 2 ^ n → some_holds slabs m p i S ≡ false
 held_at_none slabs m p S n j i some out after before =
     let found = cell_at j (2 ^ n) i (some_cells n) after before in
     let c = found.0 in

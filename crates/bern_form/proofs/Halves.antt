@@ -3,7 +3,7 @@
 use Rattle.std.proofs.Common.{◌≡◌, ℕ, ◌+◌, ◌*◌, [], ◌∷◌, List, ℤ, pos, ◌+ℤ◌, ◌*ℤ◌, ◌-ℤ◌, arith, refl, ap, ap₂, ◌∙◌}
 use Rattle.std.proofs.lemmas.Int.{ints}
 use Rattle.space.specs.Vectors.{at}
-use Rattle.space.specs.Motion.{Motion, axis_at, between, offset, offset_at}
+use Rattle.space.specs.Sweeps.{SweepOf, axis_at, between, offset, offset_at}
 use Rattle.space.proofs.Solver.{Term, var, num, add, mul, ring}
 use Rattle.space.proofs.Terms.{dots, from, sub}
 use Rattle.bern_form.specs.Cells.{dot_on_cell}
@@ -76,13 +76,13 @@ offset_far i j s p f t =
 other_time : (j i k : ℕ) → j + k ≡ 2 * i → pos k ≡ pos 2 *ℤ pos i -ℤ pos j
 other_time j i k h = omega (arith, ints)
 
-offset_at_far : (m : Motion) (p : List ℤ) (j i k S : ℕ) → j + k ≡ 2 * i → offset_at m p (pos k) (pos S) ≡ far (offset_at m p (pos i) (pos S)) (offset_at m p (pos j) (pos S))
+offset_at_far : (m : SweepOf) (p : List ℤ) (j i k S : ℕ) → j + k ≡ 2 * i → offset_at m p (pos k) (pos S) ≡ far (offset_at m p (pos i) (pos S)) (offset_at m p (pos j) (pos S))
 offset_at_far m p j i k S h =
     let s = pos S in
     ap (λ z. offset_at m p z s) (other_time j i k h)
     ∙ same3 _ _ _ _ _ _ (offset_far (pos i) (pos j) s (at p 0) (at m.from 0) (at m.to 0)) (offset_far (pos i) (pos j) s (at p 1) (at m.from 1) (at m.to 1)) (offset_far (pos i) (pos j) s (at p 2) (at m.from 2) (at m.to 2))
 
-axis_at_far : (m : Motion) (j i k S : ℕ) → j + k ≡ 2 * i → axis_at m (pos k) (pos S) ≡ far (axis_at m (pos i) (pos S)) (axis_at m (pos j) (pos S))
+axis_at_far : (m : SweepOf) (j i k S : ℕ) → j + k ≡ 2 * i → axis_at m (pos k) (pos S) ≡ far (axis_at m (pos i) (pos S)) (axis_at m (pos j) (pos S))
 axis_at_far m j i k S h =
     let s = pos S in
     ap (λ z. axis_at m z s) (other_time j i k h)
@@ -92,32 +92,32 @@ turned : (j i k : ℕ) → j + k ≡ 2 * i → k + j ≡ 2 * i
 turned j i k h = omega arith
 
 -- the forms of u, n and d between the samples j and k, by those of the half up to the sample i in the middle, and of the half from there
-pub u_of_first : (m : Motion) (p : List ℤ) (j i k S : ℕ) → j + k ≡ 2 * i → u_between m p j k S ≡ whole_of_first (u_between m p j i S)
+pub u_of_first : (m : SweepOf) (p : List ℤ) (j i k S : ℕ) → j + k ≡ 2 * i → u_between m p j k S ≡ whole_of_first (u_between m p j i S)
 u_of_first m p j i k S h =
     let P = offset_at m p (pos j) (pos S) in let A = axis_at m (pos j) (pos S) in
     ap₂ (λ q c. dot_on_cell P q A c) (offset_at_far m p j i k S h) (axis_at_far m j i k S h) ∙ dot_first P (offset_at m p (pos i) (pos S)) A (axis_at m (pos i) (pos S))
 
-pub u_of_last : (m : Motion) (p : List ℤ) (j i k S : ℕ) → j + k ≡ 2 * i → u_between m p j k S ≡ whole_of_last (u_between m p i k S)
+pub u_of_last : (m : SweepOf) (p : List ℤ) (j i k S : ℕ) → j + k ≡ 2 * i → u_between m p j k S ≡ whole_of_last (u_between m p i k S)
 u_of_last m p j i k S h =
     let Q = offset_at m p (pos k) (pos S) in let C = axis_at m (pos k) (pos S) in let t = turned j i k h in
     ap₂ (λ q a. dot_on_cell q Q a C) (offset_at_far m p k i j S t) (axis_at_far m k i j S t) ∙ dot_last (offset_at m p (pos i) (pos S)) Q (axis_at m (pos i) (pos S)) C
 
-pub n_of_first : (m : Motion) (j i k S : ℕ) → j + k ≡ 2 * i → n_between m j k S ≡ whole_of_first (n_between m j i S)
+pub n_of_first : (m : SweepOf) (j i k S : ℕ) → j + k ≡ 2 * i → n_between m j k S ≡ whole_of_first (n_between m j i S)
 n_of_first m j i k S h =
     let A = axis_at m (pos j) (pos S) in let B = axis_at m (pos i) (pos S) in
     ap (λ c. dot_on_cell A c A c) (axis_at_far m j i k S h) ∙ dot_first A B A B
 
-pub n_of_last : (m : Motion) (j i k S : ℕ) → j + k ≡ 2 * i → n_between m j k S ≡ whole_of_last (n_between m i k S)
+pub n_of_last : (m : SweepOf) (j i k S : ℕ) → j + k ≡ 2 * i → n_between m j k S ≡ whole_of_last (n_between m i k S)
 n_of_last m j i k S h =
     let C = axis_at m (pos k) (pos S) in let B = axis_at m (pos i) (pos S) in
     ap (λ a. dot_on_cell a C a C) (axis_at_far m k i j S (turned j i k h)) ∙ dot_last B C B C
 
-pub d_of_first : (m : Motion) (p : List ℤ) (j i k S : ℕ) → j + k ≡ 2 * i → d_between m p j k S ≡ whole_of_first (d_between m p j i S)
+pub d_of_first : (m : SweepOf) (p : List ℤ) (j i k S : ℕ) → j + k ≡ 2 * i → d_between m p j k S ≡ whole_of_first (d_between m p j i S)
 d_of_first m p j i k S h =
     let P = offset_at m p (pos j) (pos S) in let M = offset_at m p (pos i) (pos S) in
     ap (λ q. dot_on_cell P q P q) (offset_at_far m p j i k S h) ∙ dot_first P M P M
 
-pub d_of_last : (m : Motion) (p : List ℤ) (j i k S : ℕ) → j + k ≡ 2 * i → d_between m p j k S ≡ whole_of_last (d_between m p i k S)
+pub d_of_last : (m : SweepOf) (p : List ℤ) (j i k S : ℕ) → j + k ≡ 2 * i → d_between m p j k S ≡ whole_of_last (d_between m p i k S)
 d_of_last m p j i k S h =
     let Q = offset_at m p (pos k) (pos S) in let M = offset_at m p (pos i) (pos S) in
     ap (λ q. dot_on_cell q Q q Q) (offset_at_far m p k i j S (turned j i k h)) ∙ dot_last M Q M Q

@@ -3,7 +3,7 @@
 use Rattle.std.proofs.Common.{◌≡◌, ℕ, [], ◌∷◌, List, ℤ, pos, ◌+ℤ◌, ◌*ℤ◌, ◌-ℤ◌, refl, ap, ◌∙◌}
 use Rattle.space.specs.Vectors.{at, dot, spread}
 use Rattle.bern_form.specs.Forms.{value2, value4, product22, lifted, scaled2, scaled4, difference4}
-use Rattle.space.specs.Motion.{Motion, between, offset, offset_at, axis_at}
+use Rattle.space.specs.Sweeps.{SweepOf, between, offset, offset_at, axis_at}
 use Rattle.bern_form.specs.Cells.{dot_on_cell, start_offset, end_offset, start_axis, end_axis, u_list, n_list, d_list, scaled_square, along_list, across_list}
 use Rattle.space.proofs.Solver.{Term, var, num, add, mul, ring}
 use Rattle.space.proofs.Terms.{sub, dots, from}
@@ -67,7 +67,7 @@ weights S k a b =
     ring (S ∷ k ∷ a ∷ b ∷ []) (add (sub (mul a' S') (mul k' b')) (sub (mul (add k' (num (pos 1))) b') (mul a' S'))) b' refl
 
 -- u, N and D at the time a / b, times the square of S
-pub u_place : (m : Motion) (p : List ℤ) (k S a b : ℕ)
+pub u_place : (m : SweepOf) (p : List ℤ) (k S a b : ℕ)
     → value2 (u_list m p k S) (late S k a b) (early S k a b) ≡ (pos S *ℤ pos S) *ℤ dot (offset_at m p (pos a) (pos b)) (axis_at m (pos a) (pos b))
 u_place m p k S a b =
     let x = late S k a b in let y = early S k a b in
@@ -78,7 +78,7 @@ u_place m p k S a b =
     dot_on_cell_is (start_offset m p k S) (end_offset m p k S) (start_axis m k S) (end_axis m k S) x y
     ∙ dot_scaled (pos S) (at P 0) (at P 1) (at P 2) (at A 0) (at A 1) (at A 2) (at M 0) (at M 1) (at M 2) (at B 0) (at B 1) (at B 2) (o 0) (o 1) (o 2) (e 0) (e 1) (e 2)
 
-pub n_place : (m : Motion) (k S a b : ℕ)
+pub n_place : (m : SweepOf) (k S a b : ℕ)
     → value2 (n_list m k S) (late S k a b) (early S k a b) ≡ (pos S *ℤ pos S) *ℤ dot (axis_at m (pos a) (pos b)) (axis_at m (pos a) (pos b))
 n_place m k S a b =
     let x = late S k a b in let y = early S k a b in
@@ -88,7 +88,7 @@ n_place m k S a b =
     dot_on_cell_is (start_axis m k S) (end_axis m k S) (start_axis m k S) (end_axis m k S) x y
     ∙ dot_scaled (pos S) (at A 0) (at A 1) (at A 2) (at A 0) (at A 1) (at A 2) (at B 0) (at B 1) (at B 2) (at B 0) (at B 1) (at B 2) (e 0) (e 1) (e 2) (e 0) (e 1) (e 2)
 
-pub d_place : (m : Motion) (p : List ℤ) (k S a b : ℕ)
+pub d_place : (m : SweepOf) (p : List ℤ) (k S a b : ℕ)
     → value2 (d_list m p k S) (late S k a b) (early S k a b)
     ≡ (pos S *ℤ pos S) *ℤ dot (offset_at m p (pos a) (pos b)) (offset_at m p (pos a) (pos b))
 d_place m p k S a b =
@@ -149,7 +149,7 @@ across_scaled S b z d n u D N U w e1 e2 e3 e4 =
     cc
 
 -- u^2 - z^2 N and 4 W - dia^2 N at the time a / b, lengths times b, times the fourth power of S
-pub along_place : (m : Motion) (p : List ℤ) (k S a b : ℕ) (z : ℤ)
+pub along_place : (m : SweepOf) (p : List ℤ) (k S a b : ℕ) (z : ℤ)
     → value4 (along_list m p k S z) (late S k a b) (early S k a b)
     ≡ ((pos S *ℤ pos S) *ℤ (pos S *ℤ pos S))
     *ℤ (dot (offset_at m p (pos a) (pos b)) (axis_at m (pos a) (pos b)) *ℤ dot (offset_at m p (pos a) (pos b)) (axis_at m (pos a) (pos b))
@@ -161,7 +161,7 @@ along_place m p k S a b z =
     along_is (scaled_square S z) u n x y
     ∙ along_scaled (pos S) (pos b) z (dot P A) (dot A A) (value2 u x y) (value2 n x y) (x +ℤ y) (u_place m p k S a b) (n_place m k S a b) (weights (pos S) (pos k) (pos a) (pos b))
 
-pub across_place : (m : Motion) (p : List ℤ) (k S a b : ℕ) (z : ℤ)
+pub across_place : (m : SweepOf) (p : List ℤ) (k S a b : ℕ) (z : ℤ)
     → value4 (across_list m p k S z) (late S k a b) (early S k a b)
     ≡ ((pos S *ℤ pos S) *ℤ (pos S *ℤ pos S))
     *ℤ (pos 4 *ℤ spread (offset_at m p (pos a) (pos b)) (axis_at m (pos a) (pos b)) -ℤ ((pos b *ℤ z) *ℤ (pos b *ℤ z)) *ℤ dot (axis_at m (pos a) (pos b)) (axis_at m (pos a) (pos b)))

@@ -4,7 +4,7 @@ use Rattle.std.proofs.lemmas.Int.{ints}
 use Rattle.std.proofs.Math.Nat.{le_of_mul-le-mul_left}
 use borrow.Author.Differences.{abs_is}
 use Rattle.space.specs.Vectors.{at, dot, spread}
-use Rattle.space.specs.Motion.{Motion, IsSweep, IsTime, offset, offset_at, axis_at}
+use Rattle.space.specs.Sweeps.{SweepOf, IsSweep, IsTime, offset, offset_at, axis_at}
 use Rattle.bern_form.specs.Slab.{SlabSize}
 use Rattle.bern_form.proofs.Relations.{HoldsAt}
 use Rattle.space.proofs.ReachLemmas.{InReach, IsNear, IsNearEither, near_both}
@@ -91,7 +91,7 @@ positive zero h = absurd (h refl)
 positive (suc n) h = omega arith
 
 -- The place that a slab covers is no further from the tip than hi + dia
-pub held_within : (s : SlabSize) (hi dia : ℕ) (m : Motion) (p : List ℤ) (a b : ℕ) → s.hi ≡ pos hi → s.dia ≡ pos dia → IsSweep m → IsTime a b → HoldsAt s m p a b
+pub held_within : (s : SlabSize) (hi dia : ℕ) (m : SweepOf) (p : List ℤ) (a b : ℕ) → s.hi ≡ pos hi → s.dia ≡ pos dia → IsSweep m → IsTime a b → HoldsAt s m p a b
     → InReach (pos (hi + dia)) m.from m.to p
 held_within s hi dia m p a b eh ed sweep time c =
     let P = offset_at m p (pos a) (pos b) in let A = axis_at m (pos a) (pos b) in

@@ -3,7 +3,7 @@ use Rattle.std.proofs.Common.{◌≡◌, ℕ, zero, suc, ◌+◌, ◌*◌, ◌-�
 use Rattle.std.specs.List.{All}
 use Rattle.bern_form.specs.Forms.{IsSmall, product11, product22, lifted, sum2, scaled2, scaled4, difference4}
 use Rattle.space.specs.Vectors.{at, dot}
-use Rattle.space.specs.Motion.{Motion, IsSweep, axis_at, between, offset, offset_at}
+use Rattle.space.specs.Sweeps.{SweepOf, IsSweep, axis_at, between, offset, offset_at}
 use Rattle.space.specs.Ranges.{IsPoint, IsWithin}
 use Rattle.bern_form.specs.Sizes.{IsBounded2, IsBounded4, axis_limit, offset_limit, scale_limit}
 use Rattle.space.proofs.Axis.{rest_is}
@@ -38,14 +38,14 @@ offset_small k S m p f t h a b c =
     omega arith
 
 -- the offset and the axis of a valid sweep at a sample
-pub offset_within : (m : Motion) (p : List ℤ) (k S : ℕ) → IsSweep m → IsPoint p → k ≤ S → S ≤ scale_limit → IsWithin offset_limit (offset_at m p (pos k) (pos S))
+pub offset_within : (m : SweepOf) (p : List ℤ) (k S : ℕ) → IsSweep m → IsPoint p → k ≤ S → S ≤ scale_limit → IsWithin offset_limit (offset_at m p (pos k) (pos S))
 offset_within m p k S h q l s =
     let x = offset_small k S 1000000 (at p 0) (at m.from 0) (at m.to 0) l q.0 h.from.0 h.to.0 in
     let y = offset_small k S 1000000 (at p 1) (at m.from 1) (at m.to 1) l q.1 h.from.1 h.to.1 in
     let z = offset_small k S 1000000 (at p 2) (at m.from 2) (at m.to 2) l q.2 h.from.2 h.to.2 in
     (omega arith, omega arith, omega arith)
 
-pub axis_within : (m : Motion) (k S : ℕ) → IsSweep m → k ≤ S → S ≤ scale_limit → IsWithin axis_limit (axis_at m (pos k) (pos S))
+pub axis_within : (m : SweepOf) (k S : ℕ) → IsSweep m → k ≤ S → S ≤ scale_limit → IsWithin axis_limit (axis_at m (pos k) (pos S))
 axis_within m k S h l s =
     let x = between_small k S 100000 (at m.axis_from 0) (at m.axis_to 0) l h.axis_from.0 h.axis_to.0 in
     let y = between_small k S 100000 (at m.axis_from 1) (at m.axis_to 1) l h.axis_from.1 h.axis_to.1 in

@@ -1,23 +1,23 @@
 -- The part of a move between two samples of a scale S, the times j / S and k / S. The point's offset and the axis are linear
--- there, so u = p.a, n = |a|^2 and d = |p|^2 are forms of degree 2, and the cell rule can be asked of it. Between the samples k
+-- there, so u = p.a, n = |a|^2 and d = |p|^2 are forms of degree 2, and the cell rule applies to it. Between the samples k
 -- and k + 1 it is cell k.
 use Rattle.std.specs.Prelude.{ℕ, List, ℤ, pos, Bool, not, ◌||◌}
 use Rattle.std.specs.List.{list_any}
-use Rattle.space.specs.Motion.{Motion, axis_at, offset_at}
+use Rattle.space.specs.Sweeps.{SweepOf, axis_at, offset_at}
 use Rattle.bern_form.specs.Forms.{all_negative, all_positive, difference4, lifted, product22, scaled2, scaled4}
 use Rattle.bern_form.specs.Slab.{SlabSize}
 use Rattle.bern_form.specs.Cells.{dot_on_cell, scaled_square}
 
 -- the coefficients of u, of n and of d between the samples j and k
-abbrev pub u_between : Motion → List ℤ → ℕ → ℕ → ℕ → List ℤ
+abbrev pub u_between : SweepOf → List ℤ → ℕ → ℕ → ℕ → List ℤ
 u_between m p j k S =
     dot_on_cell (offset_at m p (pos j) (pos S)) (offset_at m p (pos k) (pos S)) (axis_at m (pos j) (pos S)) (axis_at m (pos k) (pos S))
 
-abbrev pub n_between : Motion → ℕ → ℕ → ℕ → List ℤ
+abbrev pub n_between : SweepOf → ℕ → ℕ → ℕ → List ℤ
 n_between m j k S =
     dot_on_cell (axis_at m (pos j) (pos S)) (axis_at m (pos k) (pos S)) (axis_at m (pos j) (pos S)) (axis_at m (pos k) (pos S))
 
-abbrev pub d_between : Motion → List ℤ → ℕ → ℕ → ℕ → List ℤ
+abbrev pub d_between : SweepOf → List ℤ → ℕ → ℕ → ℕ → List ℤ
 d_between m p j k S =
     let first = offset_at m p (pos j) (pos S) in
     let last = offset_at m p (pos k) (pos S) in
@@ -38,9 +38,9 @@ is_excluded_with s S u n d =
     || (all_positive (height_less (scaled_square S s.hi) u n) || all_positive (width_less (scaled_square S s.dia) u n d)))
 
 -- the slab is excluded between the samples j and k
-abbrev pub is_excluded_between : SlabSize → Motion → List ℤ → ℕ → ℕ → ℕ → Bool
+abbrev pub is_excluded_between : SlabSize → SweepOf → List ℤ → ℕ → ℕ → ℕ → Bool
 is_excluded_between s m p j k S = is_excluded_with s S (u_between m p j k S) (n_between m j k S) (d_between m p j k S)
 
 -- some of the slabs is not excluded between the samples j and k
-abbrev pub is_left_between : List SlabSize → Motion → List ℤ → ℕ → ℕ → ℕ → Bool
-is_left_between slabs m p j k S = list_any (λ s. not (is_excluded_between s m p j k S)) slabs
+abbrev pub is_unexcluded_between : List SlabSize → SweepOf → List ℤ → ℕ → ℕ → ℕ → Bool
+is_unexcluded_between slabs m p j k S = list_any (λ s. not (is_excluded_between s m p j k S)) slabs

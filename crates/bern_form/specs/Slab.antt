@@ -1,7 +1,7 @@
 -- A slab of a cutter, and when it holds a point.
 use Rattle.std.specs.Prelude.{ℕ, ℤ, pos, ◌*ℤ◌, ◌≤ℤ◌, int_le, Bool, ◌&&◌, List}
 use Rattle.space.specs.Vectors.{dot, spread}
-use Rattle.space.specs.Motion.{Motion, offset_at, axis_at}
+use Rattle.space.specs.Sweeps.{SweepOf, offset_at, axis_at}
 
 -- the heights above the tip from lo to hi, as far as half of dia from the axis
 pub record SlabSize : Type 0 where
@@ -30,5 +30,5 @@ abbrev pub holds : SlabSize → ℤ → List ℤ → List ℤ → Bool
 holds s b p a = covers s b (dot p a) (dot a a) (spread p a)
 
 -- the slab holds the point p at the time a / b of the move
-abbrev pub holds_at : SlabSize → Motion → List ℤ → ℕ → ℕ → Bool
+abbrev pub holds_at : SlabSize → SweepOf → List ℤ → ℕ → ℕ → Bool
 holds_at s m p a b = holds s (pos b) (offset_at m p (pos a) (pos b)) (axis_at m (pos a) (pos b))

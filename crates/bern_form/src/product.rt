@@ -3,8 +3,8 @@ ghost use Rattle.bern_form.specs.Forms.{IsSmall, value1, value2, value4, product
 
 use crate::form::{Form1, Form2, Form4};
 
-// The conditions of these calls speak of the exact result alone. Its parts may be larger than what fits, so they are added
-// by wrapping steps: where the whole fits, what wrapped comes back.
+// The conditions of these calls are only about the exact result. Its parts may be larger than what fits, so they are added
+// by wrapping steps: where the whole fits, wrapping gives back the exact sum.
 
 /// a * b
 fn product(a: i128, b: i128) -> i128

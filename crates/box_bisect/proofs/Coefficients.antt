@@ -2,7 +2,7 @@
 use Rattle.std.proofs.Common.{◌≤◌, ◌*◌, ℤ, to_z, of_z, unsigned_abs, arith}
 use mir.Syntax.{w128}
 use Rattle.bern_form.specs.Sizes.{offset_limit}
-use Rattle.box_bisect.proofs.Reread.{small_back}
+use Rattle.space.proofs.Reread.{small_back}
 
 -- the first and the last
 pub end_small : (z : ℤ) → unsigned_abs z ≤ 3 * (offset_limit * offset_limit) → unsigned_abs (to_z w128 (of_z w128 z)) ≤ 3 * (offset_limit * offset_limit)

@@ -69,20 +69,20 @@ read_as slabs i x l e = get_or_default slabs i no_slab x l ∙ sym e
 -- by the slab before the one at which the test turns
 pub one_decides : (kept reached : SlabSize → Bool) → GoesUp kept reached → (slabs : List SlabSize) (j i : ℕ) (x : SlabSize) → IsRising slabs → TurnsAt reached slabs j → j ≡ i + 1
     → x ≡ get_or slabs i x → list_any kept slabs ≡ kept x
-one_decides kept reached up slabs j i x rises turn e is =
-    let within = turn.within in let l : i < length slabs = omega (arith, e, within) in
-    decided kept reached up slabs i rises l (turn.before i e) (λ k f m. let same : j ≡ k = omega (arith, e, f) in rw (← same) (turn.after (omega (arith, same, m))))
+one_decides kept reached up slabs j i x rises first_unreached e is =
+    let within = first_unreached.within in let l : i < length slabs = omega (arith, e, within) in
+    decided kept reached up slabs i rises l (first_unreached.before i e) (λ k f m. let same : j ≡ k = omega (arith, e, f) in rw (← same) (first_unreached.after (omega (arith, same, m))))
     ∙ ap kept (read_as slabs i x l is)
 
 -- which passes the test
 pub one_reached : (test : SlabSize → Bool) (slabs : List SlabSize) (j i : ℕ) (x : SlabSize) → TurnsAt test slabs j → j ≡ i + 1 → x ≡ get_or slabs i x → test x ≡ true
-one_reached test slabs j i x turn e is = let within = turn.within in ap test (sym (read_as slabs i x (omega (arith, e, within)) is)) ∙ turn.before i e
+one_reached test slabs j i x first_unreached e is = let within = first_unreached.within in ap test (sym (read_as slabs i x (omega (arith, e, within)) is)) ∙ first_unreached.before i e
 
 -- where it turns at the first slab, none is kept
 pub none_reached : (kept reached : SlabSize → Bool) → GoesUp kept reached → (slabs : List SlabSize) (j : ℕ) → IsRising slabs → TurnsAt reached slabs j → j ≡ 0 → list_any kept slabs ≡ false
-none_reached kept reached up [] j rises turn e = refl
-none_reached kept reached up (s ∷ rest) j rises turn e =
-    none_above kept reached up s rest rises (rw e at (turn.after (omega (arith, e))))
+none_reached kept reached up [] j rises first_unreached e = refl
+none_reached kept reached up (s ∷ rest) j rises first_unreached e =
+    none_above kept reached up s rest rises (rw e at (first_unreached.after (omega (arith, e))))
 
 -- the two steps of a search
 pub turned_up : (test : SlabSize → Bool) (slabs : List SlabSize) (low high middle : ℕ) (x : SlabSize) → TurnsBetween test slabs low high → middle < high → x ≡ get_or slabs middle x → test x ≡ true

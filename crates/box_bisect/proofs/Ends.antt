@@ -5,7 +5,7 @@ use Rattle.space.specs.Vectors.{at}
 use Rattle.bern_form.specs.Sizes.{IsBounded2, axis_limit, offset_limit}
 use Rattle.bern_form.specs.Slab.{SlabSize}
 use Rattle.box_bisect.specs.SlabTests.{is_held_with, some_covers}
-use Rattle.box_bisect.proofs.Reread.{back_of}
+use Rattle.space.proofs.Reread.{back_of}
 
 -- by what the coefficients are at the end, and what the sample has
 held_by : (i : ℕ) (slabs : List SlabSize) (S s : ℕ) (u n d : List ℤ) (x y w : ℤ)

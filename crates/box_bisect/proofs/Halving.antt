@@ -5,7 +5,7 @@ use mir.Syntax.{w128}
 use Rattle.space.proofs.Facts.{fits128}
 use Rattle.space.proofs.Naturals.{abs_add, abs_mul}
 use borrow.Author.Differences.{abs_is}
-use Rattle.space.specs.Motion.{Motion}
+use Rattle.space.specs.Sweeps.{SweepOf}
 use Rattle.space.specs.Vectors.{at}
 use Rattle.bern_form.specs.Between.{d_between, n_between, u_between}
 use Rattle.bern_form.specs.Sizes.{IsBounded2, offset_limit}
@@ -49,7 +49,7 @@ halved_last h =
     let a = at h 0 in let b = at h 1 in let c = at h 2 in
     same3 _ _ _ _ _ _ (quarter_of _ a (last_middle a b c)) (half_of _ b (last_second b c)) refl
 
-pub forms_of_first : (u n d : List ℤ) (m : Motion) (p : List ℤ) (j i k S : ℕ) → j + k ≡ 2 * i → AreFormsBetween u n d m p j k S
+pub forms_of_first : (u n d : List ℤ) (m : SweepOf) (p : List ℤ) (j i k S : ℕ) → j + k ≡ 2 * i → AreFormsBetween u n d m p j k S
     → AreFormsBetween (first_half u) (first_half n) (first_half d) m p j i S
 forms_of_first u n d m p j i k S h f = record {
   u_is = ap first_half (f.u_is ∙ u_of_first m p j i k S h) ∙ halved_first (u_between m p j i S);
@@ -57,7 +57,7 @@ forms_of_first u n d m p j i k S h f = record {
   d_is = ap first_half (f.d_is ∙ d_of_first m p j i k S h) ∙ halved_first (d_between m p j i S);
 }
 
-pub forms_of_last : (u n d : List ℤ) (m : Motion) (p : List ℤ) (j i k S : ℕ) → j + k ≡ 2 * i → AreFormsBetween u n d m p j k S
+pub forms_of_last : (u n d : List ℤ) (m : SweepOf) (p : List ℤ) (j i k S : ℕ) → j + k ≡ 2 * i → AreFormsBetween u n d m p j k S
     → AreFormsBetween (last_half u) (last_half n) (last_half d) m p i k S
 forms_of_last u n d m p j i k S h f = record {
   u_is = ap last_half (f.u_is ∙ u_of_last m p j i k S h) ∙ halved_last (u_between m p i k S);

@@ -11,7 +11,7 @@ use Rattle.bern_form.specs.Cells.{scaled_square}
 use Rattle.bern_form.specs.Forms.{all_negative, all_positive, difference4, scaled4}
 use Rattle.bern_form.specs.Slab.{SlabSize}
 use Rattle.bern_form.proofs.Decided.{decides_positive}
-use Rattle.box_bisect.specs.SlabTests.{is_below_by, is_excluded_by, is_left_by, is_past_by}
+use Rattle.box_bisect.specs.SlabTests.{is_below_by, is_excluded_by, is_past_by, is_unexcluded_by}
 use Rattle.box_bisect.proofs.Deciding.{GoesUp}
 use Rattle.box_bisect.proofs.Raised.{all_over, all_under, less_or_not, not_over, not_under}
 
@@ -106,5 +106,5 @@ behind_one true p e = refl
 behind_one false p e = cc
 
 -- behind the tip none is left
-pub none_ahead : (S : ℕ) (behind : Bool) (raised height width : List ℤ) (slabs : List SlabSize) → behind ≡ true → is_left_by S behind raised height width slabs ≡ false
+pub none_ahead : (S : ℕ) (behind : Bool) (raised height width : List ℤ) (slabs : List SlabSize) → behind ≡ true → is_unexcluded_by S behind raised height width slabs ≡ false
 none_ahead S behind raised height width slabs e = list_any_none _ slabs (λ k d l. behind_one behind _ e)

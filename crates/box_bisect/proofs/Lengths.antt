@@ -4,7 +4,7 @@ use Rattle.std.proofs.lemmas.Int.{ints}
 use borrow.Author.Differences.{abs_is}
 use mir.Syntax.{w32}
 use Rattle.bern_form.specs.Slab.{IsSlab, SlabSize}
-use Rattle.box_bisect.proofs.Reread.{small_back}
+use Rattle.space.proofs.Reread.{small_back}
 
 length_small : (z : ℤ) → pos 0 ≤ℤ z → z ≤ℤ pos 300000 → unsigned_abs (to_z w32 (of_z w32 z)) ≤ 300000
 length_small z h k = small_back w32 z 300000 (omega arith) (omega (arith, ints, abs_is z, h, k))

@@ -10,15 +10,13 @@ pub mod Fitting
 pub mod Marking
 pub mod RayFitting
 pub mod RayFlags
-pub mod RayMixed
-pub mod RayExcluded
 pub mod RayLines
 pub mod RayRaising
 pub mod RayCounting
 pub mod RayTests
 pub mod RayHalves
 pub mod RayWhole
-pub mod Reread
+pub mod RayMet
 pub mod Lengths
 pub mod Ends
 pub mod SlabBySlab

@@ -6,8 +6,6 @@ use Rattle.std.proofs.lemmas.Bool.{cases_lt}
 use Rattle.std.proofs.lemmas.Bool.Decides.{not_from_Decides}
 use Rattle.space.proofs.Tests.{decides_lt}
 use Rattle.space.specs.Vectors.{at}
-use Rattle.space.proofs.Solver.{Term, var, num, add, mul, ring}
-use Rattle.space.proofs.Terms.{from}
 use Rattle.bern_form.specs.Forms.{all_negative, all_positive, difference4, lifted, product22, scaled2, scaled4}
 use Rattle.bern_form.specs.Between.{is_excluded_with}
 use Rattle.bern_form.specs.Cells.{scaled_square}
@@ -15,32 +13,11 @@ use Rattle.bern_form.specs.Slab.{SlabSize}
 use Rattle.bern_form.proofs.Decided.{decides_negative, decides_positive, says_no}
 use Rattle.bern_form.proofs.HalfSigns.{all_five}
 use Rattle.bern_form.proofs.Relations.{AllNegative, AllPositive}
-use Rattle.box_bisect.specs.SlabTests.{is_excluded_by, is_left_by, is_left_with, width_of}
+use Rattle.box_bisect.specs.SlabTests.{is_excluded_by, is_unexcluded_by, is_unexcluded_with, width_of}
 use Rattle.box_bisect.specs.Sides.{all_on, is_on}
 use Rattle.box_bisect.specs.declared.compare.Side.{Side}
 use Rattle.box_bisect.specs.declared.compare.Side.TheVariants.{Above, Below}
-
-same5 : (a b c d e f g h i j : ℤ) → a ≡ f → b ≡ g → c ≡ h → d ≡ i → e ≡ j → a ∷ b ∷ c ∷ d ∷ e ∷ [] ≡ f ∷ g ∷ h ∷ i ∷ j ∷ []
-same5 a b c d e f g h i j p q r s t =
-    ap (λ z. z ∷ b ∷ c ∷ d ∷ e ∷ []) p ∙ ap (λ z. f ∷ z ∷ c ∷ d ∷ e ∷ []) q ∙ ap (λ z. f ∷ g ∷ z ∷ d ∷ e ∷ []) r ∙ ap (λ z. f ∷ g ∷ h ∷ z ∷ e ∷ []) s ∙ ap (λ z. f ∷ g ∷ h ∷ i ∷ z ∷ []) t
-
-abbrev ones : ℕ → Term
-ones zero = num (pos 1)
-ones (suc zero) = num (pos 2)
-ones (suc (suc k)) = num (pos 1)
-
-abbrev conv : (ℕ → Term) → (ℕ → Term) → ℕ → Term
-conv a b zero = mul (a 0) (b 0)
-conv a b (suc zero) = add (mul (a 0) (b 1)) (mul (a 1) (b 0))
-conv a b (suc (suc zero)) = add (add (mul (a 0) (b 2)) (mul (a 1) (b 1))) (mul (a 2) (b 0))
-conv a b (suc (suc (suc zero))) = add (mul (a 1) (b 2)) (mul (a 2) (b 1))
-conv a b (suc (suc (suc (suc k)))) = mul (a 2) (b 2)
-
-pub raised_is : (f : ℤ) (n : List ℤ) → scaled4 f (lifted n) ≡ lifted (scaled2 f n)
-raised_is f n =
-    let e = at n 0 ∷ at n 1 ∷ at n 2 ∷ f ∷ [] in let F = var 3 in
-    let x = λ (k : ℕ). mul F (conv (from 0) ones k) in let y = conv (λ k. mul F (var k)) ones in
-    same5 _ _ _ _ _ _ _ _ _ _ (ring e (x 0) (y 0) refl) (ring e (x 1) (y 1) refl) (ring e (x 2) (y 2) refl) (ring e (x 3) (y 3) refl) (ring e (x 4) (y 4) refl)
+use Rattle.ray_boxes.proofs.Raised.{raised_is}
 
 pub excluded_is : (s : SlabSize) (S : ℕ) (u n d : List ℤ)
     → is_excluded_by S (all_negative u) (lifted n) (product22 u u) (width_of u n d) s ≡ is_excluded_with s S u n d
@@ -53,7 +30,7 @@ excluded_is s S u n d =
     ∙ ap (λ l. all_negative u || (low (lifted (scaled2 lo n)) || (high (lifted (scaled2 hi n)) || side l))) (raised_is dia n)
 
 pub left_is : (slabs : List SlabSize) (S : ℕ) (u n d : List ℤ)
-    → is_left_by S (all_negative u) (lifted n) (product22 u u) (width_of u n d) slabs ≡ is_left_with slabs S u n d
+    → is_unexcluded_by S (all_negative u) (lifted n) (product22 u u) (width_of u n d) slabs ≡ is_unexcluded_with slabs S u n d
 left_is slabs S u n d = λ i. list_any (λ s. not (excluded_is s S u n d i)) slabs
 
 -- coefficients compared one by one
@@ -125,8 +102,8 @@ one_not_on Above c r f i l h = not_over c r f i l (not_less (f *ℤ at r i) (at 
 
 -- what is kept between two samples gives the test by the forms
 pub left_of : (slabs : List SlabSize) (S kept : ℕ) (behind : Bool) (raised height width u n d : List ℤ) → kept ≡ S → behind ≡ all_negative u → raised ≡ lifted n → height ≡ product22 u u
-    → width ≡ width_of u n d → is_left_by kept behind raised height width slabs ≡ is_left_with slabs S u n d
+    → width ≡ width_of u n d → is_unexcluded_by kept behind raised height width slabs ≡ is_unexcluded_with slabs S u n d
 left_of slabs S kept behind raised height width u n d eS eb er eh ew =
     let W = width_of u n d in
-    ap (λ z. is_left_by z behind raised height width slabs) eS ∙ ap (λ z. is_left_by S z raised height width slabs) eb ∙ ap (λ z. is_left_by S (all_negative u) z height width slabs) er
-    ∙ ap (λ z. is_left_by S (all_negative u) (lifted n) z width slabs) eh ∙ ap (λ z. is_left_by S (all_negative u) (lifted n) (product22 u u) z slabs) ew ∙ left_is slabs S u n d
+    ap (λ z. is_unexcluded_by z behind raised height width slabs) eS ∙ ap (λ z. is_unexcluded_by S z raised height width slabs) eb ∙ ap (λ z. is_unexcluded_by S (all_negative u) z height width slabs) er
+    ∙ ap (λ z. is_unexcluded_by S (all_negative u) (lifted n) z width slabs) eh ∙ ap (λ z. is_unexcluded_by S (all_negative u) (lifted n) (product22 u u) z slabs) ew ∙ left_is slabs S u n d

@@ -27,7 +27,7 @@ weight_undecided : (t : ℕ → ℕ → ℕ → ℕ → Bool) (h n j a b : ℕ) 
 unfolding weight
 weight_undecided t h n j a b undecided = chosen (t n j a b) (1 + over_children (weight t h) n j a b) 0 undecided
 
--- the test of the box alone, or with what its children cost
+-- only the test of the box, or with what its children cost
 pub cost_decided : (x y l w : ℕ) → y ≤ x + l → y ≤ x + l * (1 + 4 * w)
 cost_decided x y l w h = omega (arith, h)
 
@@ -51,7 +51,7 @@ cost_halves w a b x y z l many h g =
     let u = w a (middle a b) in let v = w (middle a b) b in
     subst (λ k. z ≤ x + l * (2 + 4 * k)) (sym (along_both w a b many)) (omega (arith, h, g))
 
--- the children of a box: none of a point on a cell, whose samples are tried instead, or halves along the ray, or in time
+-- the children of a box: none of a point on a cell, whose samples are tested instead, or halves along the ray, or in time
 pub cost_samples : (x y l i c : ℕ) → i ≤ l → y ≤ x + 2 * i → y ≤ x + l * (4 * (1 + c))
 cost_samples x y l i c few h = omega (arith, few, h)
 

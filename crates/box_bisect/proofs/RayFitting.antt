@@ -6,7 +6,7 @@ use Rattle.bern_form.specs.Grids.{columns42}
 use Rattle.bern_form.specs.Sizes.{IsBounded2, IsBounded4, axis_limit, length_limit, offset_limit}
 use Rattle.bern_form.proofs.Sizes.{difference4_bounded, product22_bounded, scaled4_bounded}
 use Rattle.axis_cells.proofs.Bounds.{list4, more4}
-use Rattle.box_bisect.specs.RayBoxes.{grid_less, height_column, width_column}
+use Rattle.ray_boxes.specs.Boxes.{grid_less, height_column, width_column}
 use Rattle.box_bisect.specs.RaySizes.{column_limit}
 
 -- a coefficient of a product of two forms
@@ -40,7 +40,7 @@ height_fits u v hu hv =
       twice_small = more4 (2 * product_limit) column_limit (height_column (pos 2) u v) (omega arith) twice;
     }
 
--- and those of so many times d n - u v
+-- and those of d n - u v times a number
 pub record WidthFits (times : ℤ) (d n u v : List ℤ) : Type 0 where
   pub both : All IsSmall (product22 d n)
   pub squares : All IsSmall (product22 u v)

@@ -3,19 +3,21 @@ use Rattle.std.proofs.Common.{◌≡◌, Bool, true, false, not, ℕ, ◌+◌, �
 use Rattle.std.specs.List.{list_any}
 use Rattle.std.proofs.lemmas.Bool.{cases_Bool, cases_lt}
 use Rattle.std.proofs.lemmas.List.{get_or-set_other, get_or-set_same}
-use Rattle.space.specs.Motion.{Motion}
-use Rattle.bern_form.specs.Between.{is_left_between, n_between, u_between, d_between}
-use Rattle.bern_form.specs.Marks.{is_left_on, some_holds}
+use Rattle.space.specs.Sweeps.{SweepOf}
+use Rattle.bern_form.specs.Between.{is_unexcluded_between, n_between, u_between, d_between}
+use Rattle.bern_form.specs.Marks.{is_unexcluded_on, some_holds}
 use Rattle.bern_form.specs.Slab.{SlabSize}
 use Rattle.axis_cells.specs.declared.mark.Mark.{Mark}
 use Rattle.axis_cells.specs.declared.mark.Mark.TheVariants.{Clear, Possible, Removed}
-use Rattle.box_bisect.specs.Between.{IsFreeBetween, IsHeldBetween, IsLeftWithin, IsMarkBetween}
-use Rattle.box_bisect.specs.RayBoxes.{is_excluded_in_box, is_undecided}
+use Rattle.box_bisect.specs.Between.{IsFreeBetween, IsHeldBetween, IsMarkBetween, IsUnexcludedWithin}
+use Rattle.ray_boxes.specs.Boxes.{is_excluded_in_box}
+use Rattle.box_bisect.specs.RayBoxes.{is_undecided}
 use Rattle.box_bisect.specs.RayMarks.{AreRaised, IsRaised, greater_mark, mark_at, mark_by_samples}
 use Rattle.box_bisect.specs.Stretches.{AreFormsBetween}
 use Rattle.box_bisect.proofs.Searching.{dropped, free_both, held_early, held_late, left_early, left_late, out_both, two_samples}
-use Rattle.box_bisect.proofs.RayExcluded.{none_left_alone}
-use Rattle.box_bisect.proofs.RayLines.{IsLine, decided_at}
+use Rattle.ray_boxes.proofs.Excluded.{none_left_alone}
+use Rattle.ray_boxes.proofs.Lines.{IsLine}
+use Rattle.box_bisect.proofs.RayLines.{decided_at}
 
 -- the greater mark
 pub greater_clear : (x : Mark) → x ≡ greater_mark x Clear
@@ -35,7 +37,7 @@ greater_twice Possible Clear Clear = refl
 greater_twice Clear y z = refl
 
 -- the mark between the samples j and k from those between j and i, and i and k
-pub both_marks : (early late : Mark) (inner outer : List SlabSize) (m : Motion) (p : List ℤ) (j i k S : ℕ) → j ≤ i → i ≤ k
+pub both_marks : (early late : Mark) (inner outer : List SlabSize) (m : SweepOf) (p : List ℤ) (j i k S : ℕ) → j ≤ i → i ≤ k
     → IsMarkBetween early inner outer m p j i S → IsMarkBetween late inner outer m p i k S → IsMarkBetween (greater_mark early late) inner outer m p j k S
 both_marks Removed late inner outer m p j i k S l h a b = held_early inner m p j i k S h a
 both_marks Possible Removed inner outer m p j i k S l h a b = held_late inner m p j i k S l b
@@ -46,7 +48,7 @@ both_marks Clear Possible inner outer m p j i k S l h a b = (free_both inner m p
 both_marks Clear Clear inner outer m p j i k S l h a b = (free_both inner m p j i k S a.0 b.0, out_both outer m p j i k S a.1 b.1)
 
 -- where the box is decided
-pub raised_none : (inner outer : List SlabSize) (m : Motion) (point : ℕ → List ℤ) (S n j a b : ℕ) (marks : List Mark) → IsLine point → 0 < S
+pub raised_none : (inner outer : List SlabSize) (m : SweepOf) (point : ℕ → List ℤ) (S n j a b : ℕ) (marks : List Mark) → IsLine point → 0 < S
     → ((p : List ℤ) (i : ℕ) → some_holds inner m p i S ≡ true → some_holds outer m p i S ≡ true) → is_undecided outer m point S n j a b ≡ false
     → AreRaised inner outer m point S j (j + 2 ^ n) a b marks marks
 raised_none inner outer m point S n j a b marks line some enclosed decided = record {
@@ -71,14 +73,14 @@ chosen b x y h = cc
 other : (b : Bool) (x y : Mark) → b ≡ false → (if b then x else y) ≡ y
 other b x y h = cc
 
-left_alone : (outer : List SlabSize) (m : Motion) (point : ℕ → List ℤ) (S j a : ℕ) → is_undecided outer m point S 0 j a (a + 1) ≡ true → is_left_on outer m (point a) j S ≡ true
+left_alone : (outer : List SlabSize) (m : SweepOf) (point : ℕ → List ℤ) (S j a : ℕ) → is_undecided outer m point S 0 j a (a + 1) ≡ true → is_unexcluded_on outer m (point a) j S ≡ true
 left_alone outer m point S j a undecided =
     let last : (a + 1) - 1 ≡ a = omega arith in
     ⊎_elim (λ left. left)
     (λ out. absurd (no_both (is_undecided outer m point S 0 j a (a + 1)) (subst (λ q. list_any (λ s. not (is_excluded_in_box m (point a) (point q) j (j + 1) S s)) outer ≡ false) (sym last) (none_left_alone outer m (point a) j (j + 1) S out)) undecided))
-    (cases_Bool (is_left_between outer m (point a) j (j + 1) S))
+    (cases_Bool (is_unexcluded_between outer m (point a) j (j + 1) S))
 
-sample_mark : (inner outer : List SlabSize) (m : Motion) (p : List ℤ) (S j : ℕ) → is_left_on outer m p j S ≡ true → IsMarkBetween (mark_by_samples inner m p j (j + 1) S) inner outer m p j (j + 1) S
+sample_mark : (inner outer : List SlabSize) (m : SweepOf) (p : List ℤ) (S j : ℕ) → is_unexcluded_on outer m p j S ≡ true → IsMarkBetween (mark_by_samples inner m p j (j + 1) S) inner outer m p j (j + 1) S
 sample_mark inner outer m p S j left =
     let last = some_holds inner m p (j + 1) S in let first = some_holds inner m p j S in
     let held = λ (i : ℕ) (after : j ≤ i) (before : i ≤ j + 1) (h : some_holds inner m p i S ≡ true). let found : IsHeldBetween inner m p j (j + 1) S = record { sample = i; after = after; before = before; held = h } in found in
@@ -89,12 +91,12 @@ sample_mark inner outer m p S j left =
     (λ early. subst (λ x. IsMarkBetween x inner outer m p j (j + 1) S) (sym (chosen first Removed Possible early)) (held j (omega arith) (omega arith) early))
     (λ neither. subst (λ x. IsMarkBetween x inner outer m p j (j + 1) S) (sym (other first Removed Possible neither))
     (let free : IsFreeBetween inner m p j (j + 1) S = record { none = λ i after before. two_samples (λ i. some_holds inner m p i S ≡ false) j i neither none after before } in
-    let cell : IsLeftWithin outer m p j (j + 1) S = record { cell = j; after = omega arith; before = omega arith; left = left } in
+    let cell : IsUnexcludedWithin outer m p j (j + 1) S = record { cell = j; after = omega arith; before = omega arith; left = left } in
     (free, cell)))
     (cases_Bool first)))
     (cases_Bool last)
 
-raised_alone : (inner outer : List SlabSize) (m : Motion) (point : ℕ → List ℤ) (S j a : ℕ) (marks : List Mark) (mark : Mark) → a < length marks
+raised_alone : (inner outer : List SlabSize) (m : SweepOf) (point : ℕ → List ℤ) (S j a : ℕ) (marks : List Mark) (mark : Mark) → a < length marks
     → is_undecided outer m point S 0 j a (a + 1) ≡ true → mark ≡ mark_by_samples inner m (point a) j (j + 1) S
     → AreRaised inner outer m point S j (j + 1) a (a + 1) marks (set marks a (greater_mark (mark_at marks a) mark))
 raised_alone inner outer m point S j a marks mark within undecided e = record {
@@ -109,7 +111,7 @@ raised_alone inner outer m point S j a marks mark within undecided e = record {
   outside = λ l apart. get_or-set_other marks a l (greater_mark (mark_at marks a) mark) Clear (λ e. ⊎_elim (λ before. omega (arith, before, e)) (λ after. omega (arith, after, e)) apart);
 }
 
-pub raised_cell : (inner outer : List SlabSize) (m : Motion) (point : ℕ → List ℤ) (S n j a b : ℕ) (marks : List Mark) (mark : Mark) → n ≡ 0 → b ≡ a + 1 → a < length marks
+pub raised_cell : (inner outer : List SlabSize) (m : SweepOf) (point : ℕ → List ℤ) (S n j a b : ℕ) (marks : List Mark) (mark : Mark) → n ≡ 0 → b ≡ a + 1 → a < length marks
     → is_undecided outer m point S n j a b ≡ true → mark ≡ mark_by_samples inner m (point a) j (j + 2 ^ n) S
     → AreRaised inner outer m point S j (j + 2 ^ n) a b marks (set marks a (greater_mark (mark_at marks a) mark))
 raised_cell inner outer m point S n j a b marks mark en eb within undecided e =
@@ -119,8 +121,8 @@ raised_cell inner outer m point S n j a b marks mark en eb within undecided e =
     (raised_alone inner outer m point S j a marks mark within (subst (λ i. is_undecided outer m point S i j a (a + 1) ≡ true) en (subst (λ i. is_undecided outer m point S n j a i ≡ true) eb undecided))
     (subst (λ i. mark ≡ mark_by_samples inner m (point a) j (j + 2 ^ i) S) en e)))
 
--- two parts beside each other along the ray
-pub raised_beside : (inner outer : List SlabSize) (m : Motion) (point : ℕ → List ℤ) (S j k a c b : ℕ) (old between new : List Mark) → a ≤ c → c ≤ b
+-- two parts next to each other along the ray
+pub raised_beside : (inner outer : List SlabSize) (m : SweepOf) (point : ℕ → List ℤ) (S j k a c b : ℕ) (old between new : List Mark) → a ≤ c → c ≤ b
     → AreRaised inner outer m point S j k a c old between → AreRaised inner outer m point S j k c b between new → AreRaised inner outer m point S j k a b old new
 raised_beside inner outer m point S j k a c b old between new h g one two = record {
   inside = λ l after before.
@@ -133,7 +135,7 @@ raised_beside inner outer m point S j k a c b old between new h g one two = reco
 }
 
 -- and one after the other in time
-raised_twice : (inner outer : List SlabSize) (m : Motion) (p : List ℤ) (S j i k : ℕ) (old between new : Mark) → j ≤ i → i ≤ k
+raised_twice : (inner outer : List SlabSize) (m : SweepOf) (p : List ℤ) (S j i k : ℕ) (old between new : Mark) → j ≤ i → i ≤ k
     → IsRaised inner outer m p S j i old between → IsRaised inner outer m p S i k between new → IsRaised inner outer m p S j k old new
 raised_twice inner outer m p S j i k old between new h g one two = record {
   found = greater_mark one.found two.found;
@@ -141,7 +143,7 @@ raised_twice inner outer m p S j i k old between new h g one two = record {
   raised = two.raised ∙ ap (λ x. greater_mark x two.found) one.raised ∙ greater_twice old one.found two.found;
 }
 
-pub raised_after : (inner outer : List SlabSize) (m : Motion) (point : ℕ → List ℤ) (S j i k a b : ℕ) (old between new : List Mark) → j ≤ i → i ≤ k
+pub raised_after : (inner outer : List SlabSize) (m : SweepOf) (point : ℕ → List ℤ) (S j i k a b : ℕ) (old between new : List Mark) → j ≤ i → i ≤ k
     → AreRaised inner outer m point S j i a b old between → AreRaised inner outer m point S i k a b between new → AreRaised inner outer m point S j k a b old new
 raised_after inner outer m point S j i k a b old between new h g one two = record {
   inside = λ l after before. raised_twice inner outer m (point l) S j i k (mark_at old l) (mark_at between l) (mark_at new l) h g (one.inside l after before) (two.inside l after before);

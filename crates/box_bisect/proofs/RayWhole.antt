@@ -4,9 +4,9 @@ use Rattle.std.proofs.lemmas.Bool.{cases_Bool, cases_lt}
 use Rattle.std.proofs.lemmas.Bool.Decides.{nat_tests}
 use Rattle.std.proofs.lemmas.List.{ext_get_or, get_or-replicate, get_or_past, length-replicate}
 use Rattle.std.proofs.lemmas.List.FromFn.{get_or-map-range_with_len, length-map-range_with_len}
-use Rattle.space.specs.Motion.{Motion}
 use Rattle.space.specs.Reach.{is_in_reach}
-use Rattle.bern_form.specs.Marks.{held_at_sample, is_possible}
+use Rattle.space.specs.Sweeps.{SweepOf}
+use Rattle.bern_form.specs.Marks.{held_at_sample, is_possible_with}
 use Rattle.bern_form.specs.Slab.{SlabSize}
 use Rattle.vf_spans.specs.Members.{has}
 use Rattle.ray_grid.specs.Selects.{Selects}
@@ -32,7 +32,7 @@ same_ends P a b c d s t some =
     (omega (arith, first.0, first'.0), omega (arith, last.1, last'.1, first.1, some))
 
 -- the marks of the first n points
-pub record AreMarks (inner outer : List SlabSize) (reach : ℤ) (m : Motion) (point : ℕ → List ℤ) (S n : ℕ) (marks : List Mark) : Type 0 where
+pub record AreMarks (inner outer : List SlabSize) (reach : ℤ) (m : SweepOf) (point : ℕ → List ℤ) (S n : ℕ) (marks : List Mark) : Type 0 where
   pub each : (l : ℕ) → l < n → mark_at marks l ≡ mark_from inner outer reach m (point l) S
 
 outside_of : (P : ℕ → Type 0) (a b l : ℕ) → Selects a b P → ¬ P l → (l < a) ⊎ (b ≤ l)
@@ -41,8 +41,8 @@ outside_of P a b l s none = ⊎_elim (λ low. inl low) (λ after. ⊎_elim (λ b
 no_both : (b : Bool) → b ≡ false → b ≡ true → ⊥
 no_both b e f = cc
 
-pub marks_of : (inner outer : List SlabSize) (reach : ℤ) (m : Motion) (point : ℕ → List ℤ) (S n a b : ℕ) (old new : List Mark) → AreInReach reach m point n a b
-    → ((p : List ℤ) → held_at_sample inner m p S ≡ true → is_possible outer reach m p S ≡ true) → ((l : ℕ) → mark_at old l ≡ Clear)
+pub marks_of : (inner outer : List SlabSize) (reach : ℤ) (m : SweepOf) (point : ℕ → List ℤ) (S n a b : ℕ) (old new : List Mark) → AreInReach reach m point n a b
+    → ((p : List ℤ) → held_at_sample inner m p S ≡ true → is_possible_with outer reach m p S ≡ true) → ((l : ℕ) → mark_at old l ≡ Clear)
     → AreRaised inner outer m point S 0 S a b old new → AreMarks inner outer reach m point S n new
 marks_of inner outer reach m point S n a b old new near both clear raised = record {
   each = λ l lt.
@@ -59,7 +59,7 @@ marks_of inner outer reach m point S n a b old new near both clear raised = reco
 }
 
 -- where there is no box nothing is raised
-pub raised_nowhere : (inner outer : List SlabSize) (m : Motion) (point : ℕ → List ℤ) (S j k a b : ℕ) (marks : List Mark) → a ≡ b → AreRaised inner outer m point S j k a b marks marks
+pub raised_nowhere : (inner outer : List SlabSize) (m : SweepOf) (point : ℕ → List ℤ) (S j k a b : ℕ) (marks : List Mark) → a ≡ b → AreRaised inner outer m point S j k a b marks marks
 raised_nowhere inner outer m point S j k a b marks e = record { inside = λ l after before. absurd (omega (arith, e, after, before)); outside = λ l apart. refl }
 
 -- the flags of marks
@@ -78,20 +78,20 @@ flags_same test point n set size each =
     ext_get_or false set (flags_along test point n) (size ∙ sym (length-map-range_with_len (λ l. test (point l)) 0 n))
     (λ l lt. each l (omega (arith, lt, size)) ∙ sym (get_or-map-range_with_len (λ l. test (point l)) 0 n l l false (omega (arith, lt, size)) (omega arith)))
 
-pub sure_flags : (c : CutterSize) (k : ℕ) (m : Motion) (point : ℕ → List ℤ) (S n : ℕ) (marks : List Mark) (set : List Bool) → length set ≡ n → ((l : ℕ) → has set l ≡ is_removed_mark (mark_at marks l))
+pub sure_flags : (c : CutterSize) (k : ℕ) (m : SweepOf) (point : ℕ → List ℤ) (S n : ℕ) (marks : List Mark) (set : List Bool) → length set ≡ n → ((l : ℕ) → has set l ≡ is_removed_mark (mark_at marks l))
     → AreMarks (inner_stack c k) (outer_stack c k) (pos (reach_of c)) m point S n marks → set ≡ flags_along (λ p. is_sure_by c k m p S) point n
 unfolding is_sure_by
 sure_flags c k m point S n marks set size flags are =
     flags_same (λ p. held_at_sample (inner_stack c k) m p S) point n set size
-    (λ l lt. flags l ∙ ap is_removed_mark (are.each l lt) ∙ removed_flag (held_at_sample (inner_stack c k) m (point l) S) (is_possible (outer_stack c k) (pos (reach_of c)) m (point l) S))
+    (λ l lt. flags l ∙ ap is_removed_mark (are.each l lt) ∙ removed_flag (held_at_sample (inner_stack c k) m (point l) S) (is_possible_with (outer_stack c k) (pos (reach_of c)) m (point l) S))
 
-pub possible_flags : (c : CutterSize) (k : ℕ) (m : Motion) (point : ℕ → List ℤ) (S n : ℕ) (marks : List Mark) (set : List Bool) → length set ≡ n → ((l : ℕ) → has set l ≡ is_possible_mark (mark_at marks l))
-    → ((p : List ℤ) → held_at_sample (inner_stack c k) m p S ≡ true → is_possible (outer_stack c k) (pos (reach_of c)) m p S ≡ true)
+pub possible_flags : (c : CutterSize) (k : ℕ) (m : SweepOf) (point : ℕ → List ℤ) (S n : ℕ) (marks : List Mark) (set : List Bool) → length set ≡ n → ((l : ℕ) → has set l ≡ is_possible_mark (mark_at marks l))
+    → ((p : List ℤ) → held_at_sample (inner_stack c k) m p S ≡ true → is_possible_with (outer_stack c k) (pos (reach_of c)) m p S ≡ true)
     → AreMarks (inner_stack c k) (outer_stack c k) (pos (reach_of c)) m point S n marks → set ≡ flags_along (λ p. is_possible_by c k m p S) point n
 unfolding is_possible_by
 possible_flags c k m point S n marks set size flags both are =
-    flags_same (λ p. is_possible (outer_stack c k) (pos (reach_of c)) m p S) point n set size
-    (λ l lt. flags l ∙ ap is_possible_mark (are.each l lt) ∙ possible_flag (held_at_sample (inner_stack c k) m (point l) S) (is_possible (outer_stack c k) (pos (reach_of c)) m (point l) S) (both (point l)))
+    flags_same (λ p. is_possible_with (outer_stack c k) (pos (reach_of c)) m p S) point n set size
+    (λ l lt. flags l ∙ ap is_possible_mark (are.each l lt) ∙ possible_flag (held_at_sample (inner_stack c k) m (point l) S) (is_possible_with (outer_stack c k) (pos (reach_of c)) m (point l) S) (both (point l)))
 
 -- the steps, by the boxes of the indices in reach
 chosen : (b : Bool) (x y : ℕ) → b ≡ true → (if b then x else y) ≡ x
@@ -100,7 +100,7 @@ chosen b x y h = cc
 below : (a b : ℕ) → a < b → nat_lt a b ≡ true
 below a b h = grind (arith, nat_tests)
 
-pub cost_of_ray : (slabs : List SlabSize) (m : Motion) (point : ℕ → List ℤ) (depth a b x y z l : ℕ) → a < b → is_undecided slabs m point (2 ^ depth) depth 0 a b ≡ true → y ≤ x + l
+pub cost_of_ray : (slabs : List SlabSize) (m : SweepOf) (point : ℕ → List ℤ) (depth a b x y z l : ℕ) → a < b → is_undecided slabs m point (2 ^ depth) depth 0 a b ≡ true → y ≤ x + l
     → z ≤ y + l * (4 * (1 + over_children (weight (is_undecided slabs m point (2 ^ depth)) ((depth + (b - a)) - 1)) depth 0 a b)) → z ≤ x + l * (1 + 4 * undecided_along slabs m point depth a b)
 cost_of_ray slabs m point depth a b x y z l some undecided h g =
     let t = is_undecided slabs m point (2 ^ depth) in
@@ -108,7 +108,7 @@ cost_of_ray slabs m point depth a b x y z l some undecided h g =
     (cost_undecided t (depth + (b - a)) depth 0 a b x y z l (omega (arith, some)) undecided h g)
 
 -- the marks raised at equal stacks and an equal scale
-pub raised_as : (inner outer inner' outer' : List SlabSize) (m : Motion) (point : ℕ → List ℤ) (S S' k a b : ℕ) (old new : List Mark) → inner ≡ inner' → outer ≡ outer' → S ≡ S' → k ≡ S'
+pub raised_as : (inner outer inner' outer' : List SlabSize) (m : SweepOf) (point : ℕ → List ℤ) (S S' k a b : ℕ) (old new : List Mark) → inner ≡ inner' → outer ≡ outer' → S ≡ S' → k ≡ S'
     → AreRaised inner outer m point S 0 k a b old new → AreRaised inner' outer' m point S' 0 S' a b old new
 raised_as inner outer inner' outer' m point S S' k a b old new ei eo eS ek raised =
     subst (λ i. AreRaised inner' outer' m point S' 0 i a b old new) ek
@@ -122,7 +122,7 @@ clear_all n marks e l =
     (cases_lt l n)
 
 -- the steps of a ray whose root is undecided
-pub ray_cost : (outer outer' : List SlabSize) (reach : ℤ) (m : Motion) (point : ℕ → List ℤ) (n scale depth a b low high x y z : ℕ) → AreInReach reach m point n a b → AreInReach reach m point n low high → a ≤ b → ¬ (a ≡ b)
+pub ray_cost : (outer outer' : List SlabSize) (reach : ℤ) (m : SweepOf) (point : ℕ → List ℤ) (n scale depth a b low high x y z : ℕ) → AreInReach reach m point n a b → AreInReach reach m point n low high → a ≤ b → ¬ (a ≡ b)
     → outer ≡ outer' → scale ≡ 2 ^ depth → is_undecided outer m point scale depth 0 a b ≡ true → y ≤ x + length outer
     → ((halvings : ℕ) → depth + (b - a) ≤ halvings + 1 → z ≤ y + length outer * (4 * (1 + over_children (weight (is_undecided outer m point scale) halvings) depth 0 a b)))
     → z ≤ x + length outer' * (1 + 4 * undecided_along outer' m point depth low high)

@@ -34,12 +34,12 @@ abbrev pub is_excluded_by : ℕ → Bool → List ℤ → List ℤ → List ℤ 
 is_excluded_by S behind raised height width s = behind || (is_below_by S raised height s || is_past_by S raised height width s)
 
 -- some of the slabs is not
-abbrev pub is_left_by : ℕ → Bool → List ℤ → List ℤ → List ℤ → List SlabSize → Bool
-is_left_by S behind raised height width slabs = list_any (λ s. not (is_excluded_by S behind raised height width s)) slabs
+abbrev pub is_unexcluded_by : ℕ → Bool → List ℤ → List ℤ → List ℤ → List SlabSize → Bool
+is_unexcluded_by S behind raised height width slabs = list_any (λ s. not (is_excluded_by S behind raised height width s)) slabs
 
 -- some of the slabs is not excluded between two samples, by the coefficients of u, n and d there
-abbrev pub is_left_with : List SlabSize → ℕ → List ℤ → List ℤ → List ℤ → Bool
-is_left_with slabs S u n d = list_any (λ s. not (is_excluded_with s S u n d)) slabs
+abbrev pub is_unexcluded_with : List SlabSize → ℕ → List ℤ → List ℤ → List ℤ → Bool
+is_unexcluded_with slabs S u n d = list_any (λ s. not (is_excluded_with s S u n d)) slabs
 
 -- some of the slabs holds the point at an end of a form's interval, by the coefficients of u, n and d with the number i
 abbrev pub is_held_with : ℕ → List SlabSize → ℕ → List ℤ → List ℤ → List ℤ → Bool

@@ -2,7 +2,7 @@ ghost use Rattle.std.specs.Prelude.{◌≡◌, ◌+◌, ◌≤◌, length, pos};
 ghost use Rattle.cutter_slabs.specs.Rising.{IsRising};
 ghost use Rattle.box_bisect.specs.SlabTests.{is_reached, some_covers};
 
-use crate::turn::{Reaches, turn};
+use crate::slab_search::{Reaches, first_unreached};
 use axis_cells::Sample;
 use bern_form::Slab;
 use std::sync::ledger::Ledger;
@@ -19,7 +19,7 @@ impl Reaches for Sample {
 }
 
 /// Whether some of the slabs holds the point at this sample. The highest that it reaches decides: the point is below the ones above
-/// that, and those below that are no wider. Each slab that is tried is a step.
+/// that, and those below that are no wider. Each slab that is tested is a step.
 pub fn is_covered_by_some<L: Ledger>(sample: &Sample, slabs: &[Slab], steps: &mut Steps<L>) -> bool
     requires { IsRising slabs.now }
     ensures covered { result ≡ some_covers (pos sample.now.scale) sample.now.u sample.now.n sample.now.w slabs.now }
@@ -28,7 +28,7 @@ pub fn is_covered_by_some<L: Ledger>(sample: &Sample, slabs: &[Slab], steps: &mu
     if sample.u < 0 {
         return false;
     }
-    let reached = turn(sample, slabs, 0, slabs.len(), steps);
+    let reached = first_unreached(sample, slabs, 0, slabs.len(), steps);
     if reached == 0 {
         return false;
     }

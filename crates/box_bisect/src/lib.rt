@@ -9,8 +9,8 @@ mod limits;
 mod point;
 mod ray;
 mod search;
+mod slab_search;
 mod stretch;
-mod turn;
 
 pub use point::{mark_point, mark_point_uncounted};
 pub use ray::{RayMarks, mark_ray};

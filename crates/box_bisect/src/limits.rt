@@ -3,11 +3,11 @@ ghost use Rattle.bern_form.specs.Forms.{all_negative, all_positive, difference4,
 ghost use Rattle.bern_form.specs.Cells.{scaled_square};
 ghost use Rattle.bern_form.specs.Sizes.{IsBounded4, axis_limit, length_limit, offset_limit, scale_limit};
 ghost use Rattle.cutter_slabs.specs.Rising.{IsRising};
-ghost use Rattle.box_bisect.specs.SlabTests.{is_below_by, is_excluded_by, is_left_by, is_past_by, width_of};
+ghost use Rattle.box_bisect.specs.SlabTests.{is_below_by, is_excluded_by, is_past_by, is_unexcluded_by, width_of};
 
 use crate::compare::{Side, are_on};
+use crate::slab_search::{Reaches, first_unreached};
 use crate::stretch::Stretch;
-use crate::turn::{Reaches, turn};
 use axis_cells::scaled_square;
 use bern_form::{Form4, Slab, lift24, minus4, scale4, times22};
 use std::sync::ledger::Ledger;
@@ -42,6 +42,7 @@ impl Reaches for Limits {
 }
 
 impl Limits {
+    /// Of the forms of a stretch at this scale, at most 1024.
     pub fn of_stretch(stretch: &Stretch, scale: u32) -> Limits
         requires { scale ≤ scale_limit }
         ensures scale { result.scale ≡ scale }
@@ -96,9 +97,9 @@ impl Limits {
         self.is_past(slab)
     }
 
-    /// Whether some of any slabs is not excluded; each slab that is tried is a step.
+    /// Whether some of any slabs is not excluded; each slab that is tested is a step.
     fn leaves_some_of<L: Ledger>(&self, slabs: &[Slab], steps: &mut Steps<L>) -> bool
-        ensures left { let l = self.now in result ≡ is_left_by l.scale l.is_behind l.raised.c l.height.c l.width.c slabs.now }
+        ensures left { let l = self.now in result ≡ is_unexcluded_by l.scale l.is_behind l.raised.c l.height.c l.width.c slabs.now }
         ensures cost { steps.new ≤ steps.old + length slabs.now }
     {
         for slab in slabs {
@@ -116,20 +117,20 @@ impl Limits {
         requires ahead { self.now.is_behind ≡ false }
         requires positive { all_positive self.now.raised.c ≡ true }
         requires rising { IsRising slabs.now }
-        ensures left { let l = self.now in result ≡ is_left_by l.scale l.is_behind l.raised.c l.height.c l.width.c slabs.now }
+        ensures left { let l = self.now in result ≡ is_unexcluded_by l.scale l.is_behind l.raised.c l.height.c l.width.c slabs.now }
         ensures cost { steps.new ≤ steps.old + length slabs.now }
     {
-        let reached = turn(self, slabs, 0, slabs.len(), steps);
+        let reached = first_unreached(self, slabs, 0, slabs.len(), steps);
         if reached == 0 {
             return false;
         }
         !self.is_past(&slabs[reached - 1])
     }
 
-    /// Whether some of the slabs is not excluded; each slab that is tried is a step.
+    /// Whether some of the slabs is not excluded; each slab that is tested is a step.
     pub fn leaves_some<L: Ledger>(&self, slabs: &[Slab], steps: &mut Steps<L>) -> bool
         requires { IsRising slabs.now }
-        ensures left { let l = self.now in result ≡ is_left_by l.scale l.is_behind l.raised.c l.height.c l.width.c slabs.now }
+        ensures left { let l = self.now in result ≡ is_unexcluded_by l.scale l.is_behind l.raised.c l.height.c l.width.c slabs.now }
         ensures cost { steps.new ≤ steps.old + length slabs.now }
     {
         if self.is_behind {

@@ -1,6 +1,6 @@
 ghost use Rattle.std.specs.Prelude.{◌≡◌, ◌+◌, ◌*◌, ◌^◌, ◌<◌, ◌≤◌, ℕ, ℤ, List, length, pos, true};
-ghost use Rattle.space.specs.Motion.{Motion};
 ghost use Rattle.space.specs.Ranges.{IsPoint};
+ghost use Rattle.space.specs.Sweeps.{SweepOf};
 ghost use Rattle.bern_form.specs.Marks.{some_holds};
 ghost use Rattle.bern_form.specs.Sizes.{scale_limit};
 ghost use Rattle.cutter_slabs.specs.Meets.{MeetsLower, MeetsUpper};
@@ -21,7 +21,7 @@ use std::sync::ledger::{Blank, Ledger};
 use vf_steps::Steps;
 
 /// The mark of the point whose forms these are on a whole move of 2^`depth` cells. Where all outer slabs are excluded on the
-/// whole it is clear; else both ends are tried, and then what is between them.
+/// whole it is clear; else both ends are tested, and then what is between them.
 fn mark_of_whole<L: Ledger>(
     whole: &Stretch,
     inner: &[Slab],
@@ -35,10 +35,10 @@ fn mark_of_whole<L: Ledger>(
     requires as_many { length inner.now ≤ length outer.now }
     requires inner { IsRising inner.now }
     requires outer { IsRising outer.now }
-    ensures mark { (m : Motion) (p : List ℤ) → AreFormsBetween whole.now.u.c whole.now.n.c whole.now.d.c m p 0 scale scale
+    ensures mark { (m : SweepOf) (p : List ℤ) → AreFormsBetween whole.now.u.c whole.now.n.c whole.now.d.c m p 0 scale scale
         → ((i : ℕ) → some_holds inner.now m p i scale ≡ true → some_holds outer.now m p i scale ≡ true)
         → IsMarkBetween result inner.now outer.now m p 0 scale scale }
-    ensures cost { (m : Motion) (p : List ℤ) → AreFormsBetween whole.now.u.c whole.now.n.c whole.now.d.c m p 0 scale scale
+    ensures cost { (m : SweepOf) (p : List ℤ) → AreFormsBetween whole.now.u.c whole.now.n.c whole.now.d.c m p 0 scale scale
         → ((i : ℕ) → some_holds inner.now m p i scale ≡ true → some_holds outer.now m p i scale ≡ true)
         → steps.new ≤ steps.old + length outer.now * (3 + 4 * undecided_from outer.now m p scale depth 0) }
 {
@@ -76,7 +76,7 @@ pub fn mark_point<L: Ledger>(
     ensures cost { let outer = outer_stack stacks.now.cutter stacks.now.slabs in
         steps.new ≤ steps.old + length outer * (3 + 4 * undecided_boxes outer sweep.now point depth) }
 {
-    // A sweep is valid by its type, which is known where a field of it is seen.
+    // Reading a field of the sweep gives the prover its invariant.
     let _valid = &sweep.from;
     let inner = stacks.inner();
     let outer = stacks.outer();
@@ -89,7 +89,7 @@ pub fn mark_point<L: Ledger>(
     mark_of_whole(&whole, inner, outer, scale, depth, steps)
 }
 
-/// The same with a counter made from a blank.
+/// The same with a counter that begins from a blank.
 fn mark_point_from<L: Ledger>(
     sweep: &Sweep,
     stacks: &Stacks,

@@ -1,9 +1,9 @@
 ghost use Rattle.std.specs.Prelude.{◌≡◌, ℕ, ℤ, List, ◌+◌, ◌*◌, ◌^◌, ◌≤◌, length};
-ghost use Rattle.space.specs.Motion.{Motion};
+ghost use Rattle.space.specs.Sweeps.{SweepOf};
 ghost use Rattle.bern_form.specs.Sizes.{scale_limit};
 ghost use Rattle.cutter_slabs.specs.Rising.{IsRising};
 ghost use Rattle.box_bisect.specs.Between.{IsMarkBetween, IsSearched};
-ghost use Rattle.box_bisect.specs.SlabTests.{is_held_with, is_left_with};
+ghost use Rattle.box_bisect.specs.SlabTests.{is_held_with, is_unexcluded_with};
 ghost use Rattle.box_bisect.specs.Boxes.{undecided_from};
 
 use crate::held::is_covered_by_some;
@@ -25,7 +25,7 @@ pub fn is_left<L: Ledger>(
 ) -> bool
     requires scale { scale ≤ scale_limit }
     requires rising { IsRising slabs.now }
-    ensures left { result ≡ is_left_with slabs.now scale stretch.now.u.c stretch.now.n.c stretch.now.d.c }
+    ensures left { result ≡ is_unexcluded_with slabs.now scale stretch.now.u.c stretch.now.n.c stretch.now.d.c }
     ensures cost { steps.new ≤ steps.old + length slabs.now }
 {
     Limits::of_stretch(stretch, scale).leaves_some(slabs, steps)
@@ -66,8 +66,8 @@ pub fn is_held_first<L: Ledger>(
 }
 
 /// The mark of the point whose forms these are on a stretch of 2^`levels` cells, at whose two ends no inner slab holds it. Where
-/// all outer slabs are excluded on the stretch, they are on all its cells, and none of its samples need be tried. Else the sample
-/// in the middle is tried, and then both halves.
+/// all outer slabs are excluded on the stretch, they are on all its cells, and none of its samples need be tested. Else the sample
+/// in the middle is tested, and then both halves.
 pub fn mark_between<L: Ledger>(
     stretch: &Stretch,
     inner: &[Slab],
@@ -80,10 +80,10 @@ pub fn mark_between<L: Ledger>(
     requires as_many { length inner.now ≤ length outer.now }
     requires inner { IsRising inner.now }
     requires outer { IsRising outer.now }
-    ensures mark { let s = stretch.now in (m : Motion) (p : List ℤ) (j : ℕ)
+    ensures mark { let s = stretch.now in (m : SweepOf) (p : List ℤ) (j : ℕ)
         → IsSearched inner.now outer.now s.u.c s.n.c s.d.c m p scale levels j
         → IsMarkBetween result inner.now outer.now m p j (j + 2 ^ levels) scale }
-    ensures cost { let s = stretch.now in (m : Motion) (p : List ℤ) (j : ℕ)
+    ensures cost { let s = stretch.now in (m : SweepOf) (p : List ℤ) (j : ℕ)
         → IsSearched inner.now outer.now s.u.c s.n.c s.d.c m p scale levels j
         → steps.new ≤ steps.old + length outer.now * (1 + 3 * undecided_from outer.now m p scale levels j) }
 {

@@ -8,7 +8,7 @@ use crate::halves::{first_half, last_half};
 use axis_cells::{Pose, Sweep, scalar_product_on_cell};
 use bern_form::Form2;
 
-/// What the tests of a point between two samples of a move stand on. By the point's offset p from the tip and the axis a, which
+/// What the tests of a point between two samples of a move rest on. By the point's offset p from the tip and the axis a, which
 /// are linear there, u = p.a, n = |a|^2 and d = |p|^2 are forms of degree 2. Neither the move nor the point is needed any more:
 /// the forms of each half come from these.
 #[derive(Drop)]

@@ -71,6 +71,6 @@ pub record_part-continued : (line front : List ℕ) (last : ℕ) → without_las
 record_part-continued line front last cut dollar =
     rw (is_continued-last line front last cut, dollar, cut, without_last-push 36 front last, dollar) refl
 
--- a line that isn't continued is a part as it stands
+-- a line that isn't continued is a part unchanged
 pub record_part-whole : (line : List ℕ) → is_continued line ≡ false → record_part line ≡ line
 record_part-whole line whole = rw whole refl

@@ -8,7 +8,7 @@ use Rattle.cl_lines.specs.Texts.{Joined, lead_text, joined_from, text_of, texts_
 use Rattle.cl_lines.specs.declared.fault.ClWhy.TheVariants.{LineLong}
 use Rattle.cl_lines.specs.Comments.{without_comment, is_continued, record_part}
 
--- a line ahead of a line ahead of texts
+-- a line before a line before texts
 lead_text-lead_text : (line number : ℕ) (xs ys : List ℕ) (texts : List Joined) → lead_text line xs (lead_text number ys texts) ≡ lead_text line (xs ++ ys) texts
 lead_text-lead_text line number xs ys [] = refl
 lead_text-lead_text line number xs ys (text ∷ texts) = ap (λ b. record { line = line; bytes = b; dangling = text.dangling } ∷ texts) (sym (append_assoc xs ys text.bytes))
@@ -69,7 +69,7 @@ with_line : (line number : ℕ) (room part : List ℕ) (more : Bool) (texts : Li
 with_line line number room part true texts = lead_text-lead_text line number room part texts
 with_line line number room part false texts = refl
 
--- one line more stands behind those that were joined
+-- one more line after those that were joined
 pub one_line : (line number : ℕ) (room now rest piece behind text part : List ℕ) (more : Bool) (whole : List Joined)
     → whole ≡ lead_text line room (joined_from number (lines_of rest)) → pieces_of rest ≡ piece ∷ pieces_of behind → text ≡ line_of piece
     → part ≡ record_part (without_comment text) → more ≡ is_continued (without_comment text) → now ≡ room ++ part
@@ -85,7 +85,7 @@ one_line line number room now rest piece behind text part more whole so_far cut 
     ∙ with_line line number room part more texts
     ∙ ap (λ (b : List ℕ). cond more (lead_text line b texts) (record { line = line; bytes = b; dangling = false } ∷ texts)) (sym now_is)
 
--- what stands behind a line is shorter than the whole
+-- what comes after a line is shorter than the whole
 pub shorter : (bytes rest piece behind : List ℕ) → rest ≡ piece ++ behind → 0 < length piece → (rest ≡ bytes) ⊎ (length rest < length bytes)
     → length behind < length bytes
 shorter bytes rest piece behind whole some (inl same) = omega (arith, some, ap length same, ap length whole, length-append piece behind)

@@ -12,7 +12,7 @@ nearest-whole q d positive = div-eq_of_lt-le {k = q} (2 * d) (omega arith) (omeg
 pub nearest-small : (n d : ℕ) → 2 * n < d → nearest n d ≡ 0
 nearest-small n d small = div-eq_of_lt (omega arith)
 
--- a common factor goes away
+-- a common factor cancels
 nearest-cancel : (c n d : ℕ) → 0 < c → nearest (n * c) (d * c) ≡ nearest n d
 nearest-cancel c n d positive =
     let above : 2 * (n * c) + d * c ≡ c * (2 * n + d) = omega arith in

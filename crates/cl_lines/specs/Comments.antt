@@ -1,4 +1,4 @@
--- What stands in a line beside a record's text: a comment, and the dollar sign that continues the record.
+-- What a line has besides a record's text: a comment, and the dollar sign that continues the record.
 use Rattle.std.specs.Prelude.{ℕ, ◌==◌, ◌&&◌, Bool, false, List, [], ◌∷◌, if◌then◌else◌}
 use Rattle.vf_text.specs.Blanks.{without_last_blanks}
 use Rattle.vf_text.specs.Lines.{without_last}

@@ -32,12 +32,12 @@ most_digits = 20
 abbrev pub exponent_digits : ℕ
 exponent_digits = 2
 
--- whether a minus sign stands in front, and what follows a sign
+-- whether a minus sign is in front, and what follows a sign
 abbrev pub signed : List ℕ → Bool × List ℕ
 signed [] = (false, [])
 signed (b ∷ bytes) = if b == minus_sign then (true, bytes) else (if b == plus_sign then (false, bytes) else (false, b ∷ bytes))
 
--- the digits behind a point, and what follows them
+-- the digits after a point, and what follows them
 abbrev pub fraction_of : List ℕ → List ℕ × List ℕ
 fraction_of [] = ([], [])
 fraction_of (b ∷ bytes) = if b == decimal_point then digits_of bytes else ([], b ∷ bytes)
@@ -46,7 +46,7 @@ fraction_of (b ∷ bytes) = if b == decimal_point then digits_of bytes else ([],
 abbrev pub power_of : Bool × List ℕ → Option (ℕ × ℕ)
 power_of (negative, digits) = option_map (λ n. if negative then (0, n) else (n, 0)) (number_spelt exponent_digits digits)
 
--- nothing, or E with a power behind it
+-- nothing, or E with a power after it
 abbrev pub exponent_of : List ℕ → Option (ℕ × ℕ)
 exponent_of [] = Some (0, 0)
 exponent_of (b ∷ bytes) = if b == capital_e || b == small_e then power_of (signed bytes) else None

@@ -16,7 +16,7 @@ most_text = 4096
 abbrev pub most_bytes : ℕ
 most_bytes = 67108864
 
--- a line's number with what begins there, or with the fault that stands in its place
+-- a line's number with what begins there, or with the fault that is in its place
 abbrev pub Numbered : Type 0 → Type 0
 Numbered A = ℕ × Result A ClWhy
 
@@ -39,7 +39,7 @@ joined_from number (line ∷ lines) =
     then lead_text number (record_part (without_comment line)) (joined_from (number + 1) lines)
     else record { line = number; bytes = record_part (without_comment line); dangling = false } ∷ joined_from (number + 1) lines
 
--- what joined lines stand for: nothing where they have only blanks, unless they are too long or dangling
+-- what joined lines stand for: nothing where they have only blanks, unless they are too long or the last of them is continued by none
 abbrev pub text_of : Joined → List (Numbered (List ℕ))
 text_of text =
     if nat_lt most_text (length text.bytes) then (text.line, Err LineLong) ∷ []
@@ -54,7 +54,7 @@ texts_from number lines = flat_map text_of (joined_from number lines)
 abbrev pub texts_of : List ℕ → List (Numbered (List ℕ))
 texts_of bytes = texts_from 1 (lines_of bytes)
 
--- the first of the texts is too long; want of memory is free
+-- the first of the texts is too long; running out of memory needs no condition
 abbrev pub IsTooLong : List Joined → Type 0
 IsTooLong [] = ⊥
 IsTooLong (text ∷ texts) = most_text < length text.bytes

@@ -43,7 +43,7 @@ pub(crate) fn number(text: &[u8]) -> Option<Decimal>
     })
 }
 
-/// Whether a minus sign stands in front, and what follows the sign.
+/// Whether a minus sign is in front, and what follows the sign.
 fn behind_sign(text: &[u8]) -> (bool, &[u8])
     ensures sign { result.0 ≡ (signed text.now).0 }
     ensures behind { result.1.now ≡ (signed text.now).1 }
@@ -55,7 +55,7 @@ fn behind_sign(text: &[u8]) -> (bool, &[u8])
     }
 }
 
-/// The digits behind a point, and what follows them.
+/// The digits after a point, and what follows them.
 fn split_fraction(text: &[u8]) -> (&[u8], &[u8])
     ensures run { result.0.now ≡ (fraction_of text.now).0 }
     ensures behind { result.1.now ≡ (fraction_of text.now).1 }
@@ -89,7 +89,7 @@ fn power(text: &[u8]) -> Option<(u32, u32)>
     Some(if negative { (0, size) } else { (size, 0) })
 }
 
-/// The number that the digits ahead of the point and those behind it spell together.
+/// The number that the digits before the point and those after it spell together.
 fn spell_both(whole: &[u8], fraction: &[u8]) -> u128
     requires whole { list_all is_ascii_digit whole.now ≡ true }
     requires fraction { list_all is_ascii_digit fraction.now ≡ true }
@@ -104,10 +104,10 @@ fn spell_both(whole: &[u8], fraction: &[u8]) -> u128
     }
 }
 
-/// Numbers of no more digits are spelt in 64 bits, which is faster.
+/// Numbers of no more digits are computed in 64 bits, which is faster.
 const SHORT_DIGITS: usize = 18;
 
-/// The number that the digits spell behind those of `n`.
+/// The number that the digits spell after those of `n`.
 fn spell_long(n: u128, digits: &[u8]) -> u128
     requires digits { list_all is_ascii_digit digits.now ≡ true }
     requires fits { (n + 1) * 10 ^ length digits.now ≤ 10 ^ most_digits }

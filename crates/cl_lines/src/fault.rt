@@ -16,7 +16,7 @@ pub enum ClWhy {
     Unsupported(Word),
     /// The record has another number of parameters than its word takes.
     ParamCount,
-    /// Something else than a slash follows the word, or a word parameter is none that the record takes.
+    /// Something other than a slash follows the word, or a word parameter is not one that the record takes.
     ParamWord,
     /// A number parameter is not a number.
     NumberSyntax,

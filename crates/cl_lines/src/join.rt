@@ -7,8 +7,8 @@ use crate::text::MAX_TEXT;
 use vf_io::split_line;
 use vf_text::trim_line_end;
 
-/// What stands behind a record's lines: the bytes, the number of their first line, and whether the last
-/// line of the record is continued by none.
+/// What comes after a record's lines: the bytes, the number of their first line, and whether the last
+/// line of the record is continued but no line follows.
 #[derive(Drop)]
 pub(crate) struct Joined<'a> {
     pub(crate) behind: &'a [u8],

@@ -1,7 +1,7 @@
 ghost use Rattle.std.specs.Prelude.{◌≡◌, ◌+◌, ◌*◌, ◌/◌, ◌^◌, ◌<◌, ◌≤◌, MatchOption};
 ghost use Rattle.cl_lines.specs.Rounding.{nearest, scaled};
 
-/// Down from this power of ten every number that is read rounds to 0.
+/// From this power of ten downwards every number that is read rounds to 0.
 const LARGEST_DIVISOR: u32 = 30;
 
 /// digits * factor * 10^up / 10^down to the nearest whole number, halves up, where that is at most `most`.

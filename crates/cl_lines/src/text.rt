@@ -29,7 +29,7 @@ pub struct Text {
     pub bytes: Vec<u8>,
 }
 
-/// A reader of record texts, in the order of their lines. It is seen as the list of those that are left.
+/// A reader of record texts, in the order of their lines. Its value is the list of those that are left.
 #[derive(Drop)]
 pub struct Lines<'a> {
     rest: &'a [u8],
@@ -88,7 +88,7 @@ impl<'a> Lines<'a> {
         }
     }
 
-    /// The next record text that has more than blanks goes in place of what `room` holds; the answer
+    /// The next record text that has more than blanks replaces what `room` holds; the answer
     /// is its line. The reader is unchanged where it gives none.
     pub fn next_into(&mut self, room: &mut Vec<u8>) -> Result<Option<u32>, ClEnd>
         ensures { MatchResult result

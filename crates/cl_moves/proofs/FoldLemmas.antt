@@ -38,7 +38,7 @@ displaced_within from by h =
     let all = three_true (is_coordinate x) (is_coordinate y) (is_coordinate z) h in
     (coordinate_within x all.0, coordinate_within y all.1, coordinate_within z all.2)
 
--- the state that a record made is the one that it gives
+-- the state after a record that was done is the one that it gives
 abbrev done : Fold → Result Fold ClWhy
 done fold = Ok fold
 

@@ -1,4 +1,4 @@
--- When a move is made, and when there are as many as may be.
+-- When a move is made, and when there are the most moves already.
 use Rattle.std.proofs.Common.{◌≡◌, ℕ, ℤ, ◌<◌, ◌≤◌, ◌++◌, ◌∷◌, [], false, true, List, Result, Ok, Err, OnOk, is_ok, length, nat_lt, refl, ap, sym, ◌∙◌}
 use Rattle.std.proofs.lemmas.Bool.{le-ltb, lt-ltb}
 use Rattle.space.specs.Vectors.{are_opposite}
@@ -22,7 +22,7 @@ moved_made line from tip axis fold next moves move apart room more is made =
     let same : moves ≡ fold.moves ++ move_to line from tip axis fold ∷ [] = more ∙ ap (λ m. fold.moves ++ m ∷ []) is in
     rw (apart, fits) (ap (λ ms. Ok (record (arrived tip axis fold) { moves = ms })) (sym same) ∙ ap Ok (sym made))
 
--- and refused where there are as many as may be
+-- and refused where there are the most moves already
 pub moved_full : (line : ℕ) (from tip axis : List ℤ) (fold : Fold) (end : ClEnd) → are_opposite fold.axis axis ≡ false → most_moves ≤ length fold.moves
     → end ≡ Refused (record { line = line; why = TooManyMoves }) → StepEnds line (moved line from tip axis fold) end
 moved_full line from tip axis fold end apart full is =

@@ -14,7 +14,7 @@ use Rattle.cl_records.specs.declared.statement.Record.TheVariants.{Goto, From, D
 use Rattle.cl_moves.specs.Program.{arrived, continued, displaced, finished, folded, gone_by, gone_to, most_moves, move_to, moved, multaxed, placed, start, step}
 use Rattle.cl_moves.specs.declared.fold.Fold.{Fold}
 
--- the state that a record made is the one that it gives
+-- the state after a record that was done is the one that it gives
 abbrev done : Fold → Result Fold ClWhy
 done fold = Ok fold
 
@@ -96,7 +96,7 @@ abbrev item_of : {A : Type 0} → ℕ × A → Result (Option (ℕ × A) × List
 item_of none (Ok (Some item, items)) = item
 item_of none _ = none
 
--- what is left behind a record that was done folds as all did that was left ahead of it
+-- what is left after a record that was done folds as all did that was left before it
 pub folded_on : (old new : List (Numbered Record)) (first : ℕ × Record) (fold next : Fold)
     → next_of old ≡ Ok (Some first, new) → step first.0 first.1 fold ≡ Ok next → folded new next ≡ folded old fold
 folded_on [] new first fold next e done = let none : false ≡ true = ap gives e in cc

@@ -18,11 +18,11 @@ use Rattle.cl_moves.specs.declared.moves.Move.{Move}
 use Rattle.cl_moves.specs.declared.program.Program.{Program}
 use Rattle.cl_moves.specs.declared.fold.Fold.{Fold}
 
--- at the start no position is known, the axis is along z, there is no cutter, no RAPID waits, and nothing was made or passed over
+-- at the start no position is known, the axis is along z, there is no cutter, no RAPID waits, and no record made a move or was passed over
 abbrev pub start : Fold
 start = record { position = None; axis = upright; cutter = None; rapid = false; passed = 0; moves = [] }
 
--- the tool stands at a position with an axis
+-- the tool is at a position with an axis
 abbrev pub placed : List ℤ → List ℤ → Fold → Fold
 placed tip axis fold = record fold { position = Some tip; axis = axis }
 
@@ -30,7 +30,7 @@ placed tip axis fold = record fold { position = Some tip; axis = axis }
 abbrev pub arrived : List ℤ → List ℤ → Fold → Fold
 arrived tip axis fold = record fold { position = Some tip; axis = axis; rapid = false }
 
--- the move from where the tool stands to a position and an axis, on the line of its record
+-- the move from where the tool is to a position and an axis, on the line of its record
 abbrev pub move_to : ℕ → List ℤ → List ℤ → List ℤ → Fold → Move
 move_to line from tip axis fold =
     record { line = line; rapid = fold.rapid; from = from; to = tip; axis_from = fold.axis; axis_to = axis; cutter = fold.cutter }
@@ -39,7 +39,7 @@ move_to line from tip axis fold =
 abbrev pub most_moves : ℕ
 most_moves = 50000
 
--- that move is made, unless its axes are opposite or there are as many moves as may be
+-- that move is added, unless its axes are opposite or there are the most moves already
 abbrev pub moved : ℕ → List ℤ → List ℤ → List ℤ → Fold → Result Fold ClWhy
 moved line from tip axis fold =
     if are_opposite fold.axis axis then Err AxisFlip
@@ -78,7 +78,7 @@ step line Rapid fold = Ok (record fold { rapid = true })
 step line Fini fold = Ok fold
 step line Passed fold = Ok (record fold { passed = fold.passed + 1 })
 
--- the program of the moves that were made
+-- the program of the moves
 abbrev pub finished : Fold → Program
 finished fold = record { moves = fold.moves; passed = fold.passed }
 
@@ -87,7 +87,7 @@ abbrev pub continued : ℕ → Result Fold ClWhy → (Fold → Result Program Cl
 continued line (Ok fold) rest = rest fold
 continued line (Err why) rest = Err (record { line = line; why = why })
 
--- the records that are left, folded into the moves made so far
+-- the records that are left, folded into the moves so far
 abbrev pub folded : List (Numbered Record) → Fold → Result Program ClFault
 folded [] fold = Ok (finished fold)
 folded ((line, Err why) ∷ records) fold = Err (record { line = line; why = why })
@@ -97,7 +97,7 @@ folded ((line, Ok record_) ∷ records) fold = continued line (step line record_
 abbrev pub program_of : List ℕ → Result Program ClFault
 program_of bytes = folded (records_of Mm (texts_of bytes)) start
 
--- a refusal is the first fault; want of memory is free
+-- a refusal is the first fault; running out of memory needs no condition
 abbrev pub EndsRead : Result Program ClFault → ClEnd → Type 0
 EndsRead program (Refused fault) = program ≡ Err fault
 EndsRead program NoMemory = Unit {0}

@@ -14,7 +14,7 @@ use cl_records::{CutterText, Record};
 use std::alloc::Global;
 use vf_io::NoMemory;
 
-/// Where the tool stands, what holds for the moves that follow, and the moves made so far.
+/// Where the tool is, what holds for the moves that follow, and the moves so far.
 #[derive(Drop)]
 pub(crate) struct Fold {
     pub(crate) position: Option<[i32; 3]>,
@@ -26,7 +26,7 @@ pub(crate) struct Fold {
 }
 
 impl Fold {
-    /// No position and no cutter are known, and the axis is along z. There is room for so many moves.
+    /// No position and no cutter are known, and the axis is along z. There is room for `room` moves.
     pub(crate) fn new(alloc: Global, room: usize) -> Result<Fold, NoMemory>
         ensures start { IfOk result (λ fold. fold ≡ start) }
         ensures sound { IfOk result IsFold }
@@ -167,7 +167,7 @@ impl Fold {
         }
     }
 
-    /// The program of the moves made so far.
+    /// The program of the moves so far.
     pub(crate) fn finish(self) -> Program
         ensures { result ≡ finished self }
     {

@@ -21,7 +21,7 @@ pub struct Move {
     pub cutter: Option<CutterText>,
 }
 
-/// Moves in order. They are seen as a list.
+/// Moves in order. Their value is a list.
 #[derive(Drop)]
 pub struct Moves {
     items: Vec<Move>,
@@ -46,7 +46,7 @@ impl Moves {
         }
     }
 
-    /// No moves, with room for so many.
+    /// No moves, with room for `room` of them.
     pub(crate) fn with_room(alloc: Global, room: usize) -> Result<Moves, NoMemory>
         ensures { IfOk result (λ moves. moves ≡ []) }
     {

@@ -5,7 +5,7 @@ use Rattle.vf_io.specs.Pieces.{lead}
 use Rattle.memchr.specs.Find.{Nowhere, Passes, is_byte}
 use Rattle.cl_records.specs.Parameters.{fields_of}
 
--- a text whose first comma stands at the place n
+-- a text whose first comma is at the place n
 pub fields_of-at : (bytes : List ℕ) (n : ℕ) → Nowhere (Passes (is_byte 44) bytes) 0 n → n < length bytes → Passes (is_byte 44) bytes n → fields_of bytes ≡ take n bytes ∷ fields_of (drop (n + 1) bytes)
 fields_of-at [] n none lt here = absurd (omega arith)
 fields_of-at (b ∷ bytes) zero none lt here = rw here refl
@@ -45,7 +45,7 @@ fields_of-comma b bytes comma = rw comma (omega arith)
 fields_of-other : (b : ℕ) (bytes : List ℕ) → eqb b 44 ≡ false → length (fields_of (b ∷ bytes)) ≡ length (fields_of bytes)
 fields_of-other b bytes other = rw other (length-lead b (fields_of bytes) (fields_of-some bytes))
 
--- the commas ahead of the place i and the fields from there on are all the fields
+-- the commas before the place i and the fields from there on are all the fields
 pub record Commas (text : List ℕ) (i commas : ℕ) : Type 0 where
   pub few : commas ≤ i
   pub same : commas + length (fields_of (drop i text)) ≡ length (fields_of text)

@@ -32,7 +32,7 @@ goes_on-syntax values in_range reads = refl
 pub goes_on-end : (values : List ℤ) → goes_on values true [] ≡ Ok values
 goes_on-end values = rw (append-nil values) refl
 
--- one more value behind values of their kinds
+-- one more value after values of their kinds
 pub AreKinds-push : (kinds : List Kind) (values : List ℤ) (none : Kind) (value : ℤ) → length values < length kinds → IsKind (get_or kinds (length values) none) value → AreKinds kinds values → AreKinds kinds (values ++ value ∷ [])
 AreKinds-push [] values none value short is so_far = absurd (omega arith)
 AreKinds-push (kind ∷ kinds) [] none value short is so_far = (is, tt)
@@ -42,7 +42,7 @@ no-parameters : (unit : Unit) (kinds : List Kind) → reads_of unit kinds [] ≡
 no-parameters unit [] = refl
 no-parameters unit (kind ∷ kinds) = refl
 
--- the numbers ahead of the place i were read, and those that are left make the rest
+-- the numbers before the place i were read, and those that are left make the rest
 pub record ReadsOn (unit : Unit) (kinds : List Kind) (parameters : List (List ℕ)) (i : ℕ) (values : List ℤ) (in_range : Bool) (left : List (List ℕ)) : Type 0 where
   pub same : goes_on values in_range (reads_of unit (drop i kinds) left) ≡ values_of (reads_of unit kinds parameters)
   pub count : length values ≡ i

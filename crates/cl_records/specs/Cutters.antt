@@ -14,7 +14,7 @@ use Rattle.cl_records.specs.declared.cutter.CutterText.{CutterText}
 abbrev pub allowance : ℕ
 allowance = 10
 
--- a size, or 0 where the record ends ahead of it
+-- a size, or 0 where the record ends before it
 abbrev pub size_or_zero : List ℤ → ℕ → ℤ
 size_or_zero sizes place = unwrap_or (slice_get sizes place) (pos 0)
 
@@ -27,18 +27,18 @@ abbrev pub is_corner_large : ℤ → ℤ → Bool
 is_corner_large r d = int_lt (d +ℤ pos allowance) (pos 2 *ℤ r)
 
 -- two sizes differ by more than that
-abbrev pub is_apart : ℤ → ℤ → Bool
-is_apart a b = nat_lt allowance (unsigned_abs (a -ℤ b))
+abbrev pub exceeds_allowance : ℤ → ℤ → Bool
+exceeds_allowance a b = nat_lt allowance (unsigned_abs (a -ℤ b))
 
 -- the corner's centre is given at another distance from the axis than half the flat bottom
 abbrev pub is_off_axis : Option ℤ → ℤ → Bool
 is_off_axis None flat = false
-is_off_axis (Some e) flat = is_apart (pos 2 *ℤ e) flat
+is_off_axis (Some e) flat = exceeds_allowance (pos 2 *ℤ e) flat
 
 -- or at another height above the tip than the radius
 abbrev pub is_off_tip : Option ℤ → ℤ → Bool
 is_off_tip None r = false
-is_off_tip (Some f) r = is_apart f r
+is_off_tip (Some f) r = exceeds_allowance f r
 
 abbrev pub is_centre_off : List ℤ → ℤ → ℤ → Bool
 is_centre_off sizes d r = is_off_axis (slice_get sizes 2) (d -ℤ (pos 2 *ℤ r)) || is_off_tip (slice_get sizes 3) r
@@ -55,7 +55,7 @@ degrees_of angle = unsigned_abs angle / parts
 abbrev pub is_flank_odd : ℤ → Bool
 is_flank_odd b = not (int_eq b (pos (parts * degrees_of b)) && is_flank (degrees_of b))
 
--- a flank that leans stands beside a corner radius
+-- a flank that leans comes with a corner radius
 abbrev pub is_cone_rounded : ℤ → ℤ → Bool
 is_cone_rounded b r = leans b && not (int_eq r (pos 0))
 

@@ -18,7 +18,7 @@ coordinate = length_within metre
 abbrev pub component : Kind
 component = scaled_within axis_unit
 
--- a tip, and the axis behind it
+-- a tip, and the axis after it
 abbrev pub position_kinds : List Kind
 position_kinds = coordinate ∷ coordinate ∷ coordinate ∷ component ∷ component ∷ component ∷ []
 

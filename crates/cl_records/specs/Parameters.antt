@@ -3,7 +3,7 @@ use Rattle.std.specs.Prelude.{ℕ, ◌==◌, List, [], ◌∷◌, map, Option, S
 use Rattle.vf_io.specs.Pieces.{lead}
 use Rattle.vf_text.specs.Blanks.{is_blank_text, behind_blanks, without_last_blanks}
 
--- the byte ahead of the parameters, and the one between them
+-- the byte before the parameters, and the one between them
 abbrev pub slash : ℕ
 slash = 47
 
@@ -19,11 +19,11 @@ fields_of (b ∷ bytes) = if b == comma then [] ∷ fields_of bytes else lead b 
 abbrev pub trimmed : List ℕ → List ℕ
 trimmed field = without_last_blanks (behind_blanks field)
 
--- the parameters behind a slash: none where there are blanks alone
+-- the parameters after a slash: none where there are only blanks
 abbrev pub split_parameters : List ℕ → List (List ℕ)
 split_parameters bytes = if is_blank_text bytes then [] else map trimmed (fields_of bytes)
 
--- what stands where a slash is due: nothing, or a slash, or something else
+-- what comes where a slash is expected: nothing, or a slash, or something else
 abbrev pub behind_slash : List ℕ → Option (List (List ℕ))
 behind_slash [] = Some []
 behind_slash (b ∷ bytes) = if b == slash then Some (split_parameters bytes) else None

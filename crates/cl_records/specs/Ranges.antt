@@ -38,7 +38,7 @@ pub record IsCone (cutter : CutterText) : Type 0 where
   pub top : MatchOption cutter.h ⊥ (λ h. top_of (unsigned_abs cutter.d) (unsigned_abs h) cutter.flank ≤ widest)
 
 -- a cutter that was read: a diameter from 1 to 200,000, a corner radius of at most half of it, a height from 1 to 300,000 where
--- one is given, and a flank angle of the table, which isn't 0 for a cone alone
+-- one is given, and a flank angle of the table, which is above 0 only for a cone
 pub record IsCutterText (cutter : CutterText) : Type 0 where
   pub width : IsBetween (pos 1) (pos widest) cutter.d
   pub radius : pos 0 ≤ℤ cutter.r

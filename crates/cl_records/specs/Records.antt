@@ -36,7 +36,7 @@ is_plain b = b == tab || (nat_le blank_space b && nat_le b tilde)
 abbrev pub is_word : List ℕ → List ℕ → Bool
 is_word text word = str_eq_ignore_ascii_case text word
 
--- what follows where what stands ahead of it has no fault
+-- what follows where what comes before it has no fault
 abbrev pub and_then : {A B : Type 0} → Result A ClWhy → (A → Result B ClWhy) → Result B ClWhy
 and_then (Ok x) next = next x
 and_then (Err why) next = Err why
@@ -45,7 +45,7 @@ and_then (Err why) next = Err why
 abbrev pub with_axis : List ℤ → List ℤ → Result Position ClWhy
 with_axis tip axis = if is_zero axis then Err AxisZero else Ok (record { tip = tip; axis = Some axis })
 
--- three coordinates, with three components of an axis behind them or none
+-- three coordinates, with three components of an axis after them or none
 abbrev pub position_of : List ℤ → Result Position ClWhy
 position_of (x ∷ y ∷ z ∷ []) = Ok (record { tip = x ∷ y ∷ z ∷ []; axis = None })
 position_of (x ∷ y ∷ z ∷ i ∷ j ∷ k ∷ []) = with_axis (x ∷ y ∷ z ∷ []) (i ∷ j ∷ k ∷ [])
@@ -80,7 +80,7 @@ multax_of word =
     if is_word word (codes "ON") then Ok (records.Multax true)
     else (if is_word word (codes "OFF") then Ok (records.Multax false) else Err ParamWord)
 
--- MULTAX alone is MULTAX/ON
+-- MULTAX without a parameter is MULTAX/ON
 abbrev pub multax_in : List (List ℕ) → Result Record ClWhy
 multax_in [] = Ok (records.Multax true)
 multax_in (word ∷ []) = multax_of word
@@ -141,7 +141,7 @@ judged_refused word text behind =
     then (if is_cycle word && is_off (only_of (known (parameters_of behind))) then Ok records.Passed else Err (Unsupported word))
     else Err BadByte
 
--- a record that is read or refused has plain bytes alone; one that is passed over may have any
+-- a record that is read or refused has only plain bytes; one that is passed over may have any
 abbrev pub judged : Unit → Major → List ℕ → List ℕ → Result Record ClWhy
 judged unit Passed text behind = Ok records.Passed
 judged unit (Refused word) text behind = judged_refused word text behind
@@ -151,7 +151,7 @@ judged unit (Read keyword) text behind = if list_all is_plain text then read_as 
 abbrev pub record_of : Unit → List ℕ → Result Record ClWhy
 record_of unit text = judged unit (major_of (word_of text)) text (behind_word text)
 
--- the unit behind a record
+-- the unit after a record
 abbrev pub unit_behind : Unit → Record → Unit
 unit_behind unit (records.Units next) = next
 unit_behind unit _ = unit
@@ -160,7 +160,7 @@ abbrev pub is_fini : Record → Bool
 is_fini records.Fini = true
 is_fini _ = false
 
--- nothing is read behind FINI, nor behind a fault; else the rest is read in the unit that now holds
+-- nothing is read after FINI, nor after a fault; else the rest is read in the unit that now holds
 abbrev pub behind_record : Unit → Result Record ClWhy → (Unit → List (Numbered Record)) → List (Numbered Record)
 behind_record unit (Err why) rest = []
 behind_record unit (Ok record_) rest = if is_fini record_ then [] else rest (unit_behind unit record_)

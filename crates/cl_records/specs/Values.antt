@@ -32,7 +32,7 @@ abbrev pub is_out_of_range : Result ℤ NumberFault → Bool
 is_out_of_range (Err Range) = true
 is_out_of_range _ = false
 
--- the values of numbers that were read: one that is no number comes ahead of one out of range
+-- the values of numbers that were read: a text that is no number is reported before a number out of range
 abbrev pub values_of : List (Result ℤ NumberFault) → Result (List ℤ) ClWhy
 values_of reads =
     if list_any is_no_number reads then Err NumberSyntax

@@ -23,7 +23,7 @@ underscore = 95
 abbrev pub is_word_byte : ℕ → Bool
 is_word_byte b = is_ascii_alphanumeric b || (b == dash || b == underscore)
 
--- the longest run of those behind the blanks in front
+-- the longest run of those after the blanks in front
 abbrev pub word_of : List ℕ → List ℕ
 word_of text = take (prefix_len is_word_byte (behind_blanks text)) (behind_blanks text)
 

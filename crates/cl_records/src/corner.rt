@@ -1,6 +1,6 @@
 ghost use Rattle.std.specs.Prelude.{◌≡◌, ◌<◌, ◌≤ℤ◌, ◌-ℤ◌, ◌*ℤ◌, pos, length, IfSome};
 ghost use Rattle.space.specs.Ranges.{IsBetween};
-ghost use Rattle.cl_records.specs.Cutters.{counted_radius, is_apart, is_centre_off, is_corner_large, is_corner_refused, is_off_axis, is_off_tip};
+ghost use Rattle.cl_records.specs.Cutters.{counted_radius, exceeds_allowance, is_centre_off, is_corner_large, is_corner_refused, is_off_axis, is_off_tip};
 ghost use Rattle.cl_records.specs.Kinds.{cutter_kinds, farthest_centre, largest_corner, widest};
 ghost use Rattle.cl_records.specs.Ranges.{AreKinds};
 
@@ -74,7 +74,7 @@ fn is_off_axis(e: Option<i32>, flat: i32) -> bool
 {
     match e {
         None => false,
-        Some(e) => is_apart(2 * e, flat),
+        Some(e) => exceeds_allowance(2 * e, flat),
     }
 }
 
@@ -84,13 +84,13 @@ fn is_off_tip(f: Option<i32>, r: i32) -> bool
 {
     match f {
         None => false,
-        Some(f) => is_apart(f, r),
+        Some(f) => exceeds_allowance(f, r),
     }
 }
 
 /// Whether two sizes differ by more than the allowance.
-fn is_apart(a: i32, b: i32) -> bool
-    ensures { result ≡ is_apart a b }
+fn exceeds_allowance(a: i32, b: i32) -> bool
+    ensures { result ≡ exceeds_allowance a b }
 {
     a.abs_diff(b) > ALLOWANCE as u32
 }

@@ -18,7 +18,7 @@ pub struct CutterText {
     pub flank: u32,
 }
 
-/// The cutter of the sizes d, r, e, f, a, b and h, of which those behind d may be missing.
+/// The cutter of the sizes d, r, e, f, a, b and h, of which those after d may be missing.
 pub(crate) fn cutter_of_sizes(sizes: &[i32]) -> Result<CutterText, ClWhy>
     requires kinds { AreKinds cutter_kinds sizes.now }
     requires some { 0 < length sizes.now }
@@ -38,7 +38,7 @@ pub(crate) fn cutter_of_sizes(sizes: &[i32]) -> Result<CutterText, ClWhy>
     }
 }
 
-/// A size, or 0 where the record ends ahead of it.
+/// A size, or 0 where the record ends before it.
 fn size_or_zero(sizes: &[i32], place: usize) -> i32
     ensures { result ≡ size_or_zero sizes.now place }
 {

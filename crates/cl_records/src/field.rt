@@ -5,7 +5,7 @@ ghost use Rattle.cl_records.specs.Parameters.{fields_of, trimmed};
 use memchr::memchr;
 use vf_text::{skip_blanks, trim_end};
 
-/// The first field of a text, up to a comma, and the text behind the comma.
+/// The first field of a text, up to a comma, and the text after the comma.
 pub(crate) fn split_field(text: &[u8]) -> (&[u8], Option<&[u8]>)
     ensures { fields_of text.now ≡ result.0.now ∷ option_map_or (λ rest. fields_of rest.now) result.1 [] }
 {
@@ -15,7 +15,7 @@ pub(crate) fn split_field(text: &[u8]) -> (&[u8], Option<&[u8]>)
     }
 }
 
-/// How many fields stand between the commas of a text.
+/// How many fields the commas of a text separate.
 pub(crate) fn count_fields(text: &[u8]) -> usize
     ensures { result ≡ length (fields_of text.now) }
 {

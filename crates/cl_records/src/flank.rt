@@ -52,7 +52,7 @@ fn is_flank_odd(b: i32) -> bool
     !(i64::from(b) == i64::from(degrees * PARTS) && is_flank(degrees))
 }
 
-/// Whether a flank that leans stands beside a corner radius.
+/// Whether a flank that leans comes with a corner radius.
 fn is_cone_rounded(b: i32, r: i32) -> bool
     ensures { result ≡ is_cone_rounded b r }
 {

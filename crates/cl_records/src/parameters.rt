@@ -5,7 +5,7 @@ use crate::field::{count_fields, split_field, trim};
 use std::marker::Model;
 use vf_text::{has_only_blanks, skip_blanks};
 
-/// The parameters of a record that are left. They are seen as a list of texts.
+/// The parameters of a record that are left. Their value is a list of texts.
 #[derive(Drop)]
 pub(crate) struct Parameters<'a> {
     fields: Option<&'a [u8]>,
@@ -22,7 +22,7 @@ impl<'a> Model for Parameters<'a> {
 }
 
 impl<'a> Parameters<'a> {
-    /// The parameters behind a word, where nothing but blanks and a slash stands ahead of them.
+    /// The parameters after a word, where nothing but blanks and a slash comes before them.
     pub(crate) fn read(behind: &'a [u8]) -> Option<Parameters<'a>>
         ensures { MatchOption result (parameters_of behind.now ≡ None) (λ p. parameters_of behind.now ≡ Some p) }
     {
@@ -33,7 +33,7 @@ impl<'a> Parameters<'a> {
         }
     }
 
-    /// The parameters behind the slash.
+    /// The parameters after the slash.
     fn split(fields: &'a [u8]) -> Parameters<'a>
         ensures { result ≡ split_parameters fields.now }
     {

@@ -10,7 +10,7 @@ use cl_lines::{ClEnd, Lines, Unit};
 use std::alloc::Global;
 use std::marker::Model;
 
-/// A reader of records. It is seen as the list of those that are left, each with its line.
+/// A reader of records. Its value is the list of those that are left, each with its line.
 #[derive(Drop)]
 pub struct Records<'a> {
     lines: Lines<'a>,
@@ -45,7 +45,7 @@ impl<'a> Records<'a> {
         }
     }
 
-    /// The next record, with the number of its first line. It gives none behind FINI. It changes
+    /// The next record, with the number of its first line. It gives none after FINI. It changes
     /// nothing where it gives none.
     pub fn next_record(&mut self) -> Result<Option<(u32, Record)>, ClEnd>
         ensures next { MatchResult result (λ r. next_of self.old ≡ Ok (r, self.new)) (Ends self.old self.new) }

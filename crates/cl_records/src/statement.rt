@@ -22,7 +22,7 @@ pub enum Record {
         tip: [i32; 3],
         axis: Option<[i32; 3]>,
     },
-    /// The position where the tool stands.
+    /// The position where the tool is.
     From {
         tip: [i32; 3],
         axis: Option<[i32; 3]>,
@@ -128,7 +128,7 @@ fn is_cycle(word: Word) -> bool
     matches!(word, Word::Cycle)
 }
 
-/// Whether the one parameter OFF stands behind a word.
+/// Whether the one parameter OFF comes after a word.
 fn is_off(behind: &[u8]) -> bool
     ensures { result ≡ is_off (only_of (known (parameters_of behind.now))) }
 {
@@ -290,7 +290,7 @@ fn read_cutter(unit: Unit, parameters: Parameters<'_>) -> Result<Record, ClWhy>
     }
 }
 
-/// MULTAX alone is MULTAX/ON.
+/// MULTAX without a parameter is MULTAX/ON.
 fn read_multax(parameters: Parameters<'_>) -> Result<Record, ClWhy>
     ensures record { result ≡ multax_in parameters.entry }
     ensures ranges { IfOk result IsRecord }
@@ -305,7 +305,7 @@ fn read_multax(parameters: Parameters<'_>) -> Result<Record, ClWhy>
     }
 }
 
-/// What the word behind MULTAX says, whatever its case.
+/// What the word after MULTAX says, whatever its case.
 fn multax_of(word: &[u8]) -> Result<Record, ClWhy>
     ensures record { result ≡ multax_of word.now }
     ensures ranges { IfOk result IsRecord }

@@ -11,7 +11,7 @@ use std::marker::Model;
 /// The most numbers of a record.
 const MAX_VALUES: usize = 7;
 
-/// The numbers of a record, at most seven. They are seen as a list.
+/// The numbers of a record, at most seven. Their value is a list.
 #[derive(Drop)]
 pub(crate) struct Values {
     items: [i32; MAX_VALUES],
@@ -40,7 +40,7 @@ impl Values {
         }
     }
 
-    /// Adds a number behind fewer than seven.
+    /// Adds a number after fewer than seven.
     fn push(&mut self, value: i32)
         requires { length self.old < most_sizes }
         ensures { self.new ≡ self.old ++ value ∷ [] }
@@ -57,7 +57,7 @@ impl Values {
     }
 }
 
-/// Reads the parameters in order, each as the kind in its place. One that is no number comes ahead of one out of range.
+/// Reads the parameters in order, each as the kind in its place. A text that is no number is reported before a number out of range.
 pub(crate) fn read_values(
     unit: Unit,
     kinds: &[Kind],

@@ -95,7 +95,7 @@ pub(crate) fn split_word(text: &[u8]) -> (&[u8], &[u8])
     front.split_at(word_len(front))
 }
 
-/// How many bytes of a word stand in front.
+/// How many bytes of a word are in front.
 fn word_len(text: &[u8]) -> usize
     ensures count { result ≡ prefix_len is_word_byte text.now }
     ensures within { result ≤ length text.now }

@@ -3,7 +3,7 @@ use Rattle.std.proofs.Common.{◌≡◌, true, false, ℕ, suc, Bool, List, [], 
 use Rattle.std.specs.List.{Contains, list_all}
 use Rattle.std.proofs.lemmas.Bool.{and_cases, cases_Bool}
 use Rattle.std.proofs.lemmas.List.Sums.{AllPass-from_list_all}
-use Rattle.job_facts.specs.Counts.{is_safe}
+use Rattle.job_counts.specs.Counts.{is_safe}
 use Rattle.job_report.specs.Facts.{JobFacts, is_clean}
 use Rattle.job_report.specs.Report.{facts_of}
 use Rattle.job_report.specs.Tasks.{IsTask, Task}
@@ -16,7 +16,7 @@ use Rattle.vf_io.specs.declared.answers.NoMemory.{NoMemory}
 use Rattle.clverify.specs.Commands.Selftest.{IsTrueSelftest, summed_up}
 use Rattle.clverify.specs.Commands.Verify.{EndsBy, ReportsTruly, reported, status_by}
 use Rattle.clverify.specs.Settled.{IsReport}
-use Rattle.clverify.specs.declared.answer.Answer.{Answer}
+use Rattle.clverify.specs.declared.reply.Reply.{Reply}
 use Rattle.clverify.specs.declared.status.Status.{Status}
 use Rattle.job_inputs.specs.Tasks.{made_task}
 use Rattle.input_faults.specs.declared.stopped.Stopped.{Stopped}
@@ -52,14 +52,14 @@ facts_true : (task : Task) (facts : JobFacts) → facts ≡ facts_of task → Is
 facts_true task facts same valid = subst (IsTrueReport task) (sym same) (true_report task valid)
 
 -- a report of the facts of a valid task is a true one
-pub report_is_true : (report : Result Answer Stopped) (task : Task) (facts : JobFacts) → facts ≡ facts_of task → IsTask task
+pub report_is_true : (report : Result Reply Stopped) (task : Task) (facts : JobFacts) → facts ≡ facts_of task → IsTask task
     → IfOk report (λ answer. answer.text.items ≡ report_of facts) → IsReport report (reported facts) → IfOk report (λ answer. ReportsTruly task answer.status answer.text.items)
 report_is_true (Ok answer) task facts same valid told due =
     record { facts = facts; report = told; is_true = facts_true task facts same valid; ends = answer_ends facts.left answer.status (ap (λ d. d.status) due) }
 report_is_true (Err stopped) task facts same valid told due = tt
 
--- and so is a summary of the facts of the made task
-pub sums_truly : (report : Result Answer Stopped) (number : ℕ) (facts : JobFacts) → facts ≡ facts_of (made_task number) → IsTask (made_task number)
+-- and so is a summary of the facts of the generated task
+pub sums_truly : (report : Result Reply Stopped) (number : ℕ) (facts : JobFacts) → facts ≡ facts_of (made_task number) → IsTask (made_task number)
     → IfOk report (λ answer. answer.text.items ≡ selftest_of number facts.totals (is_clean facts.left)) → IsReport report (summed_up number facts)
     → IfOk report (λ answer. IsTrueSelftest number answer.status answer.text.items)
 sums_truly (Ok answer) number facts same valid told due =

@@ -4,21 +4,21 @@ use Rattle.std.specs.Io.KnownBytes.{Keeps}
 use Rattle.vf_io.specs.Files.{Files}
 use Rattle.report_text.specs.Refusals.{refusal_of}
 use Rattle.input_faults.specs.declared.fault.Fault.{Fault}
-use Rattle.clverify.specs.Answer.{Due, IsVerdict, refused, usage_due}
 use Rattle.clverify.specs.Commands.{Command, list_moves, mark_moves, self_test, verify_moves}
 use Rattle.clverify.specs.Due.{command_due}
+use Rattle.clverify.specs.Reply.{Due, IsVerdict, refused, usage_due}
 use Rattle.job_inputs.specs.Inputs.{is_read_fault}
 use Rattle.clverify.specs.Headline.{Answers, Hands, IsComplete, IsDue}
 use Rattle.clverify.specs.Outside.{WritesAnswer}
 use Rattle.clverify.specs.Settled.{IsReport, MayEnd, Settles, answer_seen}
 use Rattle.clverify.specs.Truth.{HasNoFindings, IsTrueText, TellsTruth}
-use Rattle.clverify.specs.declared.answer.Answer.{Answer}
+use Rattle.clverify.specs.declared.reply.Reply.{Reply}
 use Rattle.clverify.specs.declared.status.Status.{Status}
 use Rattle.clverify.specs.declared.status.Status.TheVariants as ends
 use Rattle.input_faults.specs.declared.stopped.Stopped.{Stopped}
 use Rattle.input_faults.specs.declared.stopped.Stopped.TheVariants.{Refused, ReadFault, NoMemory}
 
--- where it isn't known what is due, less is said of an answer
+-- where it isn't known what is due, less is claimed of an answer
 unknown_answer : (status : Status) (d : Due) (old new : Option (List ℕ)) → Answers status (Some d) old new → Answers status None old new
 unknown_answer ends.Clean d old new h = tt
 unknown_answer ends.Findings d old new h = tt
@@ -55,7 +55,7 @@ module _ {K : Type 0} (written : K → Option (List ℕ)) (pieces : K → Option
   keeps_all : new ≡ old → Keeps (written old) (written new)
   keeps_all same = subst (λ (x : K). Keeps (written old) (written x)) (sym same) (keeps_known (written old))
 
-  -- after a fault of reading, and for want of memory
+  -- after a fault of reading, and when out of memory
   nothing_read : (due : Option Due) → status ≡ ends.ReadFault → new ≡ old → WritesAnswer written pieces faults status due old new
   nothing_read due fault same = record {
     answer = subst (λ (s : Status). Answers s due (written old) (written new)) (sym fault) (keeps_all same);
@@ -71,13 +71,13 @@ module _ {K : Type 0} (written : K → Option (List ℕ)) (pieces : K → Option
   }
 
   -- a report that is settled is the answer that is due
-  pub answers_due : (report : Result Answer Stopped) (due : Option Due) → IfSome due (IsReport report) → Settles written pieces faults report status old new → WritesAnswer written pieces faults status due old new
+  pub answers_due : (report : Result Reply Stopped) (due : Option Due) → IfSome due (IsReport report) → Settles written pieces faults report status old new → WritesAnswer written pieces faults status due old new
   answers_due (Ok answer) due same h = writes_due (answer_seen answer) due same h.0
   answers_due (Err (Refused fault)) due same h = writes_due (refused fault) due same h.0
   answers_due (Err ReadFault) due same h = nothing_read due h.0 h.1
   answers_due (Err NoMemory) due same h = nothing_found due h.0 h.1
 
--- the answer that is due to a command over told files is known
+-- the answer that is due to a command over known files is known
 refusal_due : (files : Files) (command : Command) (fault : Fault) → IfSome (command_due (Some files) command) (λ d. d ≡ refused fault) → command_due (Some files) command ≡ Some (refused fault)
 refusal_due files (list_moves file) fault same = ap (λ d. Some d) same
 refusal_due files (mark_moves file question) fault same = ap (λ d. Some d) same
@@ -96,7 +96,7 @@ true_in_front status files (verify_moves call) text h = record {
 true_in_front status files (self_test number) text h = record { facts = h.facts; summary = h.summary; is_true = h.is_true; ends = tt }
 
 -- a listing, and marks, that are true come without findings
-pub without_findings : (files : Option Files) (report : Result Answer Stopped) (P : Files → List ℕ → Type 0) → IfOk report (λ answer. answer.status ≡ ends.Clean)
+pub without_findings : (files : Option Files) (report : Result Reply Stopped) (P : Files → List ℕ → Type 0) → IfOk report (λ answer. answer.status ≡ ends.Clean)
     → IfSome files (λ told. IfOk report (λ answer. P told answer.text.items)) → IfSome files (λ told. IfOk report (λ answer. HasNoFindings answer.status × P told answer.text.items))
 without_findings None report P clean so = tt
 without_findings (Some told) (Ok answer) P clean so = (subst HasNoFindings (sym clean) tt, so)
@@ -105,7 +105,7 @@ without_findings (Some told) (Err stopped) P clean so = tt
 -- what is written of a report that is settled is true, where the report is
 module _ {K : Type 0} (written : K → Option (List ℕ)) (pieces : K → Option (List (List ℕ))) (faults : K → ℕ) (old new : K) (command : Command) where
   -- at Clean
-  clean_text : (files : Files) (report : Result Answer Stopped) → IfOk report (λ answer. IsTrueText answer.status files command answer.text.items) → Settles written pieces faults report ends.Clean old new
+  clean_text : (files : Files) (report : Result Reply Stopped) → IfOk report (λ answer. IsTrueText answer.status files command answer.text.items) → Settles written pieces faults report ends.Clean old new
       → TellsTruth ends.Clean (Some files) (Some command) (written old) (written new)
   clean_text files (Ok answer) true_text h =
       (answer.text.items, subst (λ (s : Status). IsTrueText s files command answer.text.items) (sym h.0.answer.0) true_text, h.0.answer.1)
@@ -114,7 +114,7 @@ module _ {K : Type 0} (written : K → Option (List ℕ)) (pieces : K → Option
   clean_text files (Err NoMemory) true_text h = let e = h.0 in cc
 
   -- with findings
-  findings_text : (files : Files) (report : Result Answer Stopped) → IfOk report (λ answer. IsTrueText answer.status files command answer.text.items) → Settles written pieces faults report ends.Findings old new
+  findings_text : (files : Files) (report : Result Reply Stopped) → IfOk report (λ answer. IsTrueText answer.status files command answer.text.items) → Settles written pieces faults report ends.Findings old new
       → TellsTruth ends.Findings (Some files) (Some command) (written old) (written new)
   findings_text files (Ok answer) true_text h =
       (answer.text.items, subst (λ (s : Status). IsTrueText s files command answer.text.items) (sym h.0.answer.0) true_text, h.0.answer.1)
@@ -123,7 +123,7 @@ module _ {K : Type 0} (written : K → Option (List ℕ)) (pieces : K → Option
   findings_text files (Err NoMemory) true_text h = let e = h.0 in cc
 
   -- after a fault of writing
-  front_text : (files : Files) (report : Result Answer Stopped) → IfSome (command_due (Some files) command) (IsReport report) → IfOk report (λ answer. IsTrueText answer.status files command answer.text.items)
+  front_text : (files : Files) (report : Result Reply Stopped) → IfSome (command_due (Some files) command) (IsReport report) → IfOk report (λ answer. IsTrueText answer.status files command answer.text.items)
       → Settles written pieces faults report ends.WriteFault old new → TellsTruth ends.WriteFault (Some files) (Some command) (written old) (written new)
   front_text files (Ok answer) due true_text h = (answer.text.items, inl (true_in_front answer.status files command answer.text.items true_text), h.0.answer)
   front_text files (Err (Refused fault)) due true_text h =
@@ -131,7 +131,7 @@ module _ {K : Type 0} (written : K → Option (List ℕ)) (pieces : K → Option
   front_text files (Err ReadFault) due true_text h = let e = h.0 in cc
   front_text files (Err NoMemory) due true_text h = let e = h.0 in cc
 
-  pub tells_truth : (status : Status) (files : Option Files) (report : Result Answer Stopped) → IfSome (command_due files command) (IsReport report)
+  pub tells_truth : (status : Status) (files : Option Files) (report : Result Reply Stopped) → IfSome (command_due files command) (IsReport report)
       → IfSome files (λ told. IfOk report (λ answer. IsTrueText answer.status told command answer.text.items)) → Settles written pieces faults report status old new
       → TellsTruth status files (Some command) (written old) (written new)
   tells_truth ends.Clean (Some files) report due true_text h = clean_text files report true_text h
@@ -163,7 +163,7 @@ refused_not_usage : (fault : Fault) (status : Status) → MayEnd (ends.Refused f
 refused_not_usage fault status may usage = grind rules
 
 module _ {K : Type 0} (written : K → Option (List ℕ)) (pieces : K → Option (List (List ℕ))) (faults : K → ℕ) (status : Status) (old new : K) where
-  pub settled_not_usage : (report : Result Answer Stopped) → IfOk report (λ answer. IsVerdict answer.status) → Settles written pieces faults report status old new → status ≡ ends.Usage → ⊥
+  pub settled_not_usage : (report : Result Reply Stopped) → IfOk report (λ answer. IsVerdict answer.status) → Settles written pieces faults report status old new → status ≡ ends.Usage → ⊥
   settled_not_usage (Ok answer) verdict h usage = not_usage answer.status status verdict h.1 usage
   settled_not_usage (Err (Refused fault)) verdict h usage = refused_not_usage fault status h.1 usage
   settled_not_usage (Err ReadFault) verdict h usage = let e = h.0 in cc
@@ -177,7 +177,7 @@ usage_complete status old new answered may calm =
     (subst (λ (s : Status). Answers s (Some usage_due) old new) usage answered)))
     (λ failed. absurd (calm failed)) may
 
--- an answer that ends by no fault outside is the whole one, or none for want of memory
+-- an answer that ends by no fault outside is the whole one, or none when out of memory
 pub complete_from : (status : Status) (due : Option Due) (old new : Option (List ℕ)) → Answers status due old new
     → (status ≡ ends.ReadFault → ⊥) → (status ≡ ends.WriteFault → ⊥) → IsComplete status due old new
 complete_from ends.Clean due old new answered read written = inr answered
@@ -203,7 +203,7 @@ refused_not_read_fault fault status may failed = grind rules
 
 -- where a report is settled by a fault of reading, a file couldn't be read
 module _ {K : Type 0} (written : K → Option (List ℕ)) (pieces : K → Option (List (List ℕ))) (faults : K → ℕ) (status : Status) (old new : K) where
-  pub settled_read_fault : (report : Result Answer Stopped) → IfOk report (λ answer. IsVerdict answer.status) → Settles written pieces faults report status old new
+  pub settled_read_fault : (report : Result Reply Stopped) → IfOk report (λ answer. IsVerdict answer.status) → Settles written pieces faults report status old new
       → status ≡ ends.ReadFault → is_read_fault report ≡ true
   settled_read_fault (Ok answer) verdict h failed = absurd (not_read_fault answer.status status verdict h.1 failed)
   settled_read_fault (Err (Refused fault)) verdict h failed = absurd (refused_not_read_fault fault status h.1 failed)
@@ -211,7 +211,7 @@ module _ {K : Type 0} (written : K → Option (List ℕ)) (pieces : K → Option
   settled_read_fault (Err NoMemory) verdict h failed = let e = h.0 in cc
 
   -- where one is settled by another status, none failed to be read
-  pub settled_calm : (report : Result Answer Stopped) → Settles written pieces faults report status old new → (status ≡ ends.ReadFault → ⊥) → is_read_fault report ≡ false
+  pub settled_calm : (report : Result Reply Stopped) → Settles written pieces faults report status old new → (status ≡ ends.ReadFault → ⊥) → is_read_fault report ≡ false
   settled_calm (Ok answer) h calm = refl
   settled_calm (Err (Refused fault)) h calm = refl
   settled_calm (Err ReadFault) h calm = absurd (calm h.0)

@@ -1,11 +1,11 @@
--- The words that a question is asked by, and coordinates that are near.
+-- The words of a question, and coordinates that are near.
 use Rattle.std.proofs.Common.{◌≡◌, ℕ, ◌+◌, ◌<◌, ◌≤◌, ◌||◌, ℤ, pos, neg_ℤ, int_lt, unsigned_abs, false, List, [], ◌∷◌, map, length, ◌-◌, take, drop, get_or, Option, Some, None, Ok, Err, IfSome, refl, arith}
 use Rattle.std.specs.Option.{option_map}
 use Rattle.std.specs.Result.{result_ok}
 use Rattle.std.proofs.lemmas.Bool.{cond_both}
 use Rattle.std.proofs.lemmas.Int.{ints}
 use Rattle.std.proofs.lemmas.List.{take_all}
-use Rattle.verify_words.specs.Words.{Word}
+use Rattle.call_words.specs.Words.{Word}
 use Rattle.space.specs.Ranges.{metre}
 use Rattle.cl_lines.specs.Numbers.{bounded, number_of, whole_of}
 use Rattle.clverify.specs.Commands.Questions.{coordinate_of, depth_of, point_by, question_by, question_of, slabs_of}
@@ -22,7 +22,7 @@ too_few_for_a_question f (a ∷ b ∷ c ∷ []) l = refl
 too_few_for_a_question f (a ∷ b ∷ c ∷ d ∷ []) l = refl
 too_few_for_a_question f (a ∷ b ∷ c ∷ d ∷ e ∷ words) l = absurd (below_fewer 5 (length words) (omega (arith, l)))
 
--- a question's first five words stand for it with the words behind them
+-- a question's first five words stand for it with the words after them
 pub question_in : {X : Type 0} (f : X → Word) (words : List X) (x y z name depth : X) (xs ys zs names depths : Word) → 5 ≤ length words
     → x ≡ get_or words 0 x → y ≡ get_or words 1 y → z ≡ get_or words 2 z → name ≡ get_or words 3 name → depth ≡ get_or words 4 depth
     → xs ≡ f x → ys ≡ f y → zs ≡ f z → names ≡ f name → depths ≡ f depth
@@ -37,7 +37,7 @@ question_in f (a ∷ b ∷ []) x y z name depth xs ys zs names depths some at_x 
 question_in f (a ∷ b ∷ c ∷ []) x y z name depth xs ys zs names depths some at_x at_y at_z at_name at_depth is_x is_y is_z is_name is_depth = absurd (omega (arith, some))
 question_in f (a ∷ b ∷ c ∷ d ∷ []) x y z name depth xs ys zs names depths some at_x at_y at_z at_name at_depth is_x is_y is_z is_name is_depth = absurd (omega (arith, some))
 
--- a question that is asked in parts
+-- a question that is given in parts
 pub of_parts : (p point : Option (List ℤ)) (d depth s slabs : Option ℕ) → p ≡ point → d ≡ depth → s ≡ slabs → question_by p d s ≡ question_by point depth slabs
 of_parts p point d depth s slabs same_point same_depth same_slabs = rw (same_point, same_depth, same_slabs)
 

@@ -6,11 +6,11 @@ use Rattle.clverify.specs.Commands.{self_test}
 use Rattle.clverify.specs.Commands.Selftest.{IsTrueSelftest}
 use Rattle.job_inputs.specs.Reads.{ReadsOnce}
 use Rattle.clverify.specs.Truth.{IsTrueText}
-use Rattle.clverify.specs.declared.answer.Answer.{Answer}
+use Rattle.clverify.specs.declared.reply.Reply.{Reply}
 use Rattle.input_faults.specs.declared.stopped.Stopped.{Stopped}
 
--- what is true of the summary of a made task is true whatever the files are
-pub true_over_all : (files : Option Files) (report : Result Answer Stopped) (number : ℕ)
+-- what is true of the summary of a generated task is true whatever the files are
+pub true_over_all : (files : Option Files) (report : Result Reply Stopped) (number : ℕ)
     → IfOk report (λ answer. IsTrueSelftest number answer.status answer.text.items)
     → IfSome files (λ told. IfOk report (λ answer. IsTrueText answer.status told (self_test number) answer.text.items))
 true_over_all None report number summary = tt

@@ -1,4 +1,4 @@
--- What the first of some words tells of all of them.
+-- What the first of some words says of all of them.
 use Rattle.std.proofs.Common.{◌≡◌, ℕ, ◌≤◌, List, [], ◌∷◌, map, length, ◌-◌, take, drop, get_or, true, false, Option, Some, None, Result, Ok, Err, ap, arith, refl, String, Global, string_bytes, sym, ◌∙◌}
 use Rattle.std.specs.Bool.{◌==◌}
 use Rattle.std.specs.String.{string_len}
@@ -6,12 +6,12 @@ use Rattle.std.specs.Option.{option_map}
 use Rattle.std.proofs.lemmas.List.{take_all}
 use Rattle.std.specs.Result.{IfErr}
 use Rattle.point_marks.specs.declared.question.Question.{Question}
-use Rattle.verify_words.specs.Words.{Word, Words, is_name}
+use Rattle.call_words.specs.Words.{Word, Words, is_name}
 use Rattle.clverify.specs.Commands.{mark_moves}
 use Rattle.clverify.specs.Commands.Point.{point_words}
 use Rattle.clverify.specs.Commands.Questions.{question_of}
 
--- the words behind the first
+-- the words after the first
 abbrev pub behind : {X : Type 0} → List X → List X
 behind words = take (length words - 1) (drop 1 words)
 
@@ -37,13 +37,13 @@ in_pairs : (file : Word) (question : Option Question)
 in_pairs file None = refl
 in_pairs file (Some question) = refl
 
--- what the words behind `point` ask for, where the first is a name
+-- what the words after `point` ask for, where the first is a name
 pub asks_marks : (words : Words) (file : Word) (more : Words) (question : Option Question) → words ≡ file ∷ more → is_name file ≡ true → question ≡ question_of more
     → option_map (mark_moves file) question ≡ option_map (λ asked. mark_moves asked.0 asked.1) (point_words words)
 asks_marks words file more question shape named asked =
     rw (shape, named, asked) (in_pairs file (question_of more))
 
--- what is so of whatever an error holds
+-- what is true of whatever an error holds
 pub of_any_error : {A E P : Type 0} (answer : Result A E) → P → IfErr answer (λ _. P)
 of_any_error (Ok a) so = tt
 of_any_error (Err e) so = so

@@ -4,8 +4,8 @@ use Rattle.clverify.specs.Commands as words
 use Rattle.clverify.specs.declared.commands.Command.{Command}
 use Rattle.clverify.specs.declared.commands.Command.TheVariants.{List, Point, Selftest, Verify}
 use Rattle.point_marks.specs.Questions.{IsQuestion}
-use Rattle.verify_words.specs.Call.{most_workers}
-use Rattle.verify_words.specs.Seen.{call_seen}
+use Rattle.call_words.specs.Call.{most_workers}
+use Rattle.call_words.specs.Seen.{call_seen}
 
 abbrev pub command_seen : Command → words.Command
 command_seen (List file) = words.list_moves file.now
@@ -18,7 +18,7 @@ pub record AreWorkers (workers : ℕ) : Type 0 where
   pub some : 1 ≤ workers
   pub few : workers ≤ most_workers
 
--- what a command asks may be asked
+-- what a command asks for is allowed
 abbrev pub MayBeAsked : Command → Type 0
 MayBeAsked (List file) = Unit {0}
 MayBeAsked (Point file question) = IsQuestion question

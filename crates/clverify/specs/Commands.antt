@@ -8,8 +8,8 @@ use Rattle.clverify.specs.Commands.List.{list_name, list_words}
 use Rattle.clverify.specs.Commands.Point.{point_name, point_words}
 use Rattle.clverify.specs.Commands.Selftest.{selftest_name, selftest_words}
 use Rattle.clverify.specs.Commands.Verify.{names_of, verify_name}
-use Rattle.verify_words.specs.Call.{VerifyCall, call_of}
-use Rattle.verify_words.specs.Words.{Word, Words}
+use Rattle.call_words.specs.Call.{VerifyCall, call_of}
+use Rattle.call_words.specs.Words.{Word, Words}
 use Rattle.point_marks.specs.declared.question.Question.{Question}
 pub mod List
 pub mod Point
@@ -24,7 +24,7 @@ pub data Command : Type 0 where
   verify_moves : VerifyCall → Command
   self_test : ℕ → Command
 
--- the command that a first word names, where the words behind it are its own
+-- the command that a first word names, where the words after it are its own
 abbrev pub command_by : Word → Words → Option Command
 command_by word words =
     if bytes_eq word list_name then option_map list_moves (list_words words)
@@ -38,7 +38,7 @@ abbrev pub command_of : Words → Option Command
 command_of [] = None
 command_of (word ∷ words) = command_by word words
 
--- words that are read by the library's parser, which wants memory
+-- words that are read by the library's parser, which needs memory
 abbrev pub are_parsed : Words → Bool
 are_parsed [] = false
 are_parsed (word ∷ words) = bytes_eq word verify_name

@@ -1,15 +1,15 @@
--- The answer that is due to words over files that are told: a text and a status.
+-- The answer that is due to words over files that are known: a text and a status.
 use Rattle.std.specs.Prelude.{Option, Some, None}
 use Rattle.std.specs.Option.{option_map}
 use Rattle.vf_io.specs.Files.{Files}
-use Rattle.clverify.specs.Answer.{Due, usage_due}
+use Rattle.clverify.specs.Reply.{Due, usage_due}
 use Rattle.clverify.specs.Commands.{Command, list_moves, mark_moves, self_test, verify_moves}
 use Rattle.clverify.specs.Commands.List.{list_due}
 use Rattle.clverify.specs.Commands.Point.{point_due}
 use Rattle.clverify.specs.Commands.Selftest.{selftest_due}
 use Rattle.clverify.specs.Commands.Verify.{verify_due}
 
--- A command is due what the files say that it names; where no files are told, that isn't known. One that names none is due the same
+-- A command is due what the files say that it names; where no files are known, that isn't known. One that names none is due the same
 -- over all files.
 abbrev pub command_due : Option Files → Command → Option Due
 command_due files (list_moves file) = option_map (list_due file) files

@@ -1,4 +1,4 @@
-pub mod Answer
+pub mod Reply
 pub mod Asked
 pub mod Codes
 pub mod Commands

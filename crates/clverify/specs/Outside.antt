@@ -1,8 +1,8 @@
 -- What a call leaves of the sink that it writes to. The first three arguments name what is seen of the sink.
 use Rattle.std.specs.Prelude.{◌≡◌, ℕ, List, Option}
 use Rattle.vf_io.specs.Causes.{Rose}
-use Rattle.clverify.specs.Answer.{Due}
 use Rattle.clverify.specs.Headline.{Answers, Hands}
+use Rattle.clverify.specs.Reply.{Due}
 use Rattle.clverify.specs.declared.status.Status.{Status}
 use Rattle.clverify.specs.declared.status.Status.TheVariants.{WriteFault}
 

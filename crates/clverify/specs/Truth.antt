@@ -5,7 +5,7 @@ use Rattle.report_text.specs.Refusals.{refusal_of}
 use Rattle.input_faults.specs.declared.fault.Fault.{Fault}
 use Rattle.vf_io.specs.Bytes.{AppendsFront}
 use Rattle.vf_io.specs.Files.{Files, bytes_of}
-use Rattle.clverify.specs.Answer.{refused}
+use Rattle.clverify.specs.Reply.{refused}
 use Rattle.clverify.specs.Commands.{Command, list_moves, mark_moves, self_test, verify_moves}
 use Rattle.clverify.specs.Commands.List.{IsTrueListing}
 use Rattle.clverify.specs.Commands.Point.{IsTrueMarking}
@@ -33,7 +33,7 @@ pub record IsRefusal (files : Files) (command : Command) (text : List ℕ) : Typ
   pub is_due : command_due (Some files) command ≡ Some (refused fault)
   pub is_line : text ≡ refusal_of fault
 
--- Where the files are told: a command that ends Clean or with Findings wrote a true text, whole, that says so; one that ends by a
+-- Where the files are known: a command that ends Clean or with Findings wrote a true text, whole, that says so; one that ends by a
 -- fault of writing wrote a front of a true text, or of the line that its files are refused with.
 abbrev pub TellsTruth : Status → Option Files → Option Command → Option (List ℕ) → Option (List ℕ) → Type 0
 TellsTruth Clean (Some files) (Some command) old new = (text : List ℕ) × IsTrueText Clean files command text × Appends old new text

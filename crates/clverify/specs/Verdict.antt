@@ -1,4 +1,4 @@
--- What is told of files that are handed over as they lie in memory.
+-- What is known of files that are handed over as they lie in memory.
 use Rattle.std.specs.Prelude.{ℕ, List, Option, Some, String, Vec}
 use Rattle.std.specs.FinMap as finite
 use Rattle.std.specs.Global.{Global}

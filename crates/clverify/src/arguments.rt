@@ -28,7 +28,7 @@ impl<'a, R: Env> Env for Unnamed<'a, R> {
     }
 }
 
-/// The words behind the program's path. Where one of them is no text there are none: such a word is part of no command.
+/// The words after the program's path. Where one of them is no text there are none: such a word is part of no command.
 pub fn read_words<R: Env>(alloc: Global, rt: &R) -> Result<Vec<String>, NoMemory> {
     match env::args(&(Unnamed { rt }, alloc)) {
         Ok(words) => Ok(words.skip(1).collect(alloc)?),

@@ -1,10 +1,10 @@
 //! The commands. A new one is a file of its own in commands/ (its words, its report) and a line in each of these: the variants
 //! of `Command`, `read_command` and `report_on`.
 ghost use Rattle.std.specs.Prelude.{◌≡◌, map, option_map, All, Some, true, IfErr, IfOk, IfSome, string_bytes};
-ghost use Rattle.clverify.specs.Answer.{IsVerdict};
 ghost use Rattle.clverify.specs.Asked.{MayBeAsked, command_seen};
 ghost use Rattle.clverify.specs.Commands.{are_parsed, command_of, files_of};
 ghost use Rattle.clverify.specs.Due.{command_due};
+ghost use Rattle.clverify.specs.Reply.{IsVerdict};
 ghost use Rattle.job_inputs.specs.Inputs.{is_read_fault};
 ghost use Rattle.job_inputs.specs.Reads.{ReadsOnce};
 ghost use Rattle.clverify.specs.Settled.{IsReport};
@@ -16,17 +16,17 @@ mod question;
 mod selftest;
 mod verify;
 
-use crate::answer::Answer;
 use crate::commands::list::{list_report, list_words};
 use crate::commands::point::{point_report, point_words};
 use crate::commands::selftest::{selftest_report, selftest_words};
 use crate::commands::verify::{verify_command, verify_report};
+use crate::reply::Reply;
+use call_words::VerifyWords;
 use input_faults::Stopped;
 use point_marks::Question;
 use std::alloc::Global;
 use std::sync::Wait;
 use std::thread::Threads;
-use verify_words::VerifyWords;
 use vf_io::{NoMemory, Shelf};
 use worker_gate::Gate;
 
@@ -39,11 +39,11 @@ pub(crate) enum Command<'a> {
     Point { file: &'a str, question: Question },
     /// Verify the file with a setup, and a script if there is one.
     Verify(VerifyWords<'a>),
-    /// Verify a program that is made from a number, with a setup of its own.
+    /// Verify a program that is generated from a number, with a setup of its own.
     Selftest { number: u32 },
 }
 
-/// The command that words stand for, where they are one. Those behind `verify` want memory.
+/// The command that words stand for, where they are one. Those after `verify` need memory.
 pub(crate) fn read_command<'a>(
     alloc: Global,
     words: &'a [String],
@@ -71,7 +71,7 @@ pub(crate) fn report_on<R: Threads + Wait + Sync, S: Shelf, G: Gate + Sync>(
     command: &Command<'_>,
     shelf: &mut S,
     gate: &G,
-) -> Result<Answer, Stopped>
+) -> Result<Reply, Stopped>
     requires asked { MayBeAsked command.now }
     requires allowed { All (S.allows shelf.old) (files_of (Some (command_seen command.now))) }
     ensures report { IfSome (command_due (S.files shelf.old) (command_seen command.now)) (IsReport result) }

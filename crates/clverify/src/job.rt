@@ -13,7 +13,7 @@ use std::thread::Threads;
 use vf_io::NoMemory;
 use worker_gate::Gate;
 
-/// Does the task by so many workers, and gives what is so of its job.
+/// Does the task by `workers` workers, and returns what is true of its job.
 pub(crate) fn do_task<R: Threads + Wait + Sync, G: Gate + Sync>(
     rt: &R,
     alloc: Global,

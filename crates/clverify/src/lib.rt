@@ -1,10 +1,10 @@
 //! The verifier of cutter location files: its commands, from the words to the texts.
 #![tactic(auto)]
 
-mod answer;
 pub mod arguments;
 mod commands;
 mod job;
+mod reply;
 pub mod status;
 pub mod top;
 pub mod verdict;

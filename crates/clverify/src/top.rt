@@ -5,8 +5,8 @@ ghost use Rattle.clverify.specs.Due.{due};
 ghost use Rattle.clverify.specs.Headline.{Answers, Hands, IsComplete};
 ghost use Rattle.clverify.specs.Truth.{TellsTruth};
 
-use crate::answer::{settle, write_answer};
 use crate::commands::{read_command, report_on};
+use crate::reply::{settle, write_answer};
 use crate::status::Status;
 use std::alloc::Global;
 use std::sync::Wait;
@@ -19,7 +19,7 @@ const USAGE: &[u8] =
     b"usage: clverify list CL | point CL X Y Z --depth M [--slabs N] | verify CL SETUP [--script F] [--workers N] | selftest N\n";
 
 /// Does what the words ask for, over the files of the shelf, and writes the answer to the sink. Workers that verify a job enter the gate
-/// ahead of each turn. What is answered is the same whatever they do there, for any number of workers and any order of their turns.
+/// before each turn. What is answered is the same whatever they do there, for any number of workers and any order of their turns.
 pub fn run<R: Threads + Wait + Sync, S: Shelf, K: Sink, G: Gate + Sync>(
     rt: &R,
     alloc: Global,
@@ -51,7 +51,7 @@ pub fn run<R: Threads + Wait + Sync, S: Shelf, K: Sink, G: Gate + Sync>(
     ensures one_failure { result ≡ Status.ReadFault → S.failures shelf.new ≡ one_more_failure (S.failures shelf.old) }
     ensures calm { result ≢ Status.ReadFault → S.failures shelf.new ≡ S.failures shelf.old }
     ensures write_fault { result ≡ Status.WriteFault → Rose (K.faults sink.old) (K.faults sink.new) }
-    // Where no call outside fails, the whole answer comes, but for want of memory.
+    // Where no call outside fails, the whole answer comes, except when out of memory.
     ensures complete { ¬ (Rose (S.faults shelf.old) (S.faults shelf.new)) → ¬ (Rose (K.faults sink.old) (K.faults sink.new))
         → IsComplete result (due (S.files shelf.old) (command_of (map string_bytes words.now))) (K.written sink.old) (K.written sink.new) }
     ensures files { S.files shelf.new ≡ S.files shelf.old }

@@ -14,14 +14,14 @@ use vf_io::{SureShelf, SureSink};
 use worker_gate::Open;
 
 /// How a call with these words ends over these files, where nothing outside can fail and nobody reads what it writes. A name that none
-/// of the files has stands for an empty file.
+/// of the files has is taken as an empty file.
 pub fn verdict_of<R: Threads + Wait + Sync>(
     rt: &R,
     alloc: Global,
     words: &[String],
     files: Vec<(String, Vec<u8>)>,
 ) -> Status
-    // The status that is due, or none for want of memory.
+    // The status that is due, or none when out of memory.
     ensures complete { IsComplete result (due (files_told files.items) (command_of (map string_bytes words.now))) None None }
     // Where it is a verdict, there is a true text that goes with it.
     ensures sound { TellsTruth result (files_told files.items) (command_of (map string_bytes words.now)) None None }

@@ -1,4 +1,4 @@
-//! The program: the verifier over the words behind its path, the current folder and standard output.
+//! The program: the verifier over the words after its path, the current folder and standard output.
 #![tactic(auto)]
 
 use clverify::arguments::read_words;

@@ -17,7 +17,7 @@ pub fn mark_of(sweep: &Sweep, stacks: &Stacks, point: [i32; 3], depth: u32) -> M
     ensures clear { result ≡ Mark.Clear → ¬ MeetsUpper stacks.now.cutter sweep.now point }
     ensures possible { result ≡ Mark.Removed → is_possible_by stacks.now.cutter stacks.now.slabs sweep.now point (2 ^ depth) ≡ true }
 {
-    // A sweep is valid by its type, which is known where a field of it is seen.
+    // Reading a field of the sweep gives the prover its invariant.
     let _valid = &sweep.from;
     let inner = stacks.inner();
     let outer = stacks.outer();

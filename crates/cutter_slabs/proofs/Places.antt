@@ -2,7 +2,7 @@
 use Rattle.std.proofs.Common.{◌≡◌, ℕ, ◌*◌, List, ℤ, pos, ◌≤ℤ◌, arith, sym, subst}
 use Rattle.std.proofs.lemmas.Int.{ints}
 use Rattle.std.specs.List.{Contains}
-use Rattle.space.specs.Motion.{Motion, axis_at, offset_at}
+use Rattle.space.specs.Sweeps.{SweepOf, axis_at, offset_at}
 use Rattle.space.specs.Vectors.{dot, spread}
 use Rattle.space.proofs.Naturals.{dot_natural, natural, spread_natural}
 use Rattle.bern_form.specs.Slab.{SlabSize}
@@ -47,7 +47,7 @@ covers_up b lo hi dia u N W h =
 abbrev pub Found : ℕ → ℕ → ℕ → ℕ → List SlabSize → Type 0
 Found b u N W xs = (s : SlabSize) × Contains xs s × Covers s (pos b) (pos u) (pos N) (pos W)
 
-pub found_holds : (xs : List SlabSize) (m : Motion) (p : List ℤ) (a b : ℕ) (x : Place (offset_at m p (pos a) (pos b)) (axis_at m (pos a) (pos b)))
+pub found_holds : (xs : List SlabSize) (m : SweepOf) (p : List ℤ) (a b : ℕ) (x : Place (offset_at m p (pos a) (pos b)) (axis_at m (pos a) (pos b)))
     → Found b x.u x.n x.w xs → SomeHolds xs m p a b
 found_holds xs m p a b x f = record {
   slab = f.0;

@@ -10,12 +10,27 @@ use Rattle.bern_form.proofs.Roots.{root_le}
 use Rattle.cutter_slabs.specs.Corner.{CornerRule}
 use Rattle.cutter_slabs.specs.Cutter.{CutterSize, flat_of}
 use Rattle.cutter_slabs.specs.Inside.{IsInside, IsWithinRound}
-use Rattle.cutter_slabs.specs.Laws.{IsInCylinder}
+use Rattle.cutter_slabs.specs.Laws.{IsInCylinder, IsInsideFromTip}
 use Rattle.cutter_slabs.proofs.Corners.{Corner}
 use Rattle.cutter_slabs.proofs.Places.{Place, from_naturals, place_of, to_naturals}
+use Rattle.cutter_slabs.proofs.Round.{above_tip_base}
 use Rattle.cutter_slabs.proofs.Rules.{corner_down, corner_up}
+use Rattle.cutter_slabs.proofs.Whole.{above_up}
 
--- without a radius the corner asks no more than the side
+-- a cutter with the base 0 begins at the tip
+pub from_tip : (c : CutterSize) (t b : ℕ) (p a : List ℤ) → c.base ≡ 0 → IsInsideFromTip c t b p a → IsInside c t b p a
+from_tip c t b p a tip inside =
+    let x = place_of p a inside.forward in record {
+      forward = inside.forward;
+      above = above_up c b p a x (above_tip_base c b x.u x.n tip);
+      height = inside.height;
+      shape = inside.shape;
+    }
+
+pub to_tip : (c : CutterSize) (t b : ℕ) (p a : List ℤ) → IsInside c t b p a → IsInsideFromTip c t b p a
+to_tip c t b p a inside = record { forward = inside.forward; height = inside.height; shape = inside.shape }
+
+-- without a radius the corner rule says no more than the bound of the side
 no_radius : (R D u N W : ℕ) → R ≡ 0 → 4 * W ≤ (D * D) * N → Corner R D u N W
 no_radius R D u N W e side = λ p q g m one top low f h.
     let side2 = mul-le-mul_left (q * q) side in
@@ -27,7 +42,7 @@ no_radius R D u N W e side = λ p q g m one top low f h.
 side_down : (d n w : ℕ) → (pos 4 *ℤ pos w) ≤ℤ (pos (d * d) *ℤ pos n) → 4 * w ≤ (d * d) * n
 side_down d n w l = omega (arith, ints, l)
 
-pub cylinder_inside : (c : CutterSize) (t b : ℕ) (p a : List ℤ) → c.flank ≡ 0 → c.r ≡ 0 → IsInCylinder c.d c.h b p a → IsInside c t b p a
+pub cylinder_inside : (c : CutterSize) (t b : ℕ) (p a : List ℤ) → c.flank ≡ 0 → c.r ≡ 0 → IsInCylinder c.d c.base c.h b p a → IsInside c t b p a
 cylinder_inside c t b p a upright sharp inside =
     let x = place_of p a inside.forward in
     let side = side_down (b * c.d) x.n x.w (to_naturals (λ u n w. (pos 4 *ℤ w) ≤ℤ (pos (b * c.d * (b * c.d)) *ℤ n)) p a x inside.side) in
@@ -35,6 +50,7 @@ cylinder_inside c t b p a upright sharp inside =
     let none : b * c.r ≡ 0 = subst (λ r. b * r ≡ 0) (sym sharp) (omega arith) in
     let rule = no_radius (b * c.r) (b * flat_of c) x.u x.n x.w none (subst (λ d. 4 * x.w ≤ ((b * d) * (b * d)) * x.n) flat side) in record {
       forward = inside.forward;
+      above = inside.above;
       height = inside.height;
       shape = inl record {
         upright = upright;
@@ -43,12 +59,12 @@ cylinder_inside c t b p a upright sharp inside =
       };
     }
 
-pub inside_cylinder : (c : CutterSize) (t b : ℕ) (p a : List ℤ) → c.flank ≡ 0 → IsInside c t b p a → IsInCylinder c.d c.h b p a
+pub inside_cylinder : (c : CutterSize) (t b : ℕ) (p a : List ℤ) → c.flank ≡ 0 → IsInside c t b p a → IsInCylinder c.d c.base c.h b p a
 inside_cylinder c t b p a upright inside =
-    ⊎_elim (λ round. record { forward = inside.forward; height = inside.height; side = round.side })
+    ⊎_elim (λ round. record { forward = inside.forward; above = inside.above; height = inside.height; side = round.side })
     (λ cone. let leaning = cone.leaning in absurd (omega arith)) inside.shape
 
--- no square is at most 0 but that of 0
+-- no square is at most 0 except that of 0
 square_none : (m : ℕ) → m * m ≤ 0 → m ≡ 0
 square_none m h = let k = root_le m 0 h in omega arith
 
@@ -85,7 +101,7 @@ some_length : (a : List ℤ) (n : ℕ) → is_zero a ≡ false → dot a a ≡ p
 some_length a zero other e = absurd (apart (is_zero a) (is_zero_of a e) other)
 some_length a (suc n) other e = omega arith
 
--- what is nowhere off a line, and at its foot, is the foot
+-- an offset of no height and no distance from the axis is no offset
 product_none : (d n w u : ℕ) → pos d *ℤ pos n -ℤ pos u *ℤ pos u ≡ pos w → u ≡ 0 → w ≡ 0 → 0 < n → d ≡ 0
 product_none zero n w u e f g some = refl
 product_none (suc d) n w u e f g some =

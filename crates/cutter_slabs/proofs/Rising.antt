@@ -1,5 +1,5 @@
 -- The stacks of a cutter rise: their bounds do, and its profile with them.
-use Rattle.std.proofs.Common.{◌≡◌, ℕ, zero, suc, ◌+◌, ◌*◌, ◌-◌, ◌/◌, ◌≤◌, ◌<◌, ◌≤ℤ◌, List, [], ◌∷◌, ◌++◌, int_lt, pos, map, arith, refl, sym, subst, append-nil}
+use Rattle.std.proofs.Common.{◌≡◌, ℕ, zero, suc, ◌+◌, ◌*◌, ◌-◌, ◌/◌, ◌≤◌, ◌<◌, ◌≤ℤ◌, List, [], ◌∷◌, ◌++◌, int_lt, pos, map, arith, refl, sym, subst, append-nil, ⊎_elim}
 use Rattle.std.specs.List.{filter, range_with_len}
 use Rattle.std.proofs.Math.Nat.{div-mul-le_self, mul-le-mul, mul-le-mul_left, mul-le-mul_right}
 use Rattle.std.proofs.lemmas.Bool.{cond_both, ltb-true, ltb-false}
@@ -12,8 +12,9 @@ use Rattle.bern_form.proofs.Roots.{ceil_root-least, ceil_root-reaches, floor_roo
 use Rattle.cutter_slabs.specs.Cutter.{CutterSize, IsCutter, flat_of, top_diameter}
 use Rattle.cutter_slabs.specs.Rising.{IsRising}
 use Rattle.cutter_slabs.specs.Stacks.{bound_of, has_height, inner_stack, level_of, outer_stack, slab_of, top_slab}
-use Rattle.cutter_slabs.proofs.Bounds.{bound_of-last, bound_of-within, level_of-within}
+use Rattle.cutter_slabs.proofs.Bounds.{bound_of-last, bound_of-none, bound_of-within, level_of-within}
 use Rattle.cutter_slabs.proofs.Inner.{gain_core, square_within}
+use Rattle.cutter_slabs.proofs.Slabs.{no_slabs}
 use Rattle.cutter_slabs.proofs.Widening.{least_most, most_rises}
 
 -- slabs that begin at the height z, where there are any, and are at least d wide
@@ -136,15 +137,27 @@ outer_corner c n valid some =
     (λ j l. ceil_root-least _ r (square_small r (z (j + 1)) (bound_of-within r n (j + 1) some (omega arith))))
 
 -- the slab above the corner
+pub top_ordered : (c : CutterSize) → IsCutter c → c.r + c.base ≤ c.h
+top_ordered c valid =
+    let rounded = valid.rounded in let hollow = valid.hollow in
+    ⊎_elim (λ tip. omega (arith, rounded, tip)) (λ flat. let r = flat.0 in omega (arith, hollow, r)) valid.plain
+
 top_alone : (c : CutterSize) → IsCutter c → IsRising (top_slab c ∷ [])
 top_alone c valid =
-    let rounded = valid.rounded in let height = valid.height in let width = valid.width in
+    let ordered = top_ordered c valid in let height = valid.height in let width = valid.width in
     (record { above_tip = omega (arith, ints); ordered = omega (arith, ints); height = omega (arith, ints); thick = omega (arith, ints); width = omega (arith, ints) }, (tt, tt))
 
 with_top : (c : CutterSize) (n : ℕ) (w : ℕ → ℕ) → IsCutter c → 0 < n → Rises (bound_of c.r n) w n c.d → IsRising (slabs_from (bound_of c.r n) w 0 n ++ top_slab c ∷ [])
 with_top c n w valid some rises =
-    rising_with (bound_of c.r n) w n c.d (top_slab c ∷ []) rises (top_alone c valid)
-    (let last = bound_of-last c.r n some in (omega (arith, ints, last), omega (arith, ints)))
+    let z = bound_of c.r n in
+    ⊎_elim
+    (λ tip.
+    rising_with z w n c.d (top_slab c ∷ []) rises (top_alone c valid)
+    (let last = bound_of-last c.r n some in (omega (arith, ints, last, tip), omega (arith, ints))))
+    (λ flat.
+    subst (λ l. IsRising (l ++ top_slab c ∷ []))
+    (sym (no_slabs z w 0 n (λ j. let e = bound_of-none c.r n (j + 1) flat.0 some in omega (arith, e)))) (top_alone c valid))
+    valid.plain
 
 -- under a leaning flank
 least_rises : (degrees x y : ℕ) → x ≤ y → least_widening degrees x ≤ least_widening degrees y

@@ -2,7 +2,7 @@
 use Rattle.std.proofs.Common.{◌≡◌, ℕ, zero, suc, ◌+◌, ◌*◌, ◌≤◌, ◌<◌, List, [], ◌∷◌, ◌++◌, if◌then◌else◌, nat_lt, int_lt, pos, map, length, arith, refl, ap, sym, Bool, true, false, cond, subst, ◌∙◌, zero-add, add-one, ⊎_elim}
 use Rattle.std.specs.List.{All, Contains, filter, range_with_len}
 use Rattle.std.proofs.Math.Nat.{mul-le-mul, mul-le-mul_left, mul-le-mul_right}
-use Rattle.std.proofs.lemmas.Bool.{cases_lt, cond-true, lt-ltb}
+use Rattle.std.proofs.lemmas.Bool.{cases_lt, cond-true, cond_both, lt-ltb, ltb-true}
 use Rattle.std.proofs.lemmas.List.Elements.{All-cons, All-nil, All-filter, Contains-append_left, Contains-push}
 use Rattle.std.proofs.lemmas.List.FromFn.{filter_of_map_range_with_len_more}
 use Rattle.bern_form.specs.Slab.{SlabSize}
@@ -32,6 +32,18 @@ each_from : (P : SlabSize → Type 0) (slab : ℕ → SlabSize) (a n : ℕ) → 
 each_from P slab a zero each = All-nil P
 each_from P slab a (suc n) each =
     All-cons P (slab a) (map slab (range_with_len (a + 1) n)) (each a (omega arith) (omega arith)) (each_from P slab (a + 1) n (λ j l g. each j (omega arith) (omega arith)))
+
+-- between bounds that don't rise there are none
+pub no_slabs : (z w : ℕ → ℕ) (a n : ℕ) → ((j : ℕ) → z (j + 1) ≤ z j)
+    → filter has_height (map (λ j. slab_of (z j) (z (j + 1)) (w j)) (range_with_len a n)) ≡ []
+no_slabs z w a zero level = refl
+no_slabs z w a (suc n) level =
+    let rest = no_slabs z w (a + 1) n level in
+    let slabs : List SlabSize = filter has_height (map (λ j. slab_of (z j) (z (j + 1)) (w j)) (range_with_len (a + 1) n)) in
+    let here = level a in
+    cond_both (int_lt (pos (z a)) (pos (z (a + 1)))) (slab_of (z a) (z (a + 1)) (w a) ∷ slabs) slabs (λ l. l ≡ [])
+    (λ up. let k = ltb-true (z a) (z (a + 1)) up in absurd (omega (arith, here, k)))
+    (λ flat. rest)
 
 pub each_slab : (P : SlabSize → Type 0) (dia : ℕ → ℕ → ℕ) (z : ℕ → ℕ) (n : ℕ) → ((j : ℕ) → j < n → P (slab_of (z j) (z (j + 1)) (dia (z j) (z (j + 1))))) → All P (slabs_by dia z n)
 each_slab P dia z n each =

@@ -3,7 +3,7 @@ use Rattle.std.proofs.Common.{◌≡◌, ℕ, ◌+◌, ◌-◌, ◌*◌, ◌≤�
 use Rattle.std.proofs.lemmas.Bool.{cases_lt, cond-true, cond-false, eq-eqb, ne_eqb}
 use Rattle.std.proofs.lemmas.List.Elements.{All-contains}
 use Rattle.space.specs.Flanks.{least_widening, lower_tangent, most_widening, upper_tangent}
-use Rattle.space.specs.Motion.{IsSweep, IsTime, Motion, axis_at, offset_at}
+use Rattle.space.specs.Sweeps.{IsSweep, IsTime, SweepOf, axis_at, offset_at}
 use Rattle.space.proofs.ReachLemmas.{InReach}
 use Rattle.bern_form.proofs.Exclusion.{cell_of, excluded_not_held}
 use Rattle.bern_form.proofs.Reach.{held_within}
@@ -16,9 +16,9 @@ use Rattle.cutter_slabs.specs.Stacks.{bound_of, inner_stack, level_of, outer_sta
 use Rattle.cutter_slabs.proofs.Cones.{InCone, cone_more}
 use Rattle.cutter_slabs.proofs.Conical.{cone_found, cone_inner, cone_inside, cone_outer, cone_slab_holds}
 use Rattle.cutter_slabs.proofs.Places.{Place, covers_up, found_holds, from_naturals, place_of, to_naturals}
-use Rattle.cutter_slabs.proofs.Round.{InRound, full, round_found, round_inner, round_inside, round_outer}
+use Rattle.cutter_slabs.proofs.Round.{InRound, IsAbove, above_tip_base, full, round_above, round_found, round_inner, round_inside, round_outer}
 use Rattle.cutter_slabs.proofs.Slabs.{as_many_slabs}
-use Rattle.cutter_slabs.proofs.Whole.{leaning_down, leaning_up, round_down, round_up}
+use Rattle.cutter_slabs.proofs.Whole.{above_down, leaning_down, leaning_up, round_down, round_up}
 use Rattle.cutter_slabs.proofs.Widening.{tangents, upright_top}
 
 -- a flank is upright or it leans, and which stacks there are then
@@ -38,53 +38,58 @@ outer_leaning : (c : CutterSize) (n : ℕ) → 0 < c.flank → outer_stack c n �
 outer_leaning c n l = cond-false (c.flank == 0) (round_outer c n) (cone_outer c n) (ne_eqb c.flank 0 (λ e. absurd (omega arith)))
 
 -- a point that the upper cutter holds at a time is in some outer slab then
-pub inside_held : (c : CutterSize) (n : ℕ) (m : Motion) (p : List ℤ) (a b : ℕ) → IsCutter c → 0 < n → InUpperAt c m p a b → SomeHolds (outer_stack c n) m p a b
+pub inside_held : (c : CutterSize) (n : ℕ) (m : SweepOf) (p : List ℤ) (a b : ℕ) → IsCutter c → 0 < n → InUpperAt c m p a b → SomeHolds (outer_stack c n) m p a b
 inside_held c n m p a b valid some inside =
     let P = offset_at m p (pos a) (pos b) in let A = axis_at m (pos a) (pos b) in
     let x = place_of P A inside.forward in
     ⊎_elim
     (λ round. subst (λ l. SomeHolds l m p a b) (sym (outer_upright c n round.upright))
-    (found_holds (round_outer c n) m p a b x (round_found c b n x.u x.n x.w valid some (round_down c b P A x valid inside.height round))))
+    (found_holds (round_outer c n) m p a b x (round_found c b n x.u x.n x.w valid some (above_down c b P A x inside.above) (round_down c b P A x valid inside.height round))))
     (λ cone. subst (λ l. SomeHolds l m p a b) (sym (outer_leaning c n cone.leaning))
     (found_holds (cone_outer c n) m p a b x (cone_found c b n x.u x.n x.w valid some (leaning_down c (upper_tangent c.flank) b P A x inside.height cone))))
     inside.shape
 
-held_round : (c : CutterSize) (n : ℕ) (m : Motion) (p : List ℤ) (a b : ℕ) → IsCutter c → 0 < n → c.flank ≡ 0 → SomeHolds (round_inner c n) m p a b → InLowerAt c m p a b
+held_round : (c : CutterSize) (n : ℕ) (m : SweepOf) (p : List ℤ) (a b : ℕ) → IsCutter c → 0 < n → c.flank ≡ 0 → SomeHolds (round_inner c n) m p a b → InLowerAt c m p a b
 held_round c n m p a b valid some upright held =
     let P = offset_at m p (pos a) (pos b) in let A = axis_at m (pos a) (pos b) in
     let forward = held.holds.forward in
     let x = place_of P A forward in
     let covers = to_naturals (λ u n w. Covers held.slab (pos b) u n w) P A x held.holds in
     round_up c (lower_tangent c.flank) b P A x valid upright forward
+    (All-contains (λ s. Covers s (pos b) (pos x.u) (pos x.n) (pos x.w) → IsAbove c b x.u x.n) (round_inner c n) held.slab (round_above c b n x.u x.n x.w valid some) held.among covers)
     (All-contains (λ s. Covers s (pos b) (pos x.u) (pos x.n) (pos x.w) → InRound c b x.u x.n x.w) (round_inner c n) held.slab (round_inside c b n x.u x.n x.w valid some) held.among covers)
 
-held_cone : (c : CutterSize) (n : ℕ) (m : Motion) (p : List ℤ) (a b : ℕ) → 0 < n → 0 < c.flank → SomeHolds (cone_inner c n) m p a b → InLowerAt c m p a b
-held_cone c n m p a b some leaning held =
+-- a cutter that leans begins at the tip
+leaning_tip : (c : CutterSize) → IsCutter c → 0 < c.flank → c.base ≡ 0
+leaning_tip c valid leaning = ⊎_elim (λ tip. tip) (λ flat. let upright = flat.1 in absurd (omega (arith, upright))) valid.plain
+
+held_cone : (c : CutterSize) (n : ℕ) (m : SweepOf) (p : List ℤ) (a b : ℕ) → IsCutter c → 0 < n → 0 < c.flank → SomeHolds (cone_inner c n) m p a b → InLowerAt c m p a b
+held_cone c n m p a b valid some leaning held =
     let P = offset_at m p (pos a) (pos b) in let A = axis_at m (pos a) (pos b) in
     let forward = held.holds.forward in
     let t = lower_tangent c.flank in
     let x = place_of P A forward in
     let covers = to_naturals (λ u n w. Covers held.slab (pos b) u n w) P A x held.holds in
-    leaning_up c t b P A x leaning forward
+    leaning_up c t b P A x leaning forward (above_tip_base c b x.u x.n (leaning_tip c valid leaning))
     (All-contains (λ s. Covers s (pos b) (pos x.u) (pos x.n) (pos x.w) → InCone t (b * c.d) (b * c.h) x.u x.n x.w) (cone_inner c n) held.slab (cone_inside c b n x.u x.n x.w some) held.among covers)
 
 -- a point that some inner slab holds at a time is in the lower cutter then
-pub held_inside : (c : CutterSize) (n : ℕ) (m : Motion) (p : List ℤ) (a b : ℕ) → IsCutter c → 0 < n → SomeHolds (inner_stack c n) m p a b → InLowerAt c m p a b
+pub held_inside : (c : CutterSize) (n : ℕ) (m : SweepOf) (p : List ℤ) (a b : ℕ) → IsCutter c → 0 < n → SomeHolds (inner_stack c n) m p a b → InLowerAt c m p a b
 held_inside c n m p a b valid some held =
     ⊎_elim
     (λ upright. held_round c n m p a b valid some upright (subst (λ l. SomeHolds l m p a b) (inner_upright c n upright) held))
-    (λ leaning. held_cone c n m p a b some leaning (subst (λ l. SomeHolds l m p a b) (inner_leaning c n leaning) held))
+    (λ leaning. held_cone c n m p a b valid some leaning (subst (λ l. SomeHolds l m p a b) (inner_leaning c n leaning) held))
     (flank_cases c.flank)
 
 -- the lower cutter lies in the upper one
 pub lower_upper : (c : CutterSize) (b : ℕ) (p a : List ℤ) → IsInside c (lower_tangent c.flank) b p a → IsInside c (upper_tangent c.flank) b p a
 lower_upper c b p a inside =
     ⊎_elim
-    (λ round. record { forward = inside.forward; height = inside.height; shape = inl round })
+    (λ round. record { forward = inside.forward; above = inside.above; height = inside.height; shape = inl round })
     (λ cone.
     let x = place_of p a inside.forward in
     let low = leaning_down c (lower_tangent c.flank) b p a x inside.height cone in
-    leaning_up c (upper_tangent c.flank) b p a x cone.leaning inside.forward
+    leaning_up c (upper_tangent c.flank) b p a x cone.leaning inside.forward (above_down c b p a x inside.above)
     record { height = low.height; cone = cone_more 1000000 (lower_tangent c.flank) (upper_tangent c.flank) (b * c.d) x.u x.n x.w (tangents c.flank) low.cone })
     inside.shape
 
@@ -104,29 +109,29 @@ whole_slab c b p a x valid inside =
     covers_up b 0 c.h (top_diameter c) x.u x.n x.w (cone_slab_holds c b 0 c.h x.u x.n x.w i (omega arith) i.height))
     inside.shape
 
-inside_whole : (c : CutterSize) (m : Motion) (p : List ℤ) (a b : ℕ) → IsCutter c → InUpperAt c m p a b → HoldsAt (slab_of 0 c.h (top_diameter c)) m p a b
+inside_whole : (c : CutterSize) (m : SweepOf) (p : List ℤ) (a b : ℕ) → IsCutter c → InUpperAt c m p a b → HoldsAt (slab_of 0 c.h (top_diameter c)) m p a b
 inside_whole c m p a b valid inside =
     let P = offset_at m p (pos a) (pos b) in let A = axis_at m (pos a) (pos b) in
     let x = place_of P A inside.forward in
     from_naturals (λ u n w. Covers (slab_of 0 c.h (top_diameter c)) (pos b) u n w) P A x (whole_slab c b P A x valid inside)
 
 -- what the upper cutter holds at a time is in reach
-pub inside_in_reach : (c : CutterSize) (m : Motion) (p : List ℤ) (a b : ℕ) → IsCutter c → IsSweep m → IsTime a b → InUpperAt c m p a b → InReach (pos (reach_of c)) m.from m.to p
+pub inside_in_reach : (c : CutterSize) (m : SweepOf) (p : List ℤ) (a b : ℕ) → IsCutter c → IsSweep m → IsTime a b → InUpperAt c m p a b → InReach (pos (reach_of c)) m.from m.to p
 inside_in_reach c m p a b valid sweep time inside =
     held_within (slab_of 0 c.h (top_diameter c)) c.h (top_diameter c) m p a b refl refl sweep time (inside_whole c m p a b valid inside)
 
 -- a point that some inner slab holds at a time is in some outer slab then
-pub held_outer : (c : CutterSize) (n : ℕ) (m : Motion) (p : List ℤ) (a b : ℕ) → IsCutter c → 0 < n → SomeHolds (inner_stack c n) m p a b → SomeHolds (outer_stack c n) m p a b
+pub held_outer : (c : CutterSize) (n : ℕ) (m : SweepOf) (p : List ℤ) (a b : ℕ) → IsCutter c → 0 < n → SomeHolds (inner_stack c n) m p a b → SomeHolds (outer_stack c n) m p a b
 held_outer c n m p a b valid some held =
     inside_held c n m p a b valid some (lower_upper c b (offset_at m p (pos a) (pos b)) (axis_at m (pos a) (pos b)) (held_inside c n m p a b valid some held))
 
 -- a point that some inner slab holds at a sample is met
-pub sample_met : (c : CutterSize) (n : ℕ) (m : Motion) (p : List ℤ) (S : ℕ) → IsCutter c → 0 < n → 0 < S → HeldAtSample (inner_stack c n) m p S → MeetsLower c m p
+pub sample_met : (c : CutterSize) (n : ℕ) (m : SweepOf) (p : List ℤ) (S : ℕ) → IsCutter c → 0 < n → 0 < S → HeldAtSample (inner_stack c n) m p S → MeetsLower c m p
 sample_met c n m p S valid some cells held =
     record { numerator = held.sample; denominator = S; time = (cells, held.within); inside = held_inside c n m p held.sample S valid some held.held }
 
 -- a point that the upper cutter meets is possible
-pub met_possible : (c : CutterSize) (n : ℕ) (m : Motion) (p : List ℤ) (S : ℕ) → IsCutter c → 0 < n → 0 < S → IsSweep m → MeetsUpper c m p
+pub met_possible : (c : CutterSize) (n : ℕ) (m : SweepOf) (p : List ℤ) (S : ℕ) → IsCutter c → 0 < n → 0 < S → IsSweep m → MeetsUpper c m p
     → IsPossible (outer_stack c n) (pos (reach_of c)) m p S
 met_possible c n m p S valid some cells sweep met =
     let a = met.numerator in let b = met.denominator in
@@ -141,7 +146,7 @@ met_possible c n m p S valid some cells sweep met =
     }
 
 -- a move that meets a point with the lower cutter meets it with the upper one
-pub met_upper : (c : CutterSize) (m : Motion) (p : List ℤ) → MeetsLower c m p → MeetsUpper c m p
+pub met_upper : (c : CutterSize) (m : SweepOf) (p : List ℤ) → MeetsLower c m p → MeetsUpper c m p
 met_upper c m p met =
     let a = met.numerator in let b = met.denominator in record {
       numerator = a;

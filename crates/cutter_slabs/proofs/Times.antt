@@ -36,6 +36,13 @@ corner_back r E u N W k some c = λ p q g m one top low e f.
     let s = c (k * p) q (k * k * g) (k * k * (k * k) * m) one (omega (arith, top2)) (omega (arith, low4)) (omega (arith, e2)) (omega (arith, f4)) in
     le_of_mul-le-mul_left {k = k * k * (k * k) * (k * k * (k * k))} (omega (arith, s)) (omega (arith, eighth))
 
+-- the base
+pub scaled_above : (base u N k : ℕ) → (base * base) * N ≤ u * u → (k * base * (k * base)) * (k * k * N) ≤ (k * k * u) * (k * k * u)
+scaled_above base u N k h = let w = mul-le-mul_left (k * k * (k * k)) h in omega (arith, w)
+
+pub above_back : (base u N k : ℕ) → 0 < k → (k * base * (k * base)) * (k * k * N) ≤ (k * k * u) * (k * k * u) → (base * base) * N ≤ u * u
+above_back base u N k some h = le_of_mul-le-mul_left {k = k * k * (k * k)} (omega (arith, h)) (fourth_above k some)
+
 pub scaled_round : (r E h u N W k : ℕ) → 0 < k → InCutter r E h u N W → InCutter (k * r) (k * E) (k * h) (k * k * u) (k * k * N) (k * k * (k * k) * W)
 scaled_round r E h u N W k some inside =
     let high = mul-le-mul_left (k * k * (k * k)) inside.height in

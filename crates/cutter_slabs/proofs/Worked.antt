@@ -13,6 +13,7 @@ within_ball = λ g c e f. inl (omega (arith, ints, e, f))
 pub within : (t : ℕ) → IsInside ball t 1 (pos 44 ∷ negsuc 0 ∷ pos 2 ∷ []) slanted
 within t = record {
   forward = omega (arith, ints);
+  above = omega (arith, ints);
   height = omega (arith, ints);
   shape = inl record {
     upright = refl;

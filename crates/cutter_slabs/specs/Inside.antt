@@ -17,9 +17,10 @@ pub record IsWithinCone (c : CutterSize) (t b : ℕ) (u n w : ℤ) : Type 0 wher
   pub cone : ConeRule t (b * c.d) u n w
 
 -- The cutter, its lengths taken times b and its flank's tangent as t millionths, holds the offset p from the tip under the axis
--- a. With u = p.a, n = |a|^2 and w the squared distance from the axis times n: u >= 0, u^2 <= h^2 n, and it is within the round
--- or the cone.
+-- a. With u = p.a, n = |a|^2 and w the squared distance from the axis times n: u >= 0, base^2 n <= u^2 <= h^2 n, and it is within
+-- the round or the cone.
 pub record IsInside (c : CutterSize) (t b : ℕ) (p a : List ℤ) : Type 0 where
   pub forward : pos 0 ≤ℤ dot p a
+  pub above : (pos (b * c.base * (b * c.base)) *ℤ dot a a) ≤ℤ (dot p a *ℤ dot p a)
   pub height : (dot p a *ℤ dot p a) ≤ℤ (pos (b * c.h * (b * c.h)) *ℤ dot a a)
   pub shape : IsWithinRound c b (dot p a) (dot a a) (spread p a) ⊎ IsWithinCone c t b (dot p a) (dot a a) (spread p a)

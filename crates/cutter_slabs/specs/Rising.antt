@@ -13,7 +13,7 @@ abbrev pub BeginsOn : SlabSize → List SlabSize → Type 0
 BeginsOn s [] = Unit
 BeginsOn s (t ∷ rest) = LiesOn t s
 
--- valid slabs from the lowest upwards, each but the lowest on the one before it
+-- valid slabs from the lowest upwards, each except the lowest on the one before it
 abbrev pub IsRising : List SlabSize → Type 0
 IsRising [] = Unit
 IsRising (s ∷ rest) = IsSlab s × (BeginsOn s rest × IsRising rest)

@@ -42,9 +42,9 @@ has_height s = int_lt s.lo s.hi
 abbrev pub slabs_between : (ℕ → ℕ → SlabSize) → (ℕ → ℕ) → ℕ → List SlabSize
 slabs_between slab z n = filter has_height (map (λ j. slab (z j) (z (j + 1))) (range_with_len 0 n))
 
--- the slab above the corner, from r to h with the full diameter
+-- the slab above the corner, up to h with the full diameter: it begins at r, or at the base, since one of them is 0
 abbrev pub top_slab : CutterSize → SlabSize
-top_slab c = slab_of c.r c.h c.d
+top_slab c = slab_of (c.r + c.base) c.h c.d
 
 -- the stacks of a cutter for n: under an upright flank the slabs of the corner and the top slab, else the slabs of the cone
 abbrev pub inner_stack : CutterSize → ℕ → List SlabSize
@@ -61,7 +61,7 @@ outer_stack c n =
 abbrev pub reach_of : CutterSize → ℕ
 reach_of c = c.h + top_diameter c
 
--- what a pair of stacks is: a cutter, and the number n that it was made with
+-- what a pair of stacks is: a cutter, and the number n of its slabs
 pub record StacksOf : Type 0 where
   pub cutter : CutterSize
   pub slabs : ℕ

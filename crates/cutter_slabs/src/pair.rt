@@ -41,7 +41,7 @@ fn push_slab(stack: &mut Vec<Slab>, lo: u32, hi: u32, dia: u32) -> Result<(), No
 }
 
 /// The stacks of a cutter with an upright flank: the corner, up to its upper end r, is cut into at most n slabs, and one slab
-/// with the full diameter reaches from r to h.
+/// with the full diameter reaches from there, or from the base of a cutter without a corner, to h.
 #[tactic(auto, using(crate::proofs::Slabs::slabs_more))]
 fn rounded(alloc: Global, cutter: &Cutter, n: u32) -> Result<Pair, NoMemory>
     requires upright { cutter.now.flank ≡ 0 }
@@ -71,7 +71,7 @@ fn rounded(alloc: Global, cutter: &Cutter, n: u32) -> Result<Pair, NoMemory>
         )?;
         lo = hi;
     }
-    let top = slab_between(radius, cutter.height(), cutter.diameter());
+    let top = slab_between(radius + cutter.base(), cutter.height(), cutter.diameter());
     inner.push(top)?;
     outer.push(top)?;
     Ok(Pair { inner, outer })

@@ -7,7 +7,7 @@ use bern_form::{isqrt_ceil, isqrt_floor};
 // At the height z above the tip, z at most r, the rounded corner is sqrt(r^2 - (r - z)^2) = sqrt(2 r z - z^2) wide, and the
 // profile is that far from the edge of the flat bottom. Diameters are twice that.
 
-/// The j-th bound between the slabs of the corner: r (j / n)^2, rounded down. The bounds stand closer near the tip, where the
+/// The j-th bound between the slabs of the corner: r (j / n)^2, rounded down. The bounds are closer to each other near the tip, where the
 /// profile is flat.
 pub fn bound(radius: u32, n: u32, j: u32) -> u32
     requires radius { radius ≤ 100000 }

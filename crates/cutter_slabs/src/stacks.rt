@@ -1,7 +1,7 @@
 ghost use Rattle.std.specs.Prelude.{◌≡◌, ◌≤◌, ◌<◌, ℕ, List, ℤ, pos, length, true, false, IfOk};
-ghost use Rattle.space.specs.Motion.{IsSweep, IsTime, Motion};
 ghost use Rattle.space.specs.Reach.{is_in_reach};
-ghost use Rattle.bern_form.specs.Marks.{held_at_sample, is_possible, some_holds};
+ghost use Rattle.space.specs.Sweeps.{IsSweep, IsTime, SweepOf};
+ghost use Rattle.bern_form.specs.Marks.{held_at_sample, is_possible_with, some_holds};
 ghost use Rattle.cutter_slabs.specs.Meets.{InLowerAt, InUpperAt, MeetsLower, MeetsUpper};
 ghost use Rattle.cutter_slabs.specs.Rising.{IsRising};
 ghost use Rattle.cutter_slabs.specs.Stacks.{inner_stack, outer_stack, reach_of};
@@ -34,7 +34,7 @@ impl Model for Stacks {
 }
 
 impl Stacks {
-    /// The stacks of a cutter for `n`, which is 1 to 256. Fails only for want of memory.
+    /// The stacks of a cutter for `n`, which is 1 to 256. Fails only when out of memory.
     pub fn new(alloc: Global, cutter: Cutter, n: u32) -> Result<Stacks, NoMemory>
         requires some { 1 ≤ n }
         requires few { n ≤ 256 }
@@ -55,12 +55,12 @@ impl Stacks {
     pub fn inner(&self) -> &[Slab]
         ensures stack { result.now ≡ inner_stack self.now.cutter self.now.slabs }
         ensures rising { IsRising result.now }
-        ensures inside { (m : Motion) (p : List ℤ) (a b : ℕ) → some_holds result.now m p a b ≡ true → InLowerAt self.now.cutter m p a b }
-        ensures enclosed { (m : Motion) (p : List ℤ) (a b : ℕ) → some_holds result.now m p a b ≡ true
+        ensures inside { (m : SweepOf) (p : List ℤ) (a b : ℕ) → some_holds result.now m p a b ≡ true → InLowerAt self.now.cutter m p a b }
+        ensures enclosed { (m : SweepOf) (p : List ℤ) (a b : ℕ) → some_holds result.now m p a b ≡ true
             → some_holds (outer_stack self.now.cutter self.now.slabs) m p a b ≡ true }
-        ensures met { (m : Motion) (p : List ℤ) (S : ℕ) → 0 < S → held_at_sample result.now m p S ≡ true → MeetsLower self.now.cutter m p }
-        ensures possible { (m : Motion) (p : List ℤ) (S : ℕ) → 0 < S → IsSweep m → held_at_sample result.now m p S ≡ true
-            → is_possible (outer_stack self.now.cutter self.now.slabs) (pos (reach_of self.now.cutter)) m p S ≡ true }
+        ensures met { (m : SweepOf) (p : List ℤ) (S : ℕ) → 0 < S → held_at_sample result.now m p S ≡ true → MeetsLower self.now.cutter m p }
+        ensures possible { (m : SweepOf) (p : List ℤ) (S : ℕ) → 0 < S → IsSweep m → held_at_sample result.now m p S ≡ true
+            → is_possible_with (outer_stack self.now.cutter self.now.slabs) (pos (reach_of self.now.cutter)) m p S ≡ true }
     {
         &self.inner
     }
@@ -71,9 +71,9 @@ impl Stacks {
         ensures stack { result.now ≡ outer_stack self.now.cutter self.now.slabs }
         ensures rising { IsRising result.now }
         ensures as_many { length result.now ≡ length (inner_stack self.now.cutter self.now.slabs) }
-        ensures encloses { (m : Motion) (p : List ℤ) (a b : ℕ) → InUpperAt self.now.cutter m p a b → some_holds result.now m p a b ≡ true }
-        ensures clear { (m : Motion) (p : List ℤ) (S : ℕ) → 0 < S → IsSweep m
-            → is_possible result.now (pos (reach_of self.now.cutter)) m p S ≡ false → ¬ MeetsUpper self.now.cutter m p }
+        ensures encloses { (m : SweepOf) (p : List ℤ) (a b : ℕ) → InUpperAt self.now.cutter m p a b → some_holds result.now m p a b ≡ true }
+        ensures clear { (m : SweepOf) (p : List ℤ) (S : ℕ) → 0 < S → IsSweep m
+            → is_possible_with result.now (pos (reach_of self.now.cutter)) m p S ≡ false → ¬ MeetsUpper self.now.cutter m p }
     {
         &self.outer
     }
@@ -83,7 +83,7 @@ impl Stacks {
     pub fn reach(&self) -> i32
         ensures value { result ≡ pos (reach_of self.now.cutter) }
         ensures few { reach_of self.now.cutter ≤ 500000 }
-        ensures encloses { (m : Motion) (p : List ℤ) (a b : ℕ) → IsSweep m → IsTime a b → InUpperAt self.now.cutter m p a b
+        ensures encloses { (m : SweepOf) (p : List ℤ) (a b : ℕ) → IsSweep m → IsTime a b → InUpperAt self.now.cutter m p a b
             → is_in_reach result m.from m.to p ≡ true }
     {
         (self.cutter.height() + self.cutter.top_diameter()) as i32

@@ -1,4 +1,4 @@
--- A move that is asked about no more than what is wanted finds and adds what it would if it were asked about all.
+-- A move that is tested for no more than what is wanted finds and adds what it would if it were tested for all.
 use Rattle.std.proofs.Common.{◌≡◌, Bool, true, false, not, ◌&&◌, ◌||◌, IsTrue, refl, sym, ap, ap₂, ◌∙◌, if◌then◌else◌}
 use Rattle.dexel_rays.specs.Findings.{Seen, met}
 use Rattle.dexel_rays.specs.Asked.{is_wanted, is_sure_only, Agree}
@@ -50,7 +50,7 @@ taken : (w x y : Bool) → IsTrue w → x ≡ y → (w && x) ≡ y
 taken true x y t e = e
 taken false x y t e = cc
 
--- the marks that are asked for agree with all marks; here by whether the point is wanted, and for 'sure' alone
+-- the marks that are wanted agree with all marks; here by whether the point is wanted, and for 'sure' only
 pub asked_agree : (p : Seen) (wanted only sure possible : Bool) → wanted ≡ is_wanted p → only ≡ is_sure_only p → sure ≡ (wanted && p.sure)
     → possible ≡ (wanted && (if only then p.sure else p.possible)) → Agree p sure possible
 asked_agree p wanted only sure possible iw io is ip = record {
@@ -65,7 +65,7 @@ stays_possible true false s p i e t = let none = i refl in cc
 stays_possible false false true p i e t = let q = e refl in cc
 stays_possible false false false p i e t = cc
 
--- marks that are asked for tell no point as sure that isn't possible, where all marks don't
+-- marks that are wanted show no point as sure that isn't possible, where all marks don't
 pub asked_possible : (wanted only s p : Bool) → (IsTrue s → IsTrue p) → IsTrue (wanted && s) → IsTrue (wanted && (if only then s else p))
 asked_possible true true s p e t = t
 asked_possible true false s p e t = e t

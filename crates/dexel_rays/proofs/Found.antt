@@ -3,9 +3,9 @@ use Rattle.std.proofs.Common.{◌≡◌, ℕ, List, length, Bool, not, ◌&&◌,
 use Rattle.std.specs.List.{range_with_len}
 use Rattle.vf_spans.specs.Members.{has, count_below}
 use Rattle.vf_spans.specs.Words.{has_bit}
-use Rattle.job_facts.specs.declared.counts.Counts.{Counts}
+use Rattle.job_counts.specs.declared.counts.Counts.{Counts}
 use Rattle.std.proofs.lemmas.List.Sums.{count_by-le-length}
-use Rattle.job_facts.specs.Counts.{AreWithin}
+use Rattle.job_counts.specs.Counts.{AreWithin}
 use Rattle.dexel_rays.specs.Findings.{Seen, findings, is_removed, is_new_possible, is_part_sure, is_part_possible, is_fixture_sure, is_fixture_possible, is_rapid_sure, is_rapid_possible}
 use Rattle.dexel_rays.specs.Sets.{Sets, HaveBound, seen_at}
 use Rattle.dexel_rays.specs.WordSets.{seen_bit}
@@ -34,7 +34,7 @@ at d sure possible rapid a b c e f g h k size ia ib ic ie jf jg jh jk =
     let rg : g ≡ count_below n (λ i. has d.fixture i && has possible i) = jg ∙ ap (λ m. count_below m (λ i. has d.fixture i && has possible i)) size.fixture in
     cc
 
--- as `at`, for a ray that is seen through its parts
+-- as `at`, for a ray that is given by its parts
 pub found_is : (i d : Sets) → i ≡ d → (sure possible : List Bool) (rapid : Bool) (a b c e f g h k : ℕ) → HaveBound (length i.stock) i
     → a ≡ both_not i.stock sure i.sure → b ≡ both_not i.stock possible i.possible → c ≡ both i.part sure → e ≡ both i.part possible
     → f ≡ both i.fixture sure → g ≡ both i.fixture possible → h ≡ fast rapid i.stock sure i.possible → k ≡ fast rapid i.stock possible i.sure

@@ -4,8 +4,8 @@ use Rattle.std.specs.List.{range_with_len, count_by}
 use Rattle.std.proofs.lemmas.List.Sums.{sum_by-cons}
 use Rattle.vf_spans.specs.Members.{has}
 use Rattle.vf_spans.proofs.Same.{same_sets}
-use Rattle.job_facts.specs.declared.counts.Counts.{Counts}
-use Rattle.job_facts.specs.Counts.{no_counts}
+use Rattle.job_counts.specs.declared.counts.Counts.{Counts}
+use Rattle.job_counts.specs.Counts.{no_counts}
 use Rattle.dexel_rays.specs.declared.delta.Delta.{Delta}
 use Rattle.dexel_rays.specs.Findings.{Seen, met, none_met, findings, is_settled, is_outside}
 use Rattle.dexel_rays.specs.Sets.{Sets, HaveBound, seen_at}
@@ -102,7 +102,7 @@ taken_back before all after sure possible rapid delta w u d =
     let is_possible = left_again before.possible possible all.possible delta.possible after.possible (w.bound_after.possible ∙ n ∙ sym u.bound_before.possible) u.all_possible d.new_possible w.left_possible in
     same_sets_of after.stock before.stock after.part before.part after.fixture before.fixture after.sure before.sure after.possible before.possible stock part fixture is_sure is_possible
 
--- the sets of a ray that is seen through its parts, with the united ones in place of its marks
+-- the sets of a ray that is given by its parts, with the united ones in place of its marks
 pub united_inside : (i d : Sets) → i ≡ d → (all_sure all_possible sure possible : List Bool) → HaveBound (length i.stock) i
     → length all_sure ≡ length i.sure → length all_possible ≡ length i.possible
     → ((k : ℕ) → has all_sure k ≡ (has i.sure k || has sure k)) → ((k : ℕ) → has all_possible k ≡ (has i.possible k || has possible k))

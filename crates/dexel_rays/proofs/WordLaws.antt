@@ -1,4 +1,4 @@
--- The sets of 64 points: taking a delta back, and what a move adds and finds that is asked about no more than what is wanted.
+-- The sets of 64 points: taking a delta back, and what a move adds and finds that is tested for no more than what is wanted.
 use Rattle.std.proofs.Common.{◌≡◌, ℕ, ◌^◌, ◌<◌, Bool, false, not, ◌&&◌, ◌||◌, IsTrue, sym, ap, ap₂, ◌∙◌, ◌⊎◌, ⊎_elim, if◌then◌else◌}
 use Rattle.std.specs.List.{range_with_len}
 use Rattle.vf_spans.specs.Words.{has_bit}
@@ -85,7 +85,7 @@ agree_possible w after delta sure possible s p rapid b lt i d u e =
     ∙ agree_new_possible (has_bit w.stock b) (has_bit w.part b) (has_bit w.fixture b) (has_bit w.sure b) (has_bit w.possible b) (s b) (p b) (has_bit sure b) (has_bit possible b) rapid (i b lt) e)
     ∙ new_is_all (has_bit w.possible b) (p b)
 
--- the marks of wanted points, of some of them for 'sure' alone, agree with all marks
+-- the marks of wanted points, of some of them only for 'sure', agree with all marks
 pub asked_word : (w : WordSets) (wanted only sure possible : ℕ) (s p : ℕ → Bool) (rapid : Bool) (b : ℕ)
     → has_bit wanted b ≡ is_wanted (seen_bit w 0 0 false b) → has_bit only b ≡ is_sure_only (seen_bit w 0 0 rapid b)
     → has_bit sure b ≡ (has_bit wanted b && s b) → has_bit possible b ≡ (has_bit wanted b && (if has_bit only b then s b else p b))
@@ -93,7 +93,7 @@ pub asked_word : (w : WordSets) (wanted only sure possible : ℕ) (s p : ℕ →
 asked_word w wanted only sure possible s p rapid b iw io is ip =
     asked_agree (seen_by w s p rapid b) (has_bit wanted b) (has_bit only b) (has_bit sure b) (has_bit possible b) iw io is ip
 
--- the sets hold no point as sure that isn't possible, where they didn't ahead of a move and its marks don't
+-- the sets hold no point as sure that isn't possible, where they didn't before a move and its marks don't
 pub still_possible : (w after : WordSets) (delta : WordDelta) (sure possible : ℕ) → SureIsPossible w → ((b : ℕ) → b < 64 → IsTrue (has_bit sure b) → IsTrue (has_bit possible b))
     → IsWordDelta w sure possible delta → IsWordWith w delta after → SureIsPossible after
 still_possible w after delta sure possible i e d u =

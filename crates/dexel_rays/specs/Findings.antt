@@ -1,8 +1,8 @@
 -- What a move finds at a point: eight rules on what is known there, and how many points meet each.
 use Rattle.std.specs.Prelude.{Bool, false, not, ◌&&◌, ◌||◌, List, count_by}
-use Rattle.job_facts.specs.declared.counts.Counts.{Counts}
+use Rattle.job_counts.specs.declared.counts.Counts.{Counts}
 
--- what is known of a point at a move: which bodies hold it, of which and at which points some move ahead was sure or possible,
+-- what is known of a point at a move: which bodies hold it, of which and at which points some earlier move was sure or possible,
 -- whether this move is, and whether it is rapid
 pub record Seen : Type 0 where
   pub stock : Bool
@@ -14,11 +14,11 @@ pub record Seen : Type 0 where
   pub possible : Bool
   pub rapid : Bool
 
--- stock that this move is sure of and no move ahead was
+-- stock that this move is sure of and no earlier move was
 abbrev pub is_removed : Seen → Bool
 is_removed p = p.stock && (p.sure && not p.sure_before)
 
--- stock at which this move is possible and no move ahead was; a point that is removed now may have been possible before
+-- stock at which this move is possible and no earlier move was; a point that is removed now may have been possible before
 abbrev pub is_new_possible : Seen → Bool
 is_new_possible p = p.stock && (p.possible && not p.possible_before)
 
@@ -36,11 +36,11 @@ is_fixture_sure p = p.fixture && p.sure
 abbrev pub is_fixture_possible : Seen → Bool
 is_fixture_possible p = p.fixture && p.possible
 
--- stock that a rapid move is sure of and at which no move ahead was possible
+-- stock that a rapid move is sure of and at which no earlier move was possible
 abbrev pub is_rapid_sure : Seen → Bool
 is_rapid_sure p = p.rapid && (p.stock && (p.sure && not p.possible_before))
 
--- stock at which a rapid move is possible and of which no move ahead was sure
+-- stock at which a rapid move is possible and of which no earlier move was sure
 abbrev pub is_rapid_possible : Seen → Bool
 is_rapid_possible p = p.rapid && (p.stock && (p.possible && not p.sure_before))
 
@@ -92,7 +92,7 @@ findings see points = record {
   rapid_possible = count_by (λ p. is_rapid_possible (see p)) points;
 }
 
--- the point is neither part nor fixture, and some move ahead was sure of it, so that one was possible there too
+-- the point is neither part nor fixture, and some earlier move was sure of it, so that one was possible there too
 abbrev pub is_settled : Seen → Bool
 is_settled p = (p.sure_before && p.possible_before) && not (p.part || p.fixture)
 

@@ -2,7 +2,7 @@
 use Rattle.std.specs.Prelude.{◌≡◌, ℕ, ◌<◌, Bool, IsTrue, not, ◌&&◌, ◌||◌}
 use Rattle.vf_spans.specs.Members.{count_below}
 use Rattle.vf_spans.specs.Words.{has_bit}
-use Rattle.job_facts.specs.declared.totals.Totals.{Totals}
+use Rattle.job_counts.specs.declared.totals.Totals.{Totals}
 use Rattle.dexel_rays.specs.declared.word_sets.WordDelta.{WordDelta}
 use Rattle.dexel_rays.specs.declared.word_sets.WordSets.{WordSets}
 use Rattle.dexel_rays.specs.Findings.{Seen}

@@ -1,11 +1,11 @@
 ghost use Rattle.std.specs.Prelude.{◌≡◌, ℕ, List, Bool, false, length};
 ghost use Rattle.vf_spans.specs.Members.{has};
-ghost use Rattle.job_facts.specs.Counts.{no_counts};
+ghost use Rattle.job_counts.specs.Counts.{no_counts};
 ghost use Rattle.dexel_rays.specs.declared.delta.Delta.{Delta};
 ghost use Rattle.dexel_rays.specs.Sets.{Sets, HaveBound};
 ghost use Rattle.dexel_rays.specs.Steps.{IsDelta};
 
-use job_facts::Counts;
+use job_counts::Counts;
 use std::alloc::Global;
 use vf_spans::Spans;
 

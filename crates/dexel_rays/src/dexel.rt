@@ -6,7 +6,7 @@ ghost use Rattle.dexel_rays.specs.Sets.{Sets, HaveBound, seen_at};
 ghost use Rattle.dexel_rays.specs.Steps.{IsDelta, IsUnited, IsWithout, StaysAt};
 
 use crate::delta::Delta;
-use job_facts::Counts;
+use job_counts::Counts;
 use std::alloc::Global;
 use std::marker::Model;
 use vf_io::NoMemory;
@@ -65,18 +65,21 @@ impl Dexel {
         self.stock.bound()
     }
 
+    /// Whether point l of the ray, counted from 0, is stock, removed or not.
     pub fn has_stock(&self, l: u32) -> bool
         ensures { result ≡ has self.now.stock l }
     {
         self.stock.has(l)
     }
 
+    /// Whether some move was sure of point l of the ray, counted from 0.
     pub fn has_sure(&self, l: u32) -> bool
         ensures { result ≡ has self.now.sure l }
     {
         self.sure.has(l)
     }
 
+    /// Whether some move was possible at point l of the ray, counted from 0.
     pub fn has_possible(&self, l: u32) -> bool
         ensures { result ≡ has self.now.possible l }
     {

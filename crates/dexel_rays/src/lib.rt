@@ -8,5 +8,5 @@ mod word_sets;
 
 pub use delta::Delta;
 pub use dexel::Dexel;
-pub use job_facts::{Counts, Totals};
+pub use job_counts::{Counts, Totals};
 pub use word_sets::{WordDelta, WordSets};

@@ -7,7 +7,7 @@ ghost use Rattle.dexel_rays.specs.Findings.{findings};
 ghost use Rattle.dexel_rays.specs.WordSets.{seen_bit, IsWordDelta, IsWordWith, IsWordWithout, word_totals};
 
 use crate::ones::{ones, ones_meet, ones_meet_minus, rapid_ones};
-use job_facts::{Counts, Totals};
+use job_counts::{Counts, Totals};
 
 /// What is known of 64 points of a ray: bit b of each word is the point at the index first + b.
 #[derive(Clone, Copy)]
@@ -30,7 +30,7 @@ pub struct WordDelta {
 }
 
 impl WordSets {
-    /// The points that a move has to be asked about: those not yet sure, part, and fixture.
+    /// The points that are candidates for a move: those not yet sure, part, and fixture.
     #[inline]
     pub fn wanted(&self) -> u64
         // What the move marks, and whether it is rapid, doesn't matter.
@@ -39,8 +39,8 @@ impl WordSets {
         self.part | self.fixture | !self.sure
     }
 
-    /// The points of which a move has only to be asked whether it is sure: those that are possible
-    /// already, of a move that isn't rapid, but for part and fixture.
+    /// The points at which only whether a move is sure has to be tested: those that are possible
+    /// already, of a move that isn't rapid, except part and fixture.
     #[inline]
     pub fn sure_only(&self, rapid: bool) -> u64
         // What the move marks doesn't matter.

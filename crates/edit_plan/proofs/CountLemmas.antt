@@ -60,15 +60,15 @@ counted_redone left dropped times edits few room counted =
       few = omega (arith, length-append edits (replicate times Redo), length-replicate times Redo);
     }
 
--- a script that was made
+-- the script after a line that was read
 abbrev done : Script → Result Script ScriptWhy
 done script = Ok script
 
--- there is room where so many more are not too many
+-- there is room where `count` more are not too many
 pub has_room : (count : ℕ) (edits : List Edit) (script : Script) → script.edits ≡ edits → are_too_many count script ≡ false → length edits + count ≤ most_edits
 has_room count edits script same room = omega (arith, ltb-false most_edits (length script.edits + count) room, ap length same)
 
--- more edits behind those that a script has, where they are not too many
+-- more edits after those that a script has, where they are not too many
 pub record Grows (edits pushed more : List Edit) (times : ℕ) (script : Script) : Type 0 where
   pub same : script.edits ≡ edits
   pub room : are_too_many times script ≡ false

@@ -4,7 +4,7 @@ use Rattle.std.proofs.Math.Seq.{drop-length, take-length}
 use Rattle.std.specs.List.{prefix_len}
 use Rattle.vf_io.specs.Pieces.{lead, line_feed, pieces_of}
 
--- how many bytes stand ahead of the first line's end
+-- how many bytes come before the first line's end
 abbrev ahead_of_end : List ℕ → ℕ
 ahead_of_end text = prefix_len (λ b. not (b == line_feed)) text
 
@@ -20,7 +20,7 @@ pieces_of-here b bytes here = rw here refl
 pieces_of-later : (b : ℕ) (bytes : List ℕ) → (b == line_feed) ≡ false → pieces_of (b ∷ bytes) ≡ lead b (pieces_of bytes)
 pieces_of-later b bytes later = rw later refl
 
--- a text whose first line has an end is cut behind it
+-- a text whose first line has an end is cut after it
 abbrev IsCutBehind : List ℕ → Type 0
 IsCutBehind text = ahead_of_end text < length text → pieces_of text ≡ take (ahead_of_end text + 1) text ∷ pieces_of (drop (ahead_of_end text + 1) text)
 

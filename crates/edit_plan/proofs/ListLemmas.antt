@@ -47,7 +47,7 @@ pub all_find-applied : (lists : MoveLists) (first count : ℕ) → all_find list
 all_find-applied lists first zero = refl
 all_find-applied lists first (suc count) = all_find-applied (after_edit lists (Apply first)) (first + 1) count
 
--- the moves that are left are those that were applied behind those that were left
+-- the moves that are left are those that were applied after those that were left
 pub left-applied : (lists : MoveLists) (first count : ℕ) → (fold after_edit lists (applied_moves first count)).left ≡ lists.left ++ range_with_len first count
 left-applied lists first zero = sym (append-nil lists.left)
 left-applied lists first (suc count) =
@@ -77,7 +77,7 @@ redo_one : (lists : MoveLists) → 0 < length lists.dropped → (length (after_e
 redo_one lists some =
     (length-but_last lists.dropped some, length-append lists.left (last_alone lists.dropped) ∙ ap (λ n. length lists.left + n) (length-last lists.dropped some))
 
--- so many moves were undone: what was found, and how many are left and dropped
+-- `times` moves were undone: what was found, and how many are left and dropped
 pub record Undone (lists after : MoveLists) (times : ℕ) (found : Bool) : Type 0 where
   pub found_all : found ≡ true
   pub left_count : length after.left + times ≡ length lists.left
@@ -95,7 +95,7 @@ undone lists (suc times) few =
       dropped_count = omega (arith, later.dropped_count, one.1);
     }
 
--- so many were taken back
+-- `times` were taken back
 pub record Redone (lists after : MoveLists) (times : ℕ) (found : Bool) : Type 0 where
   pub found_all : found ≡ true
   pub left_count : length after.left ≡ length lists.left + times

@@ -43,11 +43,11 @@ redos_below : (moves times : ℕ) → All (AppliesBelow moves) (replicate times 
 redos_below moves zero = λ k d within. absurd (omega (arith, within))
 redos_below moves (suc times) = All-cons (AppliesBelow moves) Redo (replicate times Redo) tt (redos_below moves times)
 
--- the edits that come behind leave a query in range
+-- the edits that come after leave a query in range
 query_later : (grid : GridSize) (fewer more : ℕ) (query : Query) → fewer ≤ more → IsQuery grid fewer query → IsQuery grid more query
 query_later grid fewer more query grown is = record { version = omega (arith, is.version, grown); point = is.point }
 
--- edits that find what they take, behind those of a script
+-- edits that find what they take, after those of a script
 edits_added : (moves : ℕ) (grid : GridSize) (script : Script) (more : List Edit) → IsScript moves grid script → all_find (lists_after script.edits) more ≡ true
     → All (AppliesBelow moves) more → length script.edits + length more ≤ most_edits → IsScript moves grid (record { edits = script.edits ++ more; queries = script.queries })
 edits_added moves grid script more is find below room = record {
@@ -59,11 +59,11 @@ edits_added moves grid script more is find below room = record {
   ordered = is.ordered;
 }
 
--- a script that was made
+-- the script after a line that was read
 abbrev done : Script → Result Script ScriptWhy
 done script = Ok script
 
--- what was made is what comes next
+-- the script after a line is what comes next
 came : (moves : ℕ) (grid : GridSize) (made next : Script) → done made ≡ done next → IsScript moves grid made → IsScript moves grid next
 came moves grid made next e is = let same : made ≡ next = cc in subst (IsScript moves grid) same is
 

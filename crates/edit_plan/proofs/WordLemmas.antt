@@ -9,7 +9,7 @@ use Rattle.edit_plan.specs.Words.{WordedLine, ahead_of_comment, ahead_unless_bla
 abbrev word_bytes : List ℕ → ℕ
 word_bytes text = prefix_len (λ b. not (is_blank b)) text
 
--- the parts behind the blank in front of a text
+-- the parts after the blank in front of a text
 abbrev parts_behind : List ℕ → List (List ℕ)
 parts_behind [] = []
 parts_behind (b ∷ bytes) = blank_parts bytes
@@ -29,7 +29,7 @@ word_bytes-blank b bytes blank = rw blank refl
 word_bytes-other : (b : ℕ) (bytes : List ℕ) → is_blank b ≡ false → word_bytes (b ∷ bytes) ≡ 1 + word_bytes bytes
 word_bytes-other b bytes other = rw other refl
 
--- a text is a word and what stands behind the blank that ends it
+-- a text is a word and what comes after the blank that ends it
 blank_parts-cut : (text : List ℕ) → blank_parts text ≡ take (word_bytes text) text ∷ parts_behind (drop (word_bytes text) text)
 blank_parts-cut [] = refl
 blank_parts-cut (b ∷ bytes) =
@@ -45,12 +45,12 @@ behind_after : (b : ℕ) (bytes : List ℕ) (blank : Bool) → is_blank b ≡ bl
 behind_after b bytes true blank later = rw (word_bytes-blank b bytes blank) (sym (words_of-blank b bytes blank))
 behind_after b bytes false other later = rw (word_bytes-other b bytes other, one-add) later
 
--- the words of what stands behind the first word
+-- the words of what comes after the first word
 words_of-behind : (text : List ℕ) → filter has_byte (parts_behind (drop (word_bytes text) text)) ≡ words_of (drop (word_bytes text) text)
 words_of-behind [] = refl
 words_of-behind (b ∷ bytes) = behind_after b bytes (is_blank b) refl (words_of-behind bytes)
 
--- a text that begins with no blank is a word and the words behind it
+-- a text that begins with no blank is a word and the words after it
 words_of-cut : (b : ℕ) (bytes : List ℕ) → is_blank b ≡ false → words_of (b ∷ bytes) ≡ take (word_bytes (b ∷ bytes)) (b ∷ bytes) ∷ words_of (drop (word_bytes (b ∷ bytes)) (b ∷ bytes))
 words_of-cut b bytes other =
     let front : has_byte (take (word_bytes (b ∷ bytes)) (b ∷ bytes)) ≡ true = rw (word_bytes-other b bytes other, one-add) refl in
@@ -70,7 +70,7 @@ is_cut : (text : List ℕ) → IsCut text (behind_blanks text)
 is_cut [] = (λ some. absurd (omega (arith, some)), λ none. refl)
 is_cut (b ∷ bytes) = cut_after b bytes (is_blank b) refl (is_cut bytes)
 
--- the first word and the words behind it, where a text has more than blanks
+-- the first word and the words after it, where a text has more than blanks
 pub words_of-first : (text front : List ℕ) → front ≡ behind_blanks text → 0 < length front → words_of text ≡ take (word_bytes front) front ∷ words_of (drop (word_bytes front) front)
 words_of-first text front is some = rw is ((is_cut text).0 (rw (sym is) some))
 

@@ -4,7 +4,7 @@ use Rattle.edit_plan.specs.declared.edit.Edit.{Edit}
 use Rattle.edit_plan.specs.Edits.{dropped_of, left_of}
 use Rattle.edit_plan.specs.Limits.{most_edits}
 
--- so many moves are left after the edits, and so many are dropped; no more edits than may be
+-- how many moves are left after the edits, and how many are dropped; and no more edits than a script may have
 pub record IsCounted (left dropped : ℕ) (edits : List Edit) : Type 0 where
   pub left_count : left ≡ length (left_of edits)
   pub dropped_count : dropped ≡ length (dropped_of edits)

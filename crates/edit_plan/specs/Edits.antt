@@ -13,7 +13,7 @@ pub record MoveLists : Type 0 where
 abbrev pub no_lists : MoveLists
 no_lists = record { left = []; dropped = [] }
 
--- a list without its last item, and that item alone
+-- a list without its last item, and only that item
 abbrev pub all_but_last : List ℕ → List ℕ
 all_but_last xs = take (length xs - 1) xs
 
@@ -39,7 +39,7 @@ left_of edits = (lists_after edits).left
 abbrev pub dropped_of : List Edit → List ℕ
 dropped_of edits = (lists_after edits).dropped
 
--- the moves that are left at a version: after so many of the edits
+-- the moves that are left at a version: after the first `version` edits
 abbrev pub left_at : List Edit → ℕ → List ℕ
 left_at edits version = left_of (take version edits)
 
@@ -58,7 +58,7 @@ all_find lists (edit ∷ edits) = finds lists edit && all_find (after_edit lists
 abbrev pub are_sound : List Edit → Bool
 are_sound edits = all_find no_lists edits
 
--- so many moves from a number on, each applied once in order
+-- `count` moves from a number on, each applied once in order
 abbrev pub applied_moves : ℕ → ℕ → List Edit
 applied_moves first count = map (λ number. Apply number) (range_with_len first count)
 

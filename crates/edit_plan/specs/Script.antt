@@ -33,16 +33,16 @@ no_script = record { edits = []; queries = [] }
 abbrev pub whole_of_moves : ℕ → Script
 whole_of_moves moves = record { edits = applied_moves 0 moves; queries = [] }
 
--- so many more edits would be too many
+-- `count` more edits would be too many
 abbrev pub are_too_many : ℕ → Script → Bool
 are_too_many count script = nat_lt most_edits (length script.edits + count)
 
--- more edits behind those of the script, unless they would be too many
+-- more edits after those of the script, unless they would be too many
 abbrev pub with_edits : List Edit → Script → Result Script ScriptWhy
 with_edits more script =
     if are_too_many (length more) script then Err TooManyEdits else Ok (record script { edits = script.edits ++ more })
 
--- one more query, at the version that the edits ahead of it make, unless there are as many as may be
+-- one more query, at the version that the edits before it make, unless there are the most queries already
 abbrev pub with_query : Ask → Script → Result Script ScriptWhy
 with_query ask script =
     if nat_lt (length script.queries) most_queries
@@ -64,7 +64,7 @@ with_undos times script =
     else with_edits (replicate times Undo) script)
 
 -- the last moves that were dropped are taken back, at least one and no more than there are; that there would be too many edits
--- is judged ahead of that
+-- is judged before that
 abbrev pub with_redos : ℕ → Script → Result Script ScriptWhy
 with_redos times script =
     if times == 0 then Err ScriptRange
@@ -86,7 +86,7 @@ abbrev pub with_line : ℕ → GridSize → Option Statement → Script → Resu
 with_line moves grid None script = Err ScriptSyntax
 with_line moves grid (Some statement) script = with_statement moves grid statement script
 
--- the rest goes on from what one line made, and a fault has that line's number
+-- the rest goes on from what one line gave, and a fault has that line's number
 abbrev pub read_on : ℕ → Result Script ScriptWhy → (Script → Result Script ScriptFault) → Result Script ScriptFault
 read_on number (Ok script) rest = rest script
 read_on number (Err why) rest = Err (record { line = number; why = why })
@@ -112,7 +112,7 @@ abbrev pub script_of : ℕ → GridSize → List ℕ → Result Script ScriptFau
 script_of moves grid bytes =
     script_from moves grid (edition_of (worded_lines bytes)) (behind_edition (worded_lines bytes)) no_script
 
--- a refusal is the first fault; want of memory is free
+-- a refusal is the first fault; running out of memory needs no condition
 abbrev pub EndsScript : Result Script ScriptFault → ScriptEnd → Type 0
 EndsScript script (Refused fault) = script ≡ Err fault
 EndsScript script NoMemory = Unit {0}

@@ -8,7 +8,7 @@ use Rattle.edit_plan.specs.Edits.{AppliesBelow, are_sound}
 use Rattle.edit_plan.specs.Limits.{most_edits, most_queries}
 use Rattle.edit_plan.specs.Queries.{IsQuery}
 
--- a script for so many moves over a grid: each Undo finds a move that is left and each Redo one that was dropped, each Apply
+-- a script for `moves` moves over a grid: each Undo finds a move that is left and each Redo one that was dropped, each Apply
 -- names one of the moves, each query is asked at a version of the edits, for a point of the grid or the totals, and the versions
 -- never fall
 pub record IsScript (moves : ℕ) (grid : GridSize) (script : Script) : Type 0 where

@@ -31,12 +31,12 @@ family_in word =
     else (if bytes_eq word (codes "Y") then Some Y
     else (if bytes_eq word (codes "Z") then Some Z else None))
 
--- `I J` behind `run`
+-- `I J` after `run`
 abbrev pub run_in : List (List ℕ) → Option Statement
 run_in (i ∷ j ∷ []) = option_and_then (λ first. option_map (λ last. Run first last) (number_in j)) (number_in i)
 run_in _ = None
 
--- `N` behind `undo`, and behind `redo`
+-- `N` after `undo`, and after `redo`
 abbrev pub undo_in : List (List ℕ) → Option Statement
 undo_in (n ∷ []) = option_map (λ times. UndoTimes times) (number_in n)
 undo_in _ = None
@@ -50,12 +50,12 @@ abbrev pub probe_of : Option Family → Option ℕ → Option ℕ → Option ℕ
 probe_of (Some family) (Some i) (Some j) (Some l) = Some (ProbePoint (record { family = family; i = i; j = j }) l)
 probe_of _ _ _ _ = None
 
--- `F I J L` behind `probe`
+-- `F I J L` after `probe`
 abbrev pub probe_in : List (List ℕ) → Option Statement
 probe_in (f ∷ i ∷ j ∷ l ∷ []) = probe_of (family_in f) (number_in i) (number_in j) (number_in l)
 probe_in _ = None
 
--- nothing behind `count`
+-- nothing after `count`
 abbrev pub count_in : List (List ℕ) → Option Statement
 count_in [] = Some CountPoints
 count_in _ = None

@@ -12,7 +12,7 @@ hash = 35
 abbrev pub ahead_of_comment : List ℕ → List ℕ
 ahead_of_comment line = take_while (λ b. not (b == hash)) line
 
--- what stands between blanks: a text with no blank is one part
+-- what is between blanks: a text with no blank is one part
 abbrev pub blank_parts : List ℕ → List (List ℕ)
 blank_parts [] = [] ∷ []
 blank_parts (b ∷ bytes) = if is_blank b then [] ∷ blank_parts bytes else lead b (blank_parts bytes)
@@ -31,7 +31,7 @@ pub record WordedLine : Type 0 where
   pub number : ℕ
   pub words : List (List ℕ)
 
--- a line goes ahead of others, unless it has no words
+-- a line goes before others, unless it has no words
 abbrev pub ahead_unless_blank : ℕ → List (List ℕ) → List WordedLine → List WordedLine
 ahead_unless_blank number [] lines = lines
 ahead_unless_blank number (word ∷ words) lines = record { number = number; words = word ∷ words } ∷ lines

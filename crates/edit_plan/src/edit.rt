@@ -19,7 +19,7 @@ pub enum Edit {
     Redo,
 }
 
-/// Edits in order. They are seen as a list.
+/// Edits in order. Their value is a list.
 #[derive(Drop)]
 pub struct Edits {
     items: Vec<Edit>,
@@ -90,7 +90,7 @@ impl Edits {
         }
     }
 
-    /// Adds the same edit so many times. Unchanged where no memory is found.
+    /// Adds the same edit `times` times. Unchanged where no memory is found.
     pub(crate) fn push_times(&mut self, edit: Edit, times: u32) -> Result<(), NoMemory>
         ensures ok { OnOk result (self.new ≡ self.old ++ replicate times edit) }
         ensures err { OnErr result (self.new ≡ self.old) }

@@ -1,6 +1,6 @@
 ghost use Rattle.std.specs.Prelude.{◌≡◌};
 
-/// What is wrong with a line of a script, in the order in which one line is judged, but for `RedoDepth`, which is judged last.
+/// What is wrong with a line of a script, in the order in which one line is judged, except for `RedoDepth`, which is judged last.
 /// The names are those that are printed.
 #[derive(Clone, Copy)]
 pub enum ScriptWhy {

@@ -18,7 +18,7 @@ pub(crate) struct Line<'a> {
     pub(crate) text: &'a [u8],
 }
 
-/// A reader of the lines that have words. It is seen as the list of those that are left.
+/// A reader of the lines that have words. Its value is the list of those that are left.
 #[derive(Drop)]
 pub(crate) struct Lines<'a> {
     rest: &'a [u8],
@@ -68,7 +68,7 @@ impl<'a> Lines<'a> {
         None
     }
 
-    /// The edition of the script. The first line is taken where it tells the edition.
+    /// The edition of the script. The first line is taken where it states the edition.
     pub(crate) fn take_edition(&mut self) -> Edition
         ensures edition { result ≡ edition_of self.old }
         ensures behind { self.new ≡ behind_edition self.old }
@@ -88,7 +88,7 @@ impl<'a> Lines<'a> {
     }
 }
 
-/// The first line of a text, with its line end, and the text behind it. The lines of a script are short, so it looks at one byte
+/// The first line of a text, with its line end, and the text after it. The lines of a script are short, so it looks at one byte
 /// after the other.
 fn split_short_line(text: &[u8]) -> (&[u8], &[u8])
     requires { 0 < length text.now }
@@ -103,7 +103,7 @@ fn split_short_line(text: &[u8]) -> (&[u8], &[u8])
     text.split_at(ahead + 1)
 }
 
-/// How many bytes stand ahead of the first line's end.
+/// How many bytes come before the first line's end.
 fn line_len(text: &[u8]) -> usize
     ensures count { result ≡ prefix_len (λ b. not (b == line_feed)) text.now }
     ensures within { result ≤ length text.now }
@@ -116,7 +116,7 @@ fn line_len(text: &[u8]) -> usize
     text.len()
 }
 
-/// Whether a line is the one that tells the second edition.
+/// Whether a line is the one that states the second edition.
 fn tells_edition(text: &[u8]) -> bool
     ensures { result ≡ is_edition_line (words_of text.now) }
 {

@@ -23,7 +23,7 @@ pub struct Query {
     pub ask: Ask,
 }
 
-/// Queries in order. They are seen as a list.
+/// Queries in order. Their value is a list.
 #[derive(Drop)]
 pub struct Queries {
     items: Vec<Query>,

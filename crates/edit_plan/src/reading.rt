@@ -20,7 +20,7 @@ pub(crate) enum Stop {
     NoMemory,
 }
 
-/// A script that grows. How many moves are left and how many are dropped is known by two counts. It is seen as the script so far.
+/// A script that grows. How many moves are left and how many are dropped is known by two counts. Its value is the script so far.
 #[derive(Drop)]
 pub(crate) struct Reading {
     edits: Edits,
@@ -159,7 +159,7 @@ impl Reading {
         Ok(())
     }
 
-    /// Whether so many more edits would be too many.
+    /// Whether `count` more edits would be too many.
     fn is_full_for(&self, count: u32) -> bool
         ensures { result ≡ are_too_many count self.now }
     {

@@ -33,8 +33,8 @@ pub fn fits_script(bytes: &[u8]) -> bool
     bytes.len() <= MAX_SCRIPT_BYTES
 }
 
-/// Reads the script that the bytes stand for, over so many moves. A refusal is the first fault by line, then by the order in
-/// which one line is judged. It takes memory for the edits and queries alone.
+/// Reads the script that the bytes stand for, over `moves` moves. A refusal is the first fault by line, then by the order in
+/// which one line is judged. It takes memory only for the edits and queries.
 pub fn read_script(
     alloc: Global,
     bytes: &[u8],

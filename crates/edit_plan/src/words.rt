@@ -7,14 +7,14 @@ ghost use Rattle.edit_plan.specs.Words.{ahead_of_comment, hash, words_of};
 
 use vf_text::{is_blank_byte, skip_blanks};
 
-/// The part of a line ahead of its comment.
+/// The part of a line before its comment.
 pub(crate) fn cut_comment(line: &[u8]) -> &[u8]
     ensures { result.now ≡ ahead_of_comment line.now }
 {
     &line[..comment_start(line)]
 }
 
-/// How many bytes stand ahead of the comment.
+/// How many bytes come before the comment.
 fn comment_start(line: &[u8]) -> usize
     ensures count { result ≡ prefix_len (λ b. not (b == hash)) line.now }
     ensures within { result ≤ length line.now }
@@ -27,7 +27,7 @@ fn comment_start(line: &[u8]) -> usize
     line.len()
 }
 
-/// The first word of a text, and the text behind it.
+/// The first word of a text, and the text after it.
 pub(crate) fn split_word(text: &[u8]) -> Option<(&[u8], &[u8])>
     ensures { words_of text.now ≡ option_map_or (λ cut. cut.0.now ∷ words_of cut.1.now) result [] }
 {
@@ -38,7 +38,7 @@ pub(crate) fn split_word(text: &[u8]) -> Option<(&[u8], &[u8])>
     Some(front.split_at(word_len(front)))
 }
 
-/// How many bytes that are no blanks stand in front.
+/// How many bytes that are no blanks are in front.
 fn word_len(text: &[u8]) -> usize
     ensures count { result ≡ prefix_len (λ b. not (is_blank b)) text.now }
     ensures within { result ≤ length text.now }

@@ -2,7 +2,7 @@
 #![tactic(auto)]
 
 use ray_grid::{Grid, Ray};
-use ray_shapes::{Bodies, Body, Plane, RayShape, Solid, body_spans};
+use ray_shapes::{Bodies, Body, Plane, RayShape, Solid, solid_spans};
 use std::alloc::Global;
 use std::io;
 use vf_io::NoMemory;
@@ -21,7 +21,7 @@ const NORMALS: [(i32, i32); 10] = [
     (8_090, -5_878),
 ];
 
-/// How many bodies stand in a row, and how many rows.
+/// How many bodies are in a row, and how many rows.
 const SIDE: i32 = 8;
 /// From one body's middle to the next, in micrometres.
 const APART: i32 = 50_000;
@@ -100,12 +100,14 @@ fn column(alloc: Global, x: i64, y: i64) -> Result<Body, NoMemory> {
     Ok(Body::new(planes))
 }
 
-/// What a closure that is kept beside its solid gives on the rays of the grid.
+/// What a closure that is kept for a solid gives on the rays of the grid.
 fn filled(alloc: Global, bodies: &Bodies, grid: &Grid) -> Result<Tally, NoMemory> {
-    let solid = Solid::Bodies(bodies.copy()?);
-    let shape = RayShape::new(*grid, solid, move |ray: &Ray| {
-        body_spans(alloc, bodies.as_slice(), grid, ray)
-    });
+    let solid = &Solid::Bodies(bodies.copy()?);
+    let shape = RayShape::new(
+        *grid,
+        solid,
+        move |ray: &Ray| solid_spans(alloc, solid, grid, ray),
+    );
     let mut tally = Tally {
         rays: 0,
         ranges: 0,

@@ -1,4 +1,4 @@
--- What may be read ahead of a read may be read behind it.
+-- What may be read before a read may be read after it.
 use Rattle.std.proofs.Common.{ℕ, List, Option, Some, None, IfSome, ◌↔◌}
 
 pub allowed_on : {N : Type 0} (name : N → List ℕ) (before after : List ℕ → Type 0) (file : Option N) → ((n : List ℕ) → before n ↔ after n)

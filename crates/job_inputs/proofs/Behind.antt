@@ -1,4 +1,4 @@
--- What is behind a program and a setup that were read: the script, where none of the cutters is too low.
+-- What comes after a program and a setup that were read: the script, where none of the cutters is too low.
 use Rattle.std.proofs.Common.{◌≡◌, ℕ, List, length, Option, Some, None, Result, Ok, Err, IfSome, ap, subst, sym, ◌∙◌}
 use Rattle.std.specs.Option.{option_map}
 use Rattle.vf_io.specs.Files.{Files, bytes_of}
@@ -8,34 +8,34 @@ use Rattle.cutter_slabs.specs.Cutter.{CutterSize}
 use Rattle.edit_plan.specs.declared.script.Script.{Script}
 use Rattle.job_report.specs.Tasks.{Task}
 use Rattle.move_cutters.specs.Cutters.{first_low}
-use Rattle.move_cutters.specs.declared.cutters.Usual.{Usual}
+use Rattle.move_cutters.specs.declared.cutters.CutterDefaults.{CutterDefaults}
 use Rattle.input_faults.specs.declared.fault.Fault.{Fault}
 use Rattle.input_faults.specs.declared.fault.Fault.TheVariants.{CutterHeight}
 use Rattle.setup_file.specs.declared.setup.Setup.{Setup}
 use Rattle.job_inputs.specs.Inputs.{◌>>=◌, GivesInput, script_read_of, setup_read_of}
-use Rattle.job_inputs.specs.Tasks.{task_behind, task_by, task_with, tool_usual, unless_low}
+use Rattle.job_inputs.specs.Tasks.{task_behind, task_by, task_with, tool_defaults, unless_low}
 use Rattle.input_faults.specs.declared.stopped.Stopped.{Stopped}
 use Rattle.input_faults.specs.declared.stopped.Stopped.TheVariants.{Refused, ReadFault, NoMemory}
 
 -- what was looked for among the moves of a program is what is found in them
-pub found_in : (tool : CutterSize) (moves given : List Move) (usual : Usual) (found told : Option ℕ) → usual ≡ tool_usual tool → given ≡ moves
-    → found ≡ first_low usual given → found ≡ told → first_low (tool_usual tool) moves ≡ told
-found_in tool moves given usual found told same_tool same_moves is_found is_told = cc
+pub found_in : (tool : CutterSize) (moves given : List Move) (defaults : CutterDefaults) (found told : Option ℕ) → defaults ≡ tool_defaults tool → given ≡ moves
+    → found ≡ first_low defaults given → found ≡ told → first_low (tool_defaults tool) moves ≡ told
+found_in tool moves given defaults found told same_tool same_moves is_found is_told = cc
 
 -- what is due of a program and a setup, by what was found and by what the script gives
 abbrev due_by : Program → Setup → Option ℕ → Result Script Fault → Result Task Fault
 due_by program setup found read = unless_low found program >>= (λ _. read >>= (λ script. Ok (task_by program setup script)))
 
--- a cutter that is too low comes ahead of the script
+-- a cutter that is too low comes before the script
 pub low_ahead : (files : Option Files) (name : Option (List ℕ)) (program : Program) (setup : Setup) (line : ℕ)
-    → first_low (tool_usual setup.tool) program.moves ≡ Some line
+    → first_low (tool_defaults setup.tool) program.moves ≡ Some line
     → IfSome files (λ told. task_with program setup (option_map (bytes_of told) name) ≡ Err (CutterHeight line))
 low_ahead None name program setup line low = tt
 low_ahead (Some told) name program setup line low =
     ap (λ (found : Option ℕ). due_by program setup found (script_read_of (length program.moves) setup.grid (option_map (bytes_of told) name))) low
 
 module _ (name : Option (List ℕ)) (program : Program) (setup : Setup) (count : ℕ) (same : count ≡ length program.moves)
-    (high : first_low (tool_usual setup.tool) program.moves ≡ None) where
+    (high : first_low (tool_defaults setup.tool) program.moves ≡ None) where
   -- where none is, what is due is what the script gives
   due_behind : (told : Files) (read : Result Script Fault) → script_read_of count setup.grid (option_map (bytes_of told) name) ≡ read
       → task_with program setup (option_map (bytes_of told) name) ≡ due_by program setup None read

@@ -15,7 +15,7 @@ use Rattle.cl_moves.specs.Program.{arrived, continued, displaced, finished, fold
 use Rattle.cl_moves.specs.declared.moves.Move.{Move}
 use Rattle.cl_moves.specs.declared.program.Program.{Program}
 
--- no more moves than there may be
+-- no more than the most moves
 abbrev IsFew : List Move → Type 0
 IsFew moves = length moves ≤ most_moves
 
@@ -82,6 +82,6 @@ folded_few ((line, Ok statement) ∷ records) fold program e few =
     continued_few line (step line statement fold) (folded records) program e
     (λ next made rest. folded_few records next program rest (step_few line statement fold next made few))
 
--- a program that bytes stand for has no more moves than there may be
+-- a program that bytes stand for has no more than the most moves
 pub program_few : (bytes : List ℕ) (program : Program) → program_of bytes ≡ Ok program → length program.moves ≤ most_moves
 program_few bytes program e = folded_few (records_of Mm (texts_of bytes)) start program e (omega arith)

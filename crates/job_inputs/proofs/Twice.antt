@@ -1,4 +1,4 @@
--- What is read behind a read that didn't fail is all that can fail.
+-- What is read after a read that didn't fail is all that can fail.
 use Rattle.std.proofs.Common.{ℕ, ◌≤◌, Bool, false, Option, refl, ap, arith, ◌∙◌}
 use Rattle.vf_io.specs.Causes.{Rose, one_more_failure}
 use Rattle.vf_io.specs.Files.{Files}

@@ -26,7 +26,7 @@ abbrev pub ◌>>=◌ : {A B : Type 0} → Result A Fault → (A → Result B Fau
 Ok x >>= next = next x
 Err fault >>= next = Err fault
 
--- the bytes of an input, unless they are more than it may have
+-- the bytes of an input, unless there are too many
 abbrev pub bytes_within : Input → ℕ → List ℕ → Result (List ℕ) Fault
 bytes_within input most bytes = if nat_lt most (length bytes) then Err (faults.TooLong input) else Ok bytes
 
@@ -57,14 +57,14 @@ abbrev pub script_or_fault : Result Script ScriptFault → Result Script Fault
 script_or_fault (Ok script) = Ok script
 script_or_fault (Err fault) = Err (faults.Script fault)
 
--- the script that the bytes of a file stand for over so many moves and a grid, unless they are too many; where there is no file,
+-- the script that the bytes of a file stand for over `moves` moves and a grid, unless they are too many; where there is no file,
 -- each move is applied once in order and nothing is asked
 abbrev pub script_read_of : ℕ → GridSize → Option (List ℕ) → Result Script Fault
 script_read_of moves grid None = Ok (whole_of_moves moves)
 script_read_of moves grid (Some bytes) =
     bytes_within inputs.Script most_script_bytes bytes >>= (λ text. script_or_fault (script_of moves grid text))
 
--- what is due was given, or the fault that is; a file that couldn't be read and want of memory leave it open
+-- what is due was given, or the fault that is; a file that couldn't be read and running out of memory leave it open
 abbrev pub GivesInput : {T : Type 0} → Result T Stopped → Result T Fault → Type 0
 GivesInput (Ok given) due = due ≡ Ok given
 GivesInput (Err (Refused fault)) due = due ≡ Err fault

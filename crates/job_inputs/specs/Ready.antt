@@ -8,12 +8,12 @@ use Rattle.edit_plan.specs.declared.script.Script.{Script}
 use Rattle.setup_file.specs.Sound.{IsSetup}
 use Rattle.setup_file.specs.declared.setup.Setup.{Setup}
 use Rattle.move_cutters.specs.Cutters.{first_low}
-use Rattle.job_inputs.specs.Tasks.{tool_usual}
+use Rattle.job_inputs.specs.Tasks.{tool_defaults}
 
 -- valid moves, not too many and none with too low a cutter, a setup in its ranges, and a script for both
 pub record IsReady (program : Program) (setup : Setup) (script : Script) : Type 0 where
   pub moves : All IsMove program.moves
   pub few : length program.moves ≤ most_moves
   pub setup_in : IsSetup setup
-  pub high : first_low (tool_usual setup.tool) program.moves ≡ None
+  pub high : first_low (tool_defaults setup.tool) program.moves ≡ None
   pub script_in : IsScript (length program.moves) setup.grid script

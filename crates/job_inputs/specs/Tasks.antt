@@ -1,7 +1,7 @@
 -- The task that a program, a setup and a script stand for.
 use Rattle.std.specs.Prelude.{ℕ, pos, neg_ℤ, List, length, map, Option, Some, None, unwrap_or, Result, Ok, Err}
 use Rattle.cl_records.specs.declared.cutter.CutterText.{CutterText}
-use Rattle.cl_moves.specs.Moves.{motion_of}
+use Rattle.cl_moves.specs.Moves.{sweep_of}
 use Rattle.cl_moves.specs.declared.moves.Move.{Move}
 use Rattle.cl_moves.specs.declared.program.Program.{Program}
 use Rattle.cutter_slabs.specs.Cutter.{CutterSize}
@@ -18,21 +18,21 @@ use Rattle.setup_file.specs.Shift.{shifted_of}
 use Rattle.setup_file.specs.declared.setup.Setup.{Setup}
 use Rattle.move_cutters.specs.Cutters.{first_low, size_of}
 use Rattle.job_inputs.specs.Inputs.{◌>>=◌, read_of, script_read_of, setup_read_of}
-use Rattle.move_cutters.specs.declared.cutters.Usual.{Usual}
+use Rattle.move_cutters.specs.declared.cutters.CutterDefaults.{CutterDefaults}
 
 -- a tool as a program would give it
 abbrev pub tool_text : CutterSize → CutterText
 tool_text tool = record { d = pos tool.d; r = pos tool.r; h = Some (pos tool.h); flank = tool.flank }
 
 -- a move without a cutter has the setup's tool, and a cutter without a height is as high as that
-abbrev pub tool_usual : CutterSize → Usual
-tool_usual tool = record { cutter = Some (tool_text tool); height = pos tool.h }
+abbrev pub tool_defaults : CutterSize → CutterDefaults
+tool_defaults tool = record { cutter = Some (tool_text tool); height = pos tool.h }
 
 -- a move with the cutter that it is made with
 abbrev pub job_move : CutterSize → Move → JobMove
 job_move tool move = record {
-  motion = motion_of move;
-  cutter = size_of (tool_usual tool) (unwrap_or move.cutter (tool_text tool));
+  sweep = sweep_of move;
+  cutter = size_of (tool_defaults tool) (unwrap_or move.cutter (tool_text tool));
   rapid = move.rapid;
   line = move.line;
 }
@@ -61,11 +61,11 @@ abbrev pub unless_low : Option ℕ → Program → Result Program Fault
 unless_low None program = Ok program
 unless_low (Some at) program = Err (CutterHeight at)
 
--- the task of a program, a setup and the bytes of a script, which needn't be there, or the first fault: that of a cutter that is
--- too low comes ahead of the script's
+-- the task of a program, a setup and the bytes of a script, which may be missing, or the first fault: that of a cutter that is
+-- too low comes before the script's
 abbrev pub task_with : Program → Setup → Option (List ℕ) → Result Task Fault
 task_with program setup script = do
-  _ ← unless_low (first_low (tool_usual setup.tool) program.moves) program
+  _ ← unless_low (first_low (tool_defaults setup.tool) program.moves) program
   read ← script_read_of (length program.moves) setup.grid script
   Ok (task_by program setup read)
 
@@ -81,6 +81,6 @@ task_of file setup script = do
   program ← read_of file
   task_behind program setup script
 
--- the task of a program that is made from a number: each move is applied once in order, and nothing is asked
+-- the task of a program that is generated from a number: each move is applied once in order, and nothing is asked
 abbrev pub made_task : ℕ → Task
 made_task number = task_by (made_of number) made_setup (whole_of_moves made_moves)

@@ -21,7 +21,7 @@ use setup_file::{Setup, SetupEnd, read_setup};
 use std::alloc::Global;
 use vf_io::{NoMemory, ReadEnd, Shelf, read_all};
 
-/// Reads the bytes of an input, which may have so many.
+/// Reads the bytes of an input, at most `limit` of them.
 pub(crate) fn read_input<S: Shelf>(
     alloc: Global,
     input: Input,
@@ -44,7 +44,7 @@ pub(crate) fn read_input<S: Shelf>(
     }
 }
 
-/// Reads the program of a file. The file's bytes are let go at the end.
+/// Reads the program of a file. The file's bytes are freed at the end.
 pub fn read_moves<S: Shelf>(alloc: Global, file: &str, shelf: &mut S) -> Result<Program, Stopped>
     requires { S.allows shelf.old file.now }
     ensures gives { IfSome (S.files shelf.old) (λ files. GivesInput result (read_of (bytes_of files file.now))) }
@@ -78,7 +78,7 @@ fn moves_of(alloc: Global, bytes: &[u8]) -> Result<Program, Stopped>
 /// The most bytes of a setup.
 const MAX_SETUP_BYTES: u32 = 1_048_576;
 
-/// Reads the setup of a file. The file's bytes are let go at the end.
+/// Reads the setup of a file. The file's bytes are freed at the end.
 pub(crate) fn read_setup_of<S: Shelf>(
     alloc: Global,
     file: &str,
@@ -111,7 +111,7 @@ fn setup_of(alloc: Global, bytes: &[u8]) -> Result<Setup, Stopped>
     }
 }
 
-/// Reads the script of a file over so many moves and a grid; where no file is named each move is applied once in order.
+/// Reads the script of a file over `moves` moves and a grid; where no file is named each move is applied once in order.
 pub(crate) fn read_edits<S: Shelf>(
     alloc: Global,
     file: Option<&str>,
@@ -132,7 +132,7 @@ pub(crate) fn read_edits<S: Shelf>(
     }
 }
 
-/// Reads the script of a file. The file's bytes are let go at the end.
+/// Reads the script of a file. The file's bytes are freed at the end.
 fn read_script_of<S: Shelf>(
     alloc: Global,
     file: &str,

@@ -8,4 +8,4 @@ mod tool;
 pub use input::read_moves;
 pub use input_faults::Stopped;
 pub use task::{TaskInputs, made_inputs, read_task};
-pub use tool::{tool_text, usual_of};
+pub use tool::{defaults_of, tool_text};

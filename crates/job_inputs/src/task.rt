@@ -8,7 +8,7 @@ ghost use Rattle.job_inputs.specs.Reads.{ReadsOnce};
 ghost use Rattle.job_inputs.specs.Tasks.{made_task, task_behind, task_of, task_with};
 
 use crate::input::{read_edits, read_moves, read_setup_of};
-use crate::tool::usual_of;
+use crate::tool::defaults_of;
 use cl_moves::Program;
 use edit_plan::{Script, whole_script};
 use input_faults::{Fault, Stopped};
@@ -20,7 +20,7 @@ use std::alloc::Global;
 use std::marker::Model;
 use vf_io::{NoMemory, Shelf};
 
-/// What is verified, as it was read. It is seen as the task that it stands for.
+/// What is verified, as it was read. Its value is the task that it stands for.
 #[derive(Drop)]
 pub struct TaskInputs {
     pub program: Program,
@@ -62,7 +62,7 @@ pub fn read_task<S: Shelf>(
     }
 }
 
-/// Reads the setup and the script behind a program that was read.
+/// Reads the setup and the script after a program that was read.
 fn read_behind<S: Shelf>(
     alloc: Global,
     program: Program,
@@ -84,7 +84,7 @@ fn read_behind<S: Shelf>(
     }
 }
 
-/// Reads the script behind a program and a setup that were read, unless one of the cutters is too low.
+/// Reads the script after a program and a setup that were read, unless one of the cutters is too low.
 fn read_last<S: Shelf>(
     alloc: Global,
     program: Program,
@@ -101,7 +101,7 @@ fn read_last<S: Shelf>(
     ensures read { ReadsOnce S.files S.faults S.failures (is_read_fault result) shelf.old shelf.new }
 {
     let moves = program.moves.len() as u32;
-    if let Some(line) = low_cutter(&usual_of(&setup.tool), program.moves.as_slice()) {
+    if let Some(line) = low_cutter(&defaults_of(&setup.tool), program.moves.as_slice()) {
         return Err(Stopped::Refused(Fault::CutterHeight(line)));
     }
     match read_edits(alloc, script, moves, &setup.grid, shelf) {
@@ -114,7 +114,7 @@ fn read_last<S: Shelf>(
     }
 }
 
-/// The task of a program that is made from a number, with the setup that goes with such programs.
+/// The task of a program that is generated from a number, with the setup that goes with such programs.
 pub fn made_inputs(alloc: Global, number: u32) -> Result<TaskInputs, NoMemory>
     ensures { IfOk result (λ inputs. inputs ≡ made_task number) }
 {

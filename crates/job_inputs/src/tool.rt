@@ -1,9 +1,9 @@
 ghost use Rattle.std.specs.Prelude.{◌≡◌};
-ghost use Rattle.job_inputs.specs.Tasks.{tool_text, tool_usual};
+ghost use Rattle.job_inputs.specs.Tasks.{tool_defaults, tool_text};
 
 use cl_moves::CutterText;
 use cutter_slabs::Cutter;
-use move_cutters::Usual;
+use move_cutters::CutterDefaults;
 
 /// A tool as a program would give it.
 pub fn tool_text(tool: &Cutter) -> CutterText
@@ -18,10 +18,10 @@ pub fn tool_text(tool: &Cutter) -> CutterText
 }
 
 /// What the setup's tool fills in.
-pub fn usual_of(tool: &Cutter) -> Usual
-    ensures { result ≡ tool_usual tool.now }
+pub fn defaults_of(tool: &Cutter) -> CutterDefaults
+    ensures { result ≡ tool_defaults tool.now }
 {
-    Usual {
+    CutterDefaults {
         cutter: Some(tool_text(tool)),
         height: tool.h,
     }

@@ -11,7 +11,7 @@ use Rattle.dexel_rays.specs.Findings.{is_fixture_possible, is_part_possible, is_
 use Rattle.job_model.specs.Findings.{found_over, seen}
 use Rattle.job_model.specs.Law.{SafeMoveKeepsOff}
 use Rattle.job_model.specs.Meets.{LowerMeets, SomeMeets, UpperMeets}
-use Rattle.job_model.specs.Points.{is_fixture, is_part, may_meet, is_stock, is_sure, some_sure}
+use Rattle.job_model.specs.Points.{is_fixture, is_part, is_possible, is_stock, is_sure, some_sure}
 use Rattle.job_model.specs.Tasks.{IsJobMove, JobMove, PlanOf}
 use Rattle.job_model.proofs.Lists.{of_all, some_of, unnamed}
 
@@ -21,18 +21,18 @@ some_cells depth = let least : 2 ^ 0 ≤ 2 ^ depth = pow_mono {i = 0} {j = depth
 -- what a move is sure of its lower cutter meets; where it is not possible its upper cutter meets nothing
 pub sure_met : (plan : PlanOf) (move : JobMove) (point : LatticePoint) → 0 < plan.slabs → IsJobMove move → is_sure plan move point ≡ true → LowerMeets move point
 sure_met plan move point some valid sure =
-    removed_is_met move.cutter plan.slabs move.motion point.position (2 ^ plan.depth) valid.cutter some (some_cells plan.depth)
-    ((decides_sure move.cutter plan.slabs move.motion point.position (2 ^ plan.depth)).0 sure)
+    removed_is_met move.cutter plan.slabs move.sweep point.position (2 ^ plan.depth) valid.cutter some (some_cells plan.depth)
+    ((decides_sure move.cutter plan.slabs move.sweep point.position (2 ^ plan.depth)).0 sure)
 
-pub out_not_met : (plan : PlanOf) (move : JobMove) (point : LatticePoint) → 0 < plan.slabs → IsJobMove move → may_meet plan move point ≡ false → ¬ UpperMeets move point
+pub out_not_met : (plan : PlanOf) (move : JobMove) (point : LatticePoint) → 0 < plan.slabs → IsJobMove move → is_possible plan move point ≡ false → ¬ UpperMeets move point
 out_not_met plan move point some valid out =
-    clear_is_not_met move.cutter plan.slabs move.motion point.position (2 ^ plan.depth) valid.cutter some (some_cells plan.depth) valid.sweep
-    ((clear_is move.cutter plan.slabs move.motion point.position (2 ^ plan.depth) valid.cutter some (some_cells plan.depth) valid.sweep).0 out)
+    clear_is_not_met move.cutter plan.slabs move.sweep point.position (2 ^ plan.depth) valid.cutter some (some_cells plan.depth) valid.sweep
+    ((clear_is move.cutter plan.slabs move.sweep point.position (2 ^ plan.depth) valid.cutter some (some_cells plan.depth) valid.sweep).0 out)
 
 -- what a move is sure of is possible too
-pub sure_is_possible : (plan : PlanOf) (move : JobMove) (point : LatticePoint) → 0 < plan.slabs → IsJobMove move → is_sure plan move point ≡ true → may_meet plan move point ≡ true
+pub sure_is_possible : (plan : PlanOf) (move : JobMove) (point : LatticePoint) → 0 < plan.slabs → IsJobMove move → is_sure plan move point ≡ true → is_possible plan move point ≡ true
 sure_is_possible plan move point some valid sure =
-    sure_possible move.cutter plan.slabs move.motion point.position (2 ^ plan.depth) valid.cutter some (some_cells plan.depth) valid.sweep sure
+    sure_possible move.cutter plan.slabs move.sweep point.position (2 ^ plan.depth) valid.cutter some (some_cells plan.depth) valid.sweep sure
 
 -- where some of the moves is sure of a point, one of them meets it
 pub some_meets : (plan : PlanOf) (moves : List JobMove) (point : LatticePoint) → 0 < plan.slabs → All IsJobMove moves → some_sure plan moves point ≡ true → SomeMeets moves point
@@ -75,11 +75,11 @@ safe_move_keeps_off job before move some ahead valid safe =
       solids = λ point of inside.
           let here = listed job.plan.grid point of in
           out_not_met job.plan move point some valid
-          (in_either (is_part job point) (is_fixture job point) (may_meet job.plan move point) inside
+          (in_either (is_part job point) (is_fixture job point) (is_possible job.plan move point) inside
           (unnamed (λ p. is_part_possible (see p)) points point none.0 here) (unnamed (λ p. is_fixture_possible (see p)) points point none.1 here));
       stock = λ point rapid of stock met.
           let here = listed job.plan.grid point of in
           met_before job.plan before point some ahead (λ gone. out_not_met job.plan move point some valid
-          (rapid_out move.rapid (is_stock job point) (may_meet job.plan move point) (some_sure job.plan before point) rapid stock gone
+          (rapid_out move.rapid (is_stock job point) (is_possible job.plan move point) (some_sure job.plan before point) rapid stock gone
           (unnamed (λ p. is_rapid_possible (see p)) points point none.2 here)) met);
     }

@@ -8,8 +8,8 @@ use Rattle.ray_grid.specs.declared.ray.Ray.{Ray}
 use Rattle.ray_grid.specs.Lattice.{point_of, points_of}
 use Rattle.ray_grid.specs.Points.{LatticePoint, lattice_of, points_on}
 use Rattle.ray_grid.specs.Strips.{strips_of}
-use Rattle.job_facts.specs.declared.counts.Counts.{Counts}
-use Rattle.job_facts.specs.Counts.{plus}
+use Rattle.job_counts.specs.declared.counts.Counts.{Counts}
+use Rattle.job_counts.specs.Counts.{plus}
 use Rattle.dexel_rays.specs.Findings.{Seen, findings, is_fixture_possible, is_fixture_sure, is_new_possible, is_part_possible, is_part_sure, is_rapid_possible, is_rapid_sure, is_removed}
 use Rattle.job_model.specs.Sums.{sum_counts}
 

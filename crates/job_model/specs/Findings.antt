@@ -2,8 +2,8 @@
 use Rattle.std.specs.Prelude.{List}
 use Rattle.ray_grid.specs.Points.{LatticePoint}
 use Rattle.dexel_rays.specs.Findings.{Seen, findings}
-use Rattle.job_facts.specs.declared.counts.Counts.{Counts}
-use Rattle.job_model.specs.Points.{is_fixture, is_part, may_meet, is_stock, is_sure, some_possible, some_sure}
+use Rattle.job_counts.specs.declared.counts.Counts.{Counts}
+use Rattle.job_model.specs.Points.{is_fixture, is_part, is_possible, is_stock, is_sure, some_possible, some_sure}
 use Rattle.job_model.specs.Tasks.{Job, JobMove}
 
 -- what is known of a point at a move, by the moves before it
@@ -15,7 +15,7 @@ seen job ahead move point = record {
   sure_before = some_sure job.plan ahead point;
   possible_before = some_possible job.plan ahead point;
   sure = is_sure job.plan move point;
-  possible = may_meet job.plan move point;
+  possible = is_possible job.plan move point;
   rapid = move.rapid;
 }
 

@@ -1,7 +1,7 @@
--- The one law of a safe move, on which what a report says of safety stands.
+-- The one law of a safe move, on which what a report says of safety rests.
 use Rattle.std.specs.Prelude.{◌≡◌, ◌<◌, true, All, List}
 use Rattle.ray_grid.specs.Points.{lattice_of}
-use Rattle.job_facts.specs.Counts.{is_safe}
+use Rattle.job_counts.specs.Counts.{is_safe}
 use Rattle.job_model.specs.Findings.{found_over}
 use Rattle.job_model.specs.Meets.{KeepsOff}
 use Rattle.job_model.specs.Tasks.{IsJobMove, Job, JobMove}

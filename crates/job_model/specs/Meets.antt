@@ -9,10 +9,10 @@ use Rattle.job_model.specs.Tasks.{Job, JobMove}
 
 -- the move meets the point: its lower, or its upper, cutter holds it at some rational time
 abbrev pub LowerMeets : JobMove → LatticePoint → Type 0
-LowerMeets move point = MeetsLower move.cutter move.motion point.position
+LowerMeets move point = MeetsLower move.cutter move.sweep point.position
 
 abbrev pub UpperMeets : JobMove → LatticePoint → Type 0
-UpperMeets move point = MeetsUpper move.cutter move.motion point.position
+UpperMeets move point = MeetsUpper move.cutter move.sweep point.position
 
 -- some of the moves meets the point with its lower cutter
 pub record SomeMeets (moves : List JobMove) (point : LatticePoint) : Type 0 where
@@ -25,7 +25,7 @@ abbrev pub NoneMeets : List JobMove → LatticePoint → Type 0
 NoneMeets moves point = (move : JobMove) → Contains moves move → ¬ UpperMeets move point
 
 -- The move keeps off: its upper cutter meets no lattice point of the part or of a fixture, and in rapid motion no lattice point of
--- the stock but one that a move before it met with its lower cutter.
+-- the stock except one that a move before it met with its lower cutter.
 pub record KeepsOff (job : Job) (before : List JobMove) (move : JobMove) : Type 0 where
   pub solids : (point : LatticePoint) → IsPointOf job.plan.grid point → (is_part job point || is_fixture job point) ≡ true
       → ¬ UpperMeets move point

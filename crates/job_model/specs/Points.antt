@@ -1,17 +1,15 @@
--- What is so of a point of the lattice, by a list of moves.
+-- What is true of a point of the lattice, by a list of moves.
 use Rattle.std.specs.Prelude.{ℕ, ◌^◌, Bool, ◌&&◌, not, if◌then◌else◌, List, take, drop, count_by}
 use Rattle.std.specs.List.{flat_map, list_any}
 use Rattle.cutter_marks.specs.MarkBy.{is_possible_by, is_sure_by}
 use Rattle.ray_grid.specs.Grids.{GridSize}
-use Rattle.ray_grid.specs.declared.ray.Ray.{Ray}
-use Rattle.ray_grid.specs.Lattice.{point_of}
 use Rattle.ray_grid.specs.Points.{LatticePoint, lattice_of, points_on}
 use Rattle.ray_grid.specs.Strips.{strip_at}
 use Rattle.ray_shapes.specs.Sets.{in_solid}
 use Rattle.edit_plan.specs.Edits.{left_at}
-use Rattle.job_facts.specs.declared.totals.PointState.{PointState}
-use Rattle.job_facts.specs.declared.totals.PointState.TheVariants.{Absent, Kept, Possible, Removed}
-use Rattle.job_facts.specs.declared.totals.Totals.{Totals}
+use Rattle.job_counts.specs.declared.totals.PointState.{PointState}
+use Rattle.job_counts.specs.declared.totals.PointState.TheVariants.{Absent, Kept, Possible, Removed}
+use Rattle.job_counts.specs.declared.totals.Totals.{Totals}
 use Rattle.job_model.specs.Tasks.{Job, JobMove, PlanOf}
 
 -- the moves with these numbers, from 0
@@ -24,27 +22,27 @@ left_moves plan version = moves_of plan (left_at plan.edits version)
 
 -- the move is sure of the point, or possible at it
 abbrev pub is_sure : PlanOf → JobMove → LatticePoint → Bool
-is_sure plan move point = is_sure_by move.cutter plan.slabs move.motion point.position (2 ^ plan.depth)
+is_sure plan move point = is_sure_by move.cutter plan.slabs move.sweep point.position (2 ^ plan.depth)
 
-abbrev pub may_meet : PlanOf → JobMove → LatticePoint → Bool
-may_meet plan move point = is_possible_by move.cutter plan.slabs move.motion point.position (2 ^ plan.depth)
+abbrev pub is_possible : PlanOf → JobMove → LatticePoint → Bool
+is_possible plan move point = is_possible_by move.cutter plan.slabs move.sweep point.position (2 ^ plan.depth)
 
 -- some of the moves is
 abbrev pub some_sure : PlanOf → List JobMove → LatticePoint → Bool
 some_sure plan moves point = list_any (λ move. is_sure plan move point) moves
 
 abbrev pub some_possible : PlanOf → List JobMove → LatticePoint → Bool
-some_possible plan moves point = list_any (λ move. may_meet plan move point) moves
+some_possible plan moves point = list_any (λ move. is_possible plan move point) moves
 
 -- the point is stock, part or fixture
 abbrev pub is_stock : Job → LatticePoint → Bool
-is_stock job point = in_solid job.stock point.position
+is_stock job point = in_solid job.stock job.plan.grid point
 
 abbrev pub is_part : Job → LatticePoint → Bool
-is_part job point = in_solid job.part point.position
+is_part job point = in_solid job.part job.plan.grid point
 
 abbrev pub is_fixture : Job → LatticePoint → Bool
-is_fixture job point = in_solid job.fixture point.position
+is_fixture job point = in_solid job.fixture job.plan.grid point
 
 -- the state of the point after these moves
 abbrev pub state_after : Job → List JobMove → LatticePoint → PointState
@@ -63,10 +61,6 @@ totals_over job points moves = record {
 -- the same over the whole lattice
 abbrev pub totals_after : Job → List JobMove → Totals
 totals_after job moves = totals_over job (lattice_of job.plan.grid) moves
-
--- the point of a ray with an index
-abbrev pub point_in : GridSize → Ray → ℕ → LatticePoint
-point_in grid ray l = record { ray = ray; l = l; position = point_of grid ray l }
 
 -- the points of a strip, ray by ray
 abbrev pub strip_points : GridSize → ℕ → List LatticePoint

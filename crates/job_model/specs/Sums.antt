@@ -1,9 +1,9 @@
 -- Counts and totals of several parts together.
 use Rattle.std.specs.Prelude.{List, [], ◌∷◌}
-use Rattle.job_facts.specs.declared.counts.Counts.{Counts}
-use Rattle.job_facts.specs.declared.totals.Totals.{Totals}
-use Rattle.job_facts.specs.Counts.{no_counts, plus}
-use Rattle.job_facts.specs.Totals.{no_totals, plus_totals}
+use Rattle.job_counts.specs.declared.counts.Counts.{Counts}
+use Rattle.job_counts.specs.declared.totals.Totals.{Totals}
+use Rattle.job_counts.specs.Counts.{no_counts, plus}
+use Rattle.job_counts.specs.Totals.{no_totals, plus_totals}
 
 -- the counts of all parts together
 abbrev pub sum_counts : List Counts → Counts

@@ -1,7 +1,7 @@
 -- A job: what is cut, and what is judged.
 use Rattle.std.specs.Prelude.{ℕ, ◌<◌, Bool, List}
 use Rattle.std.specs.List.{All}
-use Rattle.space.specs.Motion.{IsSweep, Motion}
+use Rattle.space.specs.Sweeps.{IsSweep, SweepOf}
 use Rattle.cutter_slabs.specs.Cutter.{CutterSize, IsCutter}
 use Rattle.ray_grid.specs.Grids.{GridSize}
 use Rattle.ray_shapes.specs.declared.solid.Solid.{Solid}
@@ -9,7 +9,7 @@ use Rattle.edit_plan.specs.declared.edit.Edit.{Edit}
 
 -- a move of the program, with the cutter that it has once the setup's tool fills what is missing
 pub record JobMove : Type 0 where
-  pub motion : Motion
+  pub sweep : SweepOf
   pub cutter : CutterSize
   pub rapid : Bool
   pub line : ℕ
@@ -32,7 +32,7 @@ pub record Job : Type 0 where
 
 -- a move is valid
 pub record IsJobMove (move : JobMove) : Type 0 where
-  pub sweep : IsSweep move.motion
+  pub sweep : IsSweep move.sweep
   pub cutter : IsCutter move.cutter
 
 -- the cutter is cut into some slabs, and every move is valid

@@ -1,2 +1,2 @@
-//! What is so of a job: which points its moves remove and may meet, what each move finds, and the law of a safe move, by definitions.
+//! What is true of a job: which points its moves remove and may meet, what each move finds, and the law of a safe move, by definitions.
 #![tactic(auto)]

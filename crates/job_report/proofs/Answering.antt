@@ -9,11 +9,11 @@ use Rattle.edit_plan.specs.Edits.{left_at}
 use Rattle.edit_plan.specs.declared.query.Ask.{Ask}
 use Rattle.edit_plan.specs.declared.query.Ask.TheVariants.{Count, Probe}
 use Rattle.edit_plan.specs.declared.query.Query.{Query}
-use Rattle.job_facts.specs.declared.totals.Answer.{Answer}
-use Rattle.job_facts.specs.declared.totals.PointState.TheVariants.{Absent, Kept, Possible, Removed}
-use Rattle.ray_grid.specs.Points.{LatticePoint}
+use Rattle.job_counts.specs.declared.totals.Answer.{Answer}
+use Rattle.job_counts.specs.declared.totals.PointState.TheVariants.{Absent, Kept, Possible, Removed}
+use Rattle.ray_grid.specs.Points.{LatticePoint, point_in}
 use Rattle.job_model.specs.Answers.{answer_after}
-use Rattle.job_model.specs.Points.{is_stock, left_moves, may_meet, point_in, some_possible, some_sure, state_after, totals_after}
+use Rattle.job_model.specs.Points.{is_possible, is_stock, left_moves, some_possible, some_sure, state_after, totals_after}
 use Rattle.job_model.specs.Tasks.{IsJobMove, IsPlan, Job, JobMove}
 use Rattle.job_model.proofs.Lists.{moves_valid, none_among}
 use Rattle.job_model.proofs.Safe.{out_not_met, some_meets}
@@ -22,25 +22,25 @@ use Rattle.job_report.specs.Report.{answered}
 use Rattle.job_report.specs.Truth.{AreTrueAnswers, IsTrueAnswer, IsTrueState}
 use Rattle.job_report.proofs.Judged.{judge_of}
 
--- the state that three tests tell is the judge's
+-- the state that three tests give is the judge's
 judged : (job : Job) (moves : List JobMove) (point : LatticePoint) (stock sure possible : Bool)
     → is_stock job point ≡ stock → some_sure job.plan moves point ≡ sure → some_possible job.plan moves point ≡ possible
     → IsJudged job (judge_of job.plan) moves point (if not stock then Absent else (if sure then Removed else (if possible then Possible else Kept)))
-judged job moves point false sure possible in_stock is_sure is_possible = in_stock
-judged job moves point true true possible in_stock is_sure is_possible = (in_stock, is_sure)
-judged job moves point true false true in_stock is_sure is_possible = (in_stock, is_possible, is_sure)
-judged job moves point true false false in_stock is_sure is_possible = (in_stock, is_possible)
+judged job moves point false sure possible in_stock sure_is possible_is = in_stock
+judged job moves point true true possible in_stock sure_is possible_is = (in_stock, sure_is)
+judged job moves point true false true in_stock sure_is possible_is = (in_stock, possible_is, sure_is)
+judged job moves point true false false in_stock sure_is possible_is = (in_stock, possible_is)
 
 -- and what it says of the cutters is so
 so_of_cutters : (job : Job) (moves : List JobMove) (point : LatticePoint) (stock sure possible : Bool) → 0 < job.plan.slabs → All IsJobMove moves
     → some_sure job.plan moves point ≡ sure → some_possible job.plan moves point ≡ possible
     → IsSoOfCutters moves point (if not stock then Absent else (if sure then Removed else (if possible then Possible else Kept)))
-so_of_cutters job moves point false sure possible some valid is_sure is_possible = tt
-so_of_cutters job moves point true true possible some valid is_sure is_possible = some_meets job.plan moves point some valid is_sure
-so_of_cutters job moves point true false true some valid is_sure is_possible = tt
-so_of_cutters job moves point true false false some valid is_sure is_possible =
+so_of_cutters job moves point false sure possible some valid sure_is possible_is = tt
+so_of_cutters job moves point true true possible some valid sure_is possible_is = some_meets job.plan moves point some valid sure_is
+so_of_cutters job moves point true false true some valid sure_is possible_is = tt
+so_of_cutters job moves point true false false some valid sure_is possible_is =
     λ move among. out_not_met job.plan move point some (All-contains IsJobMove moves move valid among)
-    (none_among (λ m. may_meet job.plan m point) moves move is_possible among)
+    (none_among (λ m. is_possible job.plan m point) moves move possible_is among)
 
 true_state : (job : Job) (moves : List JobMove) (point : LatticePoint) → 0 < job.plan.slabs → All IsJobMove moves
     → IsTrueState job (judge_of job.plan) moves point (state_after job moves point)

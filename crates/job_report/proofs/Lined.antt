@@ -14,7 +14,7 @@ use Rattle.job_report.specs.Truth.{AreTrueLines, IsTrueLine}
 use Rattle.job_report.specs.declared.facts.Found.{Found}
 use Rattle.job_report.proofs.Judged.{judge_of}
 
--- the element at an index, alone in a list
+-- the element at an index, as the only one of a list
 alone : {X : Type 0} (xs : List X) (i : ℕ) (x : X) → slice_get xs i ≡ Some x → take 1 (drop i xs) ≡ x ∷ []
 alone [] i x at = absurd (none-some x at)
 alone (y ∷ ys) zero x at = ap (λ z. z ∷ []) (same_Some y x at)

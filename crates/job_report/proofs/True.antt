@@ -4,8 +4,8 @@ use Rattle.std.proofs.lemmas.List.{take_all}
 use Rattle.std.proofs.lemmas.List.Sums.{AllPass-from_list_all, list_all-from_AllPass}
 use Rattle.edit_plan.specs.Edits.{left_of}
 use Rattle.edit_plan.specs.declared.edit.Edit.{Edit}
-use Rattle.job_facts.specs.Counts.{is_safe}
-use Rattle.job_model.specs.Points.{is_sure, may_meet, moves_of, totals_after}
+use Rattle.job_counts.specs.Counts.{is_safe}
+use Rattle.job_model.specs.Points.{is_possible, is_sure, moves_of, totals_after}
 use Rattle.job_report.specs.Counted.{AreTotals}
 use Rattle.job_report.specs.Report.{facts_of}
 use Rattle.job_report.specs.Tasks.{IsTask, Task}
@@ -17,7 +17,7 @@ use Rattle.job_report.proofs.Lined.{true_lines}
 use Rattle.job_report.proofs.Named.{left_named}
 use Rattle.job_report.proofs.Summed.{summed_all}
 
--- all edits are the first so many
+-- all edits are as many of the first as there are
 all_edits : (edits : List Edit) → take (length edits) edits ≡ edits
 all_edits edits = take_all (length edits) edits (omega arith)
 
@@ -39,6 +39,6 @@ true_report task valid =
       removed = subst (λ (es : List Edit). sum_by (λ (found : Found). found.counts.removed) facts.left ≡ (totals_after job (moves_of job.plan (left_of es))).removed)
           (sym (all_edits edits)) (summed_all job (is_sure job.plan) (λ found. found.counts.removed) (λ before number move. refl) numbers);
       possible = subst (λ (es : List Edit). sum_by (λ (found : Found). found.counts.possible) facts.left ≡ (totals_after job (moves_of job.plan (left_of es))).possible)
-          (sym (all_edits edits)) (summed_all job (may_meet job.plan) (λ found. found.counts.possible) (λ before number move. refl) numbers);
+          (sym (all_edits edits)) (summed_all job (is_possible job.plan) (λ found. found.counts.possible) (λ before number move. refl) numbers);
       clean = (AllPass-from_list_all (λ (found : Found). is_safe found.counts) facts.left, list_all-from_AllPass (λ (found : Found). is_safe found.counts) facts.left);
     }

@@ -1,10 +1,10 @@
 -- What the numbers of a report count: points of the lattice, by a judge.
 use Rattle.std.specs.Prelude.{◌≡◌, ℕ, Bool, true, false, not, ◌&&◌, List, count_by}
 use Rattle.ray_grid.specs.Points.{LatticePoint, lattice_of}
-use Rattle.job_facts.specs.declared.counts.Counts.{Counts}
-use Rattle.job_facts.specs.declared.totals.PointState.{PointState}
-use Rattle.job_facts.specs.declared.totals.PointState.TheVariants.{Absent, Kept, Possible, Removed}
-use Rattle.job_facts.specs.declared.totals.Totals.{Totals}
+use Rattle.job_counts.specs.declared.counts.Counts.{Counts}
+use Rattle.job_counts.specs.declared.totals.PointState.{PointState}
+use Rattle.job_counts.specs.declared.totals.PointState.TheVariants.{Absent, Kept, Possible, Removed}
+use Rattle.job_counts.specs.declared.totals.Totals.{Totals}
 use Rattle.job_model.specs.Meets.{NoneMeets, SomeMeets}
 use Rattle.job_model.specs.Points.{is_fixture, is_part, is_stock}
 use Rattle.job_model.specs.Tasks.{Job, JobMove}
@@ -16,7 +16,7 @@ points_with job test = count_by test (lattice_of job.plan.grid)
 
 -- The counts on a move's line. Of the stock: the points of which the move is sure and no move before it was; those at which it is
 -- possible and no move before it was. Of the part and of the fixtures: the points of which it is sure, and those at which it is
--- possible. Of the stock, for a rapid move alone: the points of which it is sure and at which no move before it was possible; those at
+-- possible. Of the stock, only for a rapid move: the points of which it is sure and at which no move before it was possible; those at
 -- which it is possible and of which no move before it was sure.
 pub record AreCounted (job : Job) (judge : Judge) (before : List JobMove) (move : JobMove) (counts : Counts) : Type 0 where
   pub removed : counts.removed

@@ -2,11 +2,11 @@
 use Rattle.std.specs.Prelude.{ℕ, Bool, List}
 use Rattle.std.specs.List.{list_all}
 use Rattle.edit_plan.specs.declared.query.Ask.{Ask}
-use Rattle.job_facts.specs.Answers.{is_answer_to}
-use Rattle.job_facts.specs.Counts.{is_safe}
+use Rattle.job_report.specs.Answers.{is_answer_to}
+use Rattle.job_counts.specs.Counts.{is_safe}
 use Rattle.job_report.specs.declared.facts.Found.{Found}
-use Rattle.job_facts.specs.declared.totals.Answer.{Answer}
-use Rattle.job_facts.specs.declared.totals.Totals.{Totals}
+use Rattle.job_counts.specs.declared.totals.Answer.{Answer}
+use Rattle.job_counts.specs.declared.totals.Totals.{Totals}
 
 -- how many moves a program has and how many records were passed over; the moves that are left, each with what was found of it; the
 -- questions, each with its answer; and the totals

@@ -1,4 +1,5 @@
 pub mod Tasks
+pub mod Answers
 pub mod Facts
 pub mod Report
 pub mod Judges

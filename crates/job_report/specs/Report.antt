@@ -4,7 +4,7 @@ use Rattle.edit_plan.specs.Edits.{left_of}
 use Rattle.edit_plan.specs.declared.query.Ask.{Ask}
 use Rattle.edit_plan.specs.declared.query.Query.{Query}
 use Rattle.ray_grid.specs.Points.{lattice_of}
-use Rattle.job_facts.specs.declared.totals.Answer.{Answer}
+use Rattle.job_counts.specs.declared.totals.Answer.{Answer}
 use Rattle.job_model.specs.Answers.{answer_after}
 use Rattle.job_model.specs.Findings.{found_over}
 use Rattle.job_model.specs.Points.{left_moves, moves_of, totals_after}

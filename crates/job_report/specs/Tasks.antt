@@ -1,4 +1,4 @@
--- A task as the three files stand for it.
+-- A task as the three files give it.
 use Rattle.std.specs.Prelude.{ℕ, ◌<◌, All, List, length}
 use Rattle.edit_plan.specs.Edits.{AppliesBelow}
 use Rattle.edit_plan.specs.declared.query.Query.{Query}

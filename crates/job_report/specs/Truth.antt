@@ -5,13 +5,13 @@ use Rattle.edit_plan.specs.Edits.{left_of}
 use Rattle.edit_plan.specs.declared.query.Ask.{Ask}
 use Rattle.edit_plan.specs.declared.query.Ask.TheVariants as asks
 use Rattle.edit_plan.specs.declared.query.Query.{Query}
-use Rattle.job_facts.specs.Counts.{is_safe}
-use Rattle.job_facts.specs.declared.totals.Answer.{Answer}
-use Rattle.job_facts.specs.declared.totals.Answer.TheVariants as answers
-use Rattle.job_facts.specs.declared.totals.PointState.{PointState}
-use Rattle.ray_grid.specs.Points.{LatticePoint}
+use Rattle.job_counts.specs.Counts.{is_safe}
+use Rattle.job_counts.specs.declared.totals.Answer.{Answer}
+use Rattle.job_counts.specs.declared.totals.Answer.TheVariants as answers
+use Rattle.job_counts.specs.declared.totals.PointState.{PointState}
+use Rattle.ray_grid.specs.Points.{LatticePoint, point_in}
 use Rattle.job_model.specs.Meets.{KeepsOff}
-use Rattle.job_model.specs.Points.{left_moves, moves_of, point_in}
+use Rattle.job_model.specs.Points.{left_moves, moves_of}
 use Rattle.job_model.specs.Tasks.{Job, JobMove}
 use Rattle.job_report.specs.Counted.{AreCounted, AreTotals, IsJudged, IsSoOfCutters}
 use Rattle.job_report.specs.Facts.{JobFacts, is_clean}

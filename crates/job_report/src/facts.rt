@@ -1,6 +1,19 @@
+ghost use Rattle.std.specs.Prelude.{◌≡◌};
+ghost use Rattle.job_report.specs.Answers.{is_answer_to};
+
 use edit_plan::Ask;
-use job_facts::{Answer, Counts, Totals};
+use job_counts::{Answer, Counts, Totals};
 use std::marker::Model;
+
+/// Whether an answer is of its question's kind: a point's state to a probe, totals to a count.
+fn is_answer_to(ask: &Ask, answer: &Answer) -> bool
+    ensures { result ≡ is_answer_to ask.now answer.now }
+{
+    match ask {
+        Ask::Probe { .. } => matches!(answer, Answer::Probe(_)),
+        Ask::Count => matches!(answer, Answer::Count(_)),
+    }
+}
 
 /// What was found of a move that is left: its number from 1, the line of its record, whether it is rapid, and its counts.
 #[derive(Clone, Copy)]
@@ -19,7 +32,7 @@ pub struct Facts {
     pub passed: u32,
     /// The moves that are left at the last version, in order.
     pub left: Vec<Found>,
-    /// What was asked and answered, in order.
+    /// What the queries asked and the answers, in order.
     pub answers: Vec<(Ask, Answer)>,
     /// The totals at the last version.
     pub totals: Totals,
@@ -40,7 +53,6 @@ impl Model for Facts {
 }
 
 impl Facts {
-    ghost use Rattle.std.specs.Prelude.{◌≡◌};
     ghost use Rattle.job_report.specs.Facts.{are_answered, is_clean};
 
     /// Whether each move that is left is safe.
@@ -56,6 +68,6 @@ impl Facts {
     {
         self.answers
             .iter()
-            .all(|answered| answered.1.is_to(&answered.0))
+            .all(|answered| is_answer_to(&answered.0, &answered.1))
     }
 }

@@ -5,8 +5,8 @@ use Rattle.std.proofs.lemmas.List.{length-take-le, take_more}
 use Rattle.edit_plan.specs.declared.query.Ask.{Ask}
 use Rattle.edit_plan.specs.declared.query.Ask.TheVariants as asks
 use Rattle.edit_plan.specs.declared.query.Query.{Query}
-use Rattle.job_facts.specs.declared.totals.Answer.{Answer}
-use Rattle.job_facts.specs.Answers.{is_answer_to}
+use Rattle.job_counts.specs.declared.totals.Answer.{Answer}
+use Rattle.job_report.specs.Answers.{is_answer_to}
 use Rattle.job_report.specs.Facts.{are_answered}
 use Rattle.job_model.specs.Points.{left_moves}
 use Rattle.job_model.specs.Answers.{answer_after}

@@ -4,10 +4,10 @@ use Rattle.ray_grid.specs.Strips.{strips_of}
 use Rattle.job_model.specs.Tasks.{Job, PlanOf}
 use Rattle.strip_journal.specs.Strips.{StripOf}
 use Rattle.turn_core.specs.World.{AreOfPlan, AreStrips}
-use Rattle.strip_turns.specs.Cards.{last, start}
-use Rattle.strip_turns.specs.Closed.{InOrder}
-use Rattle.strip_turns.specs.Log.{seen}
-use Rattle.strip_turns.specs.declared.view.Card.{Card}
+use Rattle.strip_turns.specs.Cards.{last, start_version}
+use Rattle.strip_turns.specs.Closed.{AreBoardStrips}
+use Rattle.strip_turns.specs.Log.{logged_version}
+use Rattle.strip_turns.specs.declared.view.BoardStart.{BoardStart}
 use Rattle.strip_turns.specs.declared.view.View.{View}
 use Rattle.job_run.specs.Founds.{AreBroughtUp, AreLast}
 use Rattle.job_run.specs.Left.{AreTold}
@@ -24,9 +24,9 @@ of_plan plan job strips are = record {
 }
 
 -- where the first pass has seen each at the last version, each is there
-pub brought_up : (plan : PlanOf) (job : Job) (c : Card) (v : View) (before after : List StripOf) → AreOf plan job before → AreStrips job after
-    → InOrder c v after → c.plan ≡ plan
-    → ((k : ℕ) → k < length (strips_of c.plan.grid) → seen k (start c k) v.log ≡ last c)
+pub brought_up : (plan : PlanOf) (job : Job) (c : BoardStart) (v : View) (before after : List StripOf) → AreOf plan job before → AreStrips job after
+    → AreBoardStrips c v after → c.plan ≡ plan
+    → ((k : ℕ) → k < length (strips_of c.plan.grid) → logged_version k (start_version c k) v.log ≡ last c)
     → AreAt plan job (length plan.edits) after
 brought_up plan job c v before after are strips order named reached =
     let of : AreOf plan job after = record { plan_is = are.plan_is; grid = are.grid; strips_are = strips } in

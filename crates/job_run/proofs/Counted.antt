@@ -8,10 +8,10 @@ use Rattle.std.proofs.lemmas.Option.{same_Some, slice_get-get_or, slice_get_with
 use Rattle.edit_plan.specs.Edits.{left_at, left_of}
 use Rattle.ray_grid.specs.Points.{LatticePoint, lattice_of}
 use Rattle.ray_grid.specs.Strips.{strips_of}
-use Rattle.job_facts.specs.declared.counts.Counts.{Counts}
-use Rattle.job_facts.specs.declared.totals.Totals.{Totals}
-use Rattle.job_facts.specs.Counts.{AreWithin, most_count, no_counts, plus}
-use Rattle.job_facts.specs.Totals.{TotalsWithin, plus_totals}
+use Rattle.job_counts.specs.declared.counts.Counts.{Counts}
+use Rattle.job_counts.specs.declared.totals.Totals.{Totals}
+use Rattle.job_counts.specs.Counts.{AreWithin, most_count, no_counts, plus}
+use Rattle.job_counts.specs.Totals.{TotalsWithin, plus_totals}
 use Rattle.job_report.specs.Report.{found_from}
 use Rattle.job_model.specs.Findings.{found_over}
 use Rattle.job_model.specs.Points.{left_moves, moves_of, strip_points, totals_after, totals_over}
@@ -75,7 +75,7 @@ found_added job left strips k s before after are lt is found adds =
           ∙ sym (found_more job ahead move k among);
     }
 
--- so many moves are left in each strip's own way of telling
+-- each strip reports that `left` moves are left
 pub left_many : (job : Job) (left : ℕ) (strips : List StripOf) (k : ℕ) (s : StripOf) (counts : List Counts) → AreLeft job left strips
     → k < length strips → s ≡ get_or strips k s → HaveFound job (first_points job.plan.grid k) counts
     → length counts ≡ length (left_at s.job.plan.edits s.done)
@@ -114,7 +114,7 @@ found_all job left strips k counts are le found =
     subst (λ (points : List LatticePoint). HaveFound job points counts)
     (first_all job.plan.grid k (omega (arith, are.strips_are.first.many))) found
 
--- strips at the last version, with so many moves that are told
+-- strips at the last version, with the moves that are reported
 pub left_up : (job : Job) (left : List LeftMove) (strips : List StripOf) → AreBroughtUp job left strips → AreLeft job (length left) strips
 left_up job left strips up = record { strips_are = up.strips_are; many = up.told.all.many; named = up.told.named }
 

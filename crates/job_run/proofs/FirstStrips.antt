@@ -70,7 +70,7 @@ from_first job done count strips are = record {
   each = λ k s at. let number : 0 + k ≡ k = omega arith in are.each k s at ∙ ap (strip_with job done) number;
 }
 
--- so many as the grid has are all of them
+-- as many as the grid has are all of them
 pub all_made : (plan : PlanOf) (job : Job) (count : ℕ) (strips : List StripOf) → job.plan ≡ plan → IsGrid plan.grid
     → count ≡ length (strips_of plan.grid) → AreFrom job 0 0 count strips → AreAt plan job 0 strips
 all_made plan job count strips is valid many are = record {

@@ -5,9 +5,9 @@ use Rattle.std.specs.List.{slice_get}
 use Rattle.std.proofs.lemmas.List.{append-nil, append_assoc, drop_more, length-take-le, take_more}
 use Rattle.std.proofs.lemmas.List.Elements.{All-head, All-tail}
 use Rattle.std.proofs.lemmas.Option.{slice_get-get_or}
-use Rattle.job_facts.specs.declared.counts.Counts.{Counts}
+use Rattle.job_counts.specs.declared.counts.Counts.{Counts}
 use Rattle.job_report.specs.declared.facts.Found.{Found}
-use Rattle.job_facts.specs.Counts.{no_counts}
+use Rattle.job_counts.specs.Counts.{no_counts}
 use Rattle.ray_grid.specs.Points.{lattice_of}
 use Rattle.job_report.specs.Report.{found_by, found_from}
 use Rattle.job_model.specs.Findings.{found_over}
@@ -60,7 +60,7 @@ rows_more plan numbers counts j n d row before after e lt is one pushed =
     ∙ sym (ap₂ (rows_of plan) (take_more numbers j n lt) (take_more counts j d (omega arith))
     ∙ rows_append plan (take j numbers) (take j counts) (get_or numbers j n) (get_or counts j d) long)
 
--- rows are what is found, where the counts are of what each move finds behind those ahead of it
+-- rows are what is found, where the counts are of what each move finds after those before it
 pub rows_found : (job : Job) (ahead numbers : List ℕ) (counts : List Counts) → length counts ≡ length numbers
     → All (IsBelow (length job.plan.moves)) numbers
     → ((j number : ℕ) (move : JobMove) → slice_get numbers j ≡ Some number → HasNumber job.plan number move
@@ -87,7 +87,7 @@ rows_found job ahead (n ∷ numbers) (x ∷ counts) e named each =
     ∙ ap (λ l. found_over job points (moves_of job.plan l) m) (sym (append_assoc ahead (n ∷ []) (take j numbers)))) in
     ap₂ (λ (a b : List Found). a ++ b) head rest
 
--- the row of a move as it is told
+-- the row of a move as it is reported
 pub told_row : (plan : PlanOf) (left : List LeftMove) (j : ℕ) (one : LeftMove) (counts : Counts) → AreTold plan left
     → slice_get left j ≡ Some one → found_told one counts ∷ [] ≡ row_of plan (get_or (left_of plan.edits) j 0) counts
 told_row plan left j one counts told at =

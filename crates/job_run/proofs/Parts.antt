@@ -11,8 +11,8 @@ use Rattle.ray_grid.specs.declared.ray.Ray.{Ray}
 use Rattle.ray_grid.specs.Points.{LatticePoint, lattice_of, points_on}
 use Rattle.ray_grid.specs.Ranges.{IsGrid}
 use Rattle.ray_grid.specs.Strips.{strip_at, strips_of}
-use Rattle.job_facts.specs.Counts.{AreWithin, most_count, plus}
-use Rattle.job_facts.specs.Totals.{TotalsWithin, plus_totals}
+use Rattle.job_counts.specs.Counts.{AreWithin, most_count, plus}
+use Rattle.job_counts.specs.Totals.{TotalsWithin, plus_totals}
 use Rattle.dexel_rays.specs.Findings.{Seen, findings, is_fixture_possible, is_fixture_sure, is_new_possible}
 use Rattle.dexel_rays.specs.Findings.{is_part_possible, is_part_sure, is_rapid_possible, is_rapid_sure, is_removed}
 use Rattle.dexel_rays.proofs.Found.{findings_within}
@@ -91,7 +91,7 @@ found_more job ahead move count lt =
     ap (λ points. found_over job points ahead move) (first_more job.plan.grid count lt)
     ∙ findings_append (seen job ahead move) (first_points job.plan.grid count) (strip_points job.plan.grid count)
 
--- so many points leave room, and so do the counts over them
+-- counts over at most `most` points are at most `most`
 pub within_room : (most : ℕ) (job : Job) (points : List LatticePoint) (ahead : List JobMove) (move : JobMove) → length points ≤ most
     → AreWithin most (found_over job points ahead move)
 within_room most job points ahead move few =

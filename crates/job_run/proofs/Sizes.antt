@@ -11,12 +11,12 @@ use Rattle.ray_grid.specs.declared.ray.Family.{Family}
 use Rattle.ray_grid.specs.declared.ray.Family.TheVariants.{X, Y, Z}
 use Rattle.ray_grid.specs.declared.ray.Ray.{Ray}
 use Rattle.ray_grid.specs.Lattice.{nodes_of, points_of}
-use Rattle.ray_grid.specs.Points.{points_on}
+use Rattle.ray_grid.specs.Points.{point_in, points_on}
 use Rattle.ray_grid.specs.Ranges.{IsGrid}
 use Rattle.ray_grid.specs.Strips.{strip_at, strip_of, strips_of}
 use Rattle.ray_grid.proofs.Rows.{length-strip, length-strips, row_x, row_y, row_z}
 use Rattle.ray_grid.proofs.Sizes.{axis_of, few_places}
-use Rattle.job_model.specs.Points.{point_in, strip_points}
+use Rattle.job_model.specs.Points.{strip_points}
 
 -- a grid has few strips
 pub strips_few : (grid : GridSize) → IsGrid grid → length (strips_of grid) ≤ 1200

@@ -1,4 +1,4 @@
--- The moves that are left, one more told at a time.
+-- The moves that are left, one more reported at a time.
 use Rattle.std.proofs.Common.{◌≡◌, ℕ, ◌+◌, ◌<◌, List, [], ◌∷◌, ◌++◌, Some, length, get_or, arith, sym, ap, ◌∙◌, subst, length-append}
 use mathlib.Core.Logic.{dite}
 use native.Mathlib.Decide.{dec_le}
@@ -31,7 +31,7 @@ told_more plan numbers n told one first is = record {
       first.each j t (slice_get-get_or told j t inside ∙ ap Some old));
 }
 
--- where all are told that are left, these are the moves that are left
+-- where all are reported that are left, these are the moves that are left
 pub all_told : (plan : PlanOf) (numbers read : List ℕ) (told : List LeftMove) → read ≡ numbers → numbers ≡ left_of plan.edits
     → All (IsBelow (length plan.moves)) numbers → AreFirstTold plan read (length read) told → AreTold plan told
 all_told plan numbers read told same left named first = record {

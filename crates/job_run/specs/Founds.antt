@@ -5,9 +5,9 @@ use Rattle.ray_grid.specs.Grids.{GridSize}
 use Rattle.ray_grid.specs.Points.{LatticePoint, points_on}
 use Rattle.ray_grid.specs.Strips.{strips_of}
 use Rattle.edit_plan.specs.Edits.{left_of}
-use Rattle.job_facts.specs.declared.counts.Counts.{Counts}
+use Rattle.job_counts.specs.declared.counts.Counts.{Counts}
 use Rattle.job_report.specs.declared.facts.Found.{Found}
-use Rattle.job_facts.specs.Counts.{no_counts}
+use Rattle.job_counts.specs.Counts.{no_counts}
 use Rattle.job_model.specs.Findings.{found_over}
 use Rattle.job_model.specs.Points.{moves_of}
 use Rattle.job_model.specs.Tasks.{Job, JobMove, PlanOf}
@@ -18,11 +18,11 @@ use Rattle.job_run.specs.Left.{AreTold}
 use Rattle.job_report.specs.Tasks.{IsBelow}
 use Rattle.job_run.specs.Strips.{AreAt}
 
--- the points of the first so many strips
+-- the points of the first `count` strips
 abbrev pub first_points : GridSize → ℕ → List LatticePoint
 first_points grid count = flat_map (flat_map (points_on grid)) (take count (strips_of grid))
 
--- all strips of the job after all its edits, with so many moves that are left, each of them one that the plan has
+-- all strips of the job after all its edits, with `left` moves that are left, each of them one that the plan has
 pub record AreLeft (job : Job) (left : ℕ) (strips : List StripOf) : Type 0 where
   pub strips_are : AreAt job.plan job (length job.plan.edits) strips
   pub many : left ≡ length (left_of job.plan.edits)
@@ -34,17 +34,17 @@ pub record HaveFound (job : Job) (points : List LatticePoint) (counts : List Cou
   pub each : (j number : ℕ) (move : JobMove) → slice_get (left_of job.plan.edits) j ≡ Some number → HasNumber job.plan number move
       → slice_index_or counts j no_counts ≡ found_over job points (moves_of job.plan (take j (left_of job.plan.edits))) move
 
--- all strips of the job after all its edits, with the moves that are left, as they are told
+-- all strips of the job after all its edits, with the moves that are left, as they are reported
 pub record AreBroughtUp (job : Job) (left : List LeftMove) (strips : List StripOf) : Type 0 where
   pub strips_are : AreAt job.plan job (length job.plan.edits) strips
   pub told : AreTold job.plan left
 
--- all strips of the job after all its edits, which are so many
+-- all strips of the job after all its edits, of which there are `edits`
 pub record AreLast (job : Job) (edits : ℕ) (strips : List StripOf) : Type 0 where
   pub strips_are : AreAt job.plan job (length job.plan.edits) strips
   pub many : edits ≡ length job.plan.edits
 
--- what is reported of a move as it is told, with its counts
+-- what is reported of a move, with its counts
 abbrev pub found_told : LeftMove → Counts → Found
 found_told left counts = record { number = left.number; line = left.line; rapid = left.rapid; counts = counts }
 
@@ -52,7 +52,7 @@ found_told left counts = record { number = left.number; line = left.line; rapid 
 abbrev pub found_with : ℕ → Counts → JobMove → Found
 found_with number counts move = record { number = number + 1; line = move.line; rapid = move.rapid; counts = counts }
 
--- the same of the plan's move with that number, alone in a list
+-- the same of the plan's move with that number, as the only one of a list
 abbrev pub row_of : PlanOf → ℕ → Counts → List Found
 row_of plan number counts = map (found_with number counts) (take 1 (drop number plan.moves))
 

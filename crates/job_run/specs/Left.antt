@@ -10,19 +10,19 @@ use Rattle.job_run.specs.declared.left.LeftMove.{LeftMove}
 abbrev pub lists_with : List ℕ → List ℕ → MoveLists
 lists_with left dropped = record { left = left; dropped = dropped }
 
--- a move as it is told: the plan's with that number, which counts from 1 there
+-- a move as it is reported: the plan's with that number, which counts from 1 there
 pub record IsTold (plan : PlanOf) (number : ℕ) (told : LeftMove) : Type 0 where
   pub number_is : told.number ≡ number + 1
   pub below : number < length plan.moves
   pub line : (move : JobMove) → HasNumber plan number move → told.line ≡ move.line
   pub rapid : (move : JobMove) → HasNumber plan number move → told.rapid ≡ move.rapid
 
--- so many of the moves with these numbers, from the first on, each as it is told
+-- the first `count` of the moves with these numbers, each as it is reported
 pub record AreFirstTold (plan : PlanOf) (numbers : List ℕ) (count : ℕ) (told : List LeftMove) : Type 0 where
   pub many : length told ≡ count
   pub each : (j : ℕ) (one : LeftMove) → slice_get told j ≡ Some one → IsTold plan (slice_index numbers j) one
 
--- the moves that are left, each as it is told, in order
+-- the moves that are left, each as it is reported, in order
 pub record AreTold (plan : PlanOf) (told : List LeftMove) : Type 0 where
   pub named : All (IsBelow (length plan.moves)) (left_of plan.edits)
   pub all : AreFirstTold plan (left_of plan.edits) (length (left_of plan.edits)) told

@@ -1,9 +1,9 @@
-use ray_shapes::Bodies;
+use ray_shapes::Solid;
 
-/// The bodies of a job: the stock, the part as it may be cut, and the fixtures as they are kept clear.
+/// The solids of a job: the stock, the part as it may be cut, and the fixtures as they are kept clear.
 #[derive(Drop)]
 pub struct JobBodies {
-    pub stock: Bodies,
-    pub part: Bodies,
-    pub fixture: Bodies,
+    pub stock: Solid,
+    pub part: Solid,
+    pub fixture: Solid,
 }

@@ -9,7 +9,7 @@ ghost use Rattle.job_run.specs.Jobs.{OfSomeJob, OfSomePlan};
 ghost use Rattle.job_run.specs.Left.{AreTold};
 
 use crate::left::LeftMove;
-use job_facts::{Counts, Totals};
+use job_counts::{Counts, Totals};
 use job_report::Found;
 use std::alloc::Global;
 use strip_journal::Strip;
@@ -66,7 +66,7 @@ pub fn found_moves(
     rows(alloc, left, &counts)
 }
 
-/// The totals over all strips at the last version, which comes after so many edits.
+/// The totals over all strips at the last version, which comes after `edits` edits.
 pub fn last_totals(edits: u32, strips: &[Strip]) -> Totals
     requires { OfSomeJob (λ job. AreLast job edits strips.now) }
     ensures { (job : Job) → AreLast job edits strips.now → result ≡ totals_after job (left_moves job.plan (length job.plan.edits)) }

@@ -2,21 +2,21 @@ ghost use Rattle.std.specs.Prelude.{◌≡◌, ◌<◌, ◌≤◌, All, IfOk, le
 ghost use Rattle.std.specs.Thread.{IsSync};
 ghost use Rattle.edit_plan.specs.Queries.{IsQuery};
 ghost use Rattle.job_run.specs.Finished.{IsFinished};
-ghost use Rattle.job_run.specs.Jobs.{job_with};
+ghost use Rattle.job_run.specs.Jobs.{AreOver, job_with};
 ghost use Rattle.job_run.specs.Strips.{AreAt};
-ghost use Rattle.strip_plan.specs.Parts.{IsReckonedOf};
+ghost use Rattle.strip_plan.specs.Parts.{IsPreparedOf};
 
 use crate::bodies::JobBodies;
 use crate::left::{LeftMove, left_moves};
 use crate::strips::fresh_strips;
 use crate::versions::bring_up;
 use edit_plan::Query;
-use job_facts::Answer;
+use job_counts::Answer;
 use std::alloc::Global;
 use std::sync::Wait;
 use std::thread::{Threads, join};
 use strip_journal::Strip;
-use strip_plan::{Plan, PlanDraft, Reckoned};
+use strip_plan::{Plan, PlanDraft, Prepared};
 use vf_io::NoMemory;
 use worker_gate::Gate;
 
@@ -33,8 +33,8 @@ pub struct FinishedJob {
     pub strips: Vec<Strip>,
 }
 
-/// The plan of a draft and its strips before the first edit, each by so many workers: where there are two or more, the plan is reckoned in
-/// a thread of its own beside the strips, where one can be made.
+/// The plan of a draft and its strips before the first edit, each by `workers` workers: where there are two or more, the plan is
+/// computed in a thread of its own at the same time as the strips, where one can be made.
 fn made_at_once<R: Threads + Sync>(
     rt: &R,
     alloc: Global,
@@ -42,31 +42,32 @@ fn made_at_once<R: Threads + Sync>(
     bodies: &JobBodies,
     workers: u32,
 ) -> Result<(Plan, Vec<Strip>), NoMemory>
-    requires { 0 < workers }
+    requires workers { 0 < workers }
+    requires over { AreOver draft.grid bodies.now }
     ensures plan { IfOk result (λ made. made.0 ≡ draft) }
     ensures strips { IfOk result (λ made. AreAt draft (job_with draft bodies.now) 0 made.1.items) }
 {
     let plan = &draft;
     if workers < 2 {
-        let reckoned = plan.reckon_by(rt, alloc, workers)?;
+        let prepared = plan.prepare_by(rt, alloc, workers)?;
         let strips = fresh_strips(rt, alloc, plan, bodies, workers)?;
-        return Ok((Plan::of_draft(draft, reckoned), strips));
+        return Ok((Plan::of_draft(draft, prepared), strips));
     }
-    let front = move || -> Result<Reckoned, NoMemory>
+    let front = move || -> Result<Prepared, NoMemory>
         requires { IsSync R.row }
-        ensures { IfOk result (IsReckonedOf plan.entry.now) }
-    { plan.reckon_by(rt, alloc, workers) };
+        ensures { IfOk result (IsPreparedOf plan.entry.now) }
+    { plan.prepare_by(rt, alloc, workers) };
     let back = move || -> Result<Vec<Strip>, NoMemory>
-        requires { IsSync R.row × (0 < workers) }
+        requires { IsSync R.row × (0 < workers) × AreOver plan.now.grid bodies.now }
         ensures { IfOk result (λ strips. AreAt plan.entry.now (job_with plan.entry.now bodies.entry.now) 0 strips.items) }
     { fresh_strips(rt, alloc, plan, bodies, workers) };
-    let (reckoned, strips) = join(rt, front, back);
-    let reckoned = reckoned?;
+    let (prepared, strips) = join(rt, front, back);
+    let prepared = prepared?;
     let strips = strips?;
-    Ok((Plan::of_draft(draft, reckoned), strips))
+    Ok((Plan::of_draft(draft, prepared), strips))
 }
 
-/// Does a whole job by so many workers. Fails only when out of memory.
+/// Does a whole job by `workers` workers. Fails only when out of memory.
 pub fn finish_job<R: Threads + Wait + Sync, G: Gate + Sync>(
     rt: &R,
     alloc: Global,
@@ -78,6 +79,7 @@ pub fn finish_job<R: Threads + Wait + Sync, G: Gate + Sync>(
 ) -> Result<FinishedJob, NoMemory>
     requires queries { All (IsQuery draft.grid (length draft.edits)) queries.now }
     requires workers { (0 < workers) × (workers ≤ 16) }
+    requires over { AreOver draft.grid bodies.now }
     ensures { IfOk result (IsFinished (job_with draft bodies.now) queries.now) }
 {
     let (plan, strips) = made_at_once(rt, alloc, draft, bodies, workers)?;

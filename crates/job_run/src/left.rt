@@ -8,7 +8,7 @@ use std::alloc::Global;
 use strip_plan::Plan;
 use vf_io::NoMemory;
 
-/// A move that is left, as the plan tells it: its number from 1, the line of its record, and whether it is rapid.
+/// A move that is left, as the plan has it: its number from 1, the line of its record, and whether it is rapid.
 #[derive(Clone, Copy)]
 pub struct LeftMove {
     pub number: u32,
@@ -55,12 +55,12 @@ fn left_numbers(alloc: Global, plan: &Plan) -> Result<Vec<u32>, NoMemory>
     Ok(left)
 }
 
-/// A move of the plan, as it is told.
+/// A move of the plan, as it is reported.
 fn told_of(plan: &Plan, number: u32) -> LeftMove
     requires { number < length plan.now.moves }
     ensures { IsTold plan.now number result }
 {
-    // That a plan has few moves is told with their number.
+    // The call that returns the number of moves says that they are few.
     let _few = plan.moves();
     LeftMove {
         number: number + 1,

@@ -5,16 +5,18 @@ ghost use Rattle.job_report.specs.Tasks.{IsTask};
 ghost use Rattle.setup_file.specs.Shift.{shifted_of};
 ghost use Rattle.setup_file.specs.Sound.{IsSetup, IsTool};
 ghost use Rattle.move_cutters.specs.Cutters.{first_low, is_move_low};
-ghost use Rattle.job_inputs.specs.Tasks.{job_move, tool_usual};
+ghost use Rattle.job_inputs.specs.Tasks.{job_move, tool_defaults};
+ghost use Rattle.ray_grid.specs.Grids.{GridSize};
+ghost use Rattle.job_run.specs.Jobs.{AreOver};
 ghost use Rattle.job_run.specs.Ready.{task_ready};
 
 use crate::bodies::JobBodies;
 use cl_moves::Move;
 use cutter_slabs::Cutter;
 use edit_plan::{Queries, Script};
-use job_inputs::{TaskInputs, tool_text, usual_of};
+use job_inputs::{TaskInputs, defaults_of, tool_text};
 use move_cutters::{size, sweep_of};
-use ray_shapes::Bodies;
+use ray_shapes::{Bodies, Solid};
 use setup_file::{Setup, shifted};
 use std::alloc::Global;
 use strip_plan::{PlanDraft, PlanMove};
@@ -34,12 +36,12 @@ pub struct ReadyTask {
 fn plan_move(tool: &Cutter, next: &Move) -> PlanMove
     requires tool { IsTool tool.now }
     requires valid { IsMove next.now }
-    requires high { is_move_low (tool_usual tool.now) next.now ≡ false }
+    requires high { is_move_low (tool_defaults tool.now) next.now ≡ false }
     ensures { result ≡ job_move tool.now next.now }
 {
     PlanMove::new(
         sweep_of(next),
-        size(&usual_of(tool), &next.cutter.unwrap_or(tool_text(tool))),
+        size(&defaults_of(tool), &next.cutter.unwrap_or(tool_text(tool))),
         next.rapid,
         next.line,
     )
@@ -49,7 +51,7 @@ fn plan_move(tool: &Cutter, next: &Move) -> PlanMove
 fn plan_moves(alloc: Global, tool: &Cutter, moves: &[Move]) -> Result<Vec<PlanMove>, NoMemory>
     requires tool { IsTool tool.now }
     requires valid { All IsMove moves.now }
-    requires high { first_low (tool_usual tool.now) moves.now ≡ None }
+    requires high { first_low (tool_defaults tool.now) moves.now ≡ None }
     ensures { IfOk result (λ made. made.items ≡ map (job_move tool.now) moves.now) }
 {
     let mut made = Vec::with_capacity(alloc, moves.len())?;
@@ -78,22 +80,27 @@ fn raised_fixture(alloc: Global, setup: &Setup) -> Result<Bodies, NoMemory>
 /// The stock of a setup, its part as it may be cut and its fixtures as they are kept clear.
 fn task_bodies(alloc: Global, setup: &Setup) -> Result<JobBodies, NoMemory>
     requires { IsSetup setup.now }
-    ensures stock { IfOk result (λ made. made.stock ≡ setup.now.stock) }
-    ensures part { IfOk result (λ made. made.part ≡ shifted_of (neg_ℤ setup.now.tolerance) setup.now.part) }
-    ensures fixture { IfOk result (λ made. made.fixture ≡ shifted_of setup.now.clearance setup.now.fixture) }
+    ensures stock { IfOk result (λ made. made.stock ≡ Solid.Bodies setup.now.stock) }
+    ensures part { IfOk result (λ made. made.part ≡ Solid.Bodies (shifted_of (neg_ℤ setup.now.tolerance) setup.now.part)) }
+    ensures fixture { IfOk result (λ made. made.fixture ≡ Solid.Bodies (shifted_of setup.now.clearance setup.now.fixture)) }
+    ensures over { (grid : GridSize) → IfOk result (AreOver grid) }
 {
+    let part = lowered_part(alloc, setup)?;
+    let fixture = raised_fixture(alloc, setup)?;
     Ok(JobBodies {
-        stock: setup.stock.copy()?,
-        part: lowered_part(alloc, setup)?,
-        fixture: raised_fixture(alloc, setup)?,
+        stock: Solid::Bodies(setup.stock.copy()?),
+        part: Solid::Bodies(part),
+        fixture: Solid::Bodies(fixture),
     })
 }
 
-/// Makes a task ready to be done. Fails only for want of memory.
+/// Makes a task ready to be done. Fails only when out of memory.
 pub fn make_ready(alloc: Global, inputs: TaskInputs) -> Result<ReadyTask, NoMemory>
     ensures task { IfOk result (λ ready. task_ready ready ≡ inputs) }
     ensures asked { IfOk result (λ ready. All (IsQuery ready.plan.grid (length ready.plan.edits)) ready.queries) }
     ensures valid { IfOk result (λ ready. IsTask (task_ready ready)) }
+    // Each of its solids fits its grid.
+    ensures over { IfOk result (λ ready. AreOver ready.plan.grid ready.bodies) }
 {
     let TaskInputs {
         program,

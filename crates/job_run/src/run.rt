@@ -5,14 +5,14 @@ ghost use Rattle.job_report.specs.Facts.{are_answered};
 ghost use Rattle.job_report.specs.Report.{facts_of};
 ghost use Rattle.job_run.specs.Asked.{asked_with};
 ghost use Rattle.job_run.specs.Finished.{IsFinished};
-ghost use Rattle.job_run.specs.Jobs.{OfSomeJob};
+ghost use Rattle.job_run.specs.Jobs.{AreOver, OfSomeJob};
 ghost use Rattle.job_run.specs.Ready.{task_ready};
 
 use crate::facts::{found_moves, last_totals};
 use crate::finished::{FinishedJob, finish_job};
 use crate::ready::ReadyTask;
 use edit_plan::{Ask, Query};
-use job_facts::Answer;
+use job_counts::Answer;
 use job_report::Facts;
 use std::alloc::Global;
 use std::mem;
@@ -76,7 +76,7 @@ fn reported(
     })
 }
 
-/// Does a task by so many workers, and gives what is reported of it. Fails only when out of memory. Where it doesn't fail, what the
+/// Does a task by `workers` workers, and returns what is reported of it. Fails only when out of memory. Where it doesn't fail, what the
 /// strips hold isn't freed before the program ends.
 pub fn run_job<R: Threads + Wait + Sync, G: Gate + Sync>(
     rt: &R,
@@ -87,6 +87,7 @@ pub fn run_job<R: Threads + Wait + Sync, G: Gate + Sync>(
 ) -> Result<Facts, NoMemory>
     requires queries { All (IsQuery task.plan.grid (length task.plan.edits)) task.queries }
     requires workers { (0 < workers) × (workers ≤ 16) }
+    requires over { AreOver task.plan.grid task.bodies }
     // What the definitions say, point by point, of the whole lattice, whoever does which part when.
     ensures facts { IfOk result (λ facts. facts ≡ facts_of (task_ready task)) }
     ensures answered { IfOk result (λ facts. IsTrue (are_answered facts.answers)) }

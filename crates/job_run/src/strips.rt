@@ -1,16 +1,15 @@
 ghost use Rattle.std.specs.Prelude.{◌≡◌, ◌<◌, ◌≤◌, IfOk, length};
-ghost use Rattle.std.specs.Fn.{FnReturnsAt};
 ghost use Rattle.std.specs.Thread.{IsSync};
 ghost use Rattle.ray_grid.specs.Lattice.{IsRay};
 ghost use Rattle.ray_grid.specs.Ranges.{IsGrid};
 ghost use Rattle.ray_grid.specs.Strips.{strips_of};
-ghost use Rattle.ray_shapes.specs.Sets.{Gives};
-ghost use Rattle.job_run.specs.Jobs.{job_with};
+ghost use Rattle.ray_shapes.specs.Sets.{GivesSolid};
+ghost use Rattle.job_run.specs.Jobs.{AreOver, job_with};
 ghost use Rattle.job_run.specs.Strips.{AreAt, AreFrom};
 
 use crate::bodies::JobBodies;
 use ray_grid::{Grid, Ray};
-use ray_shapes::{RayShape, Solid, body_spans};
+use ray_shapes::{RayShape, solid_spans};
 use std::alloc::Global;
 use std::thread::{Threads, join};
 use strip_journal::Strip;
@@ -18,7 +17,7 @@ use strip_plan::PlanDraft;
 use vf_io::NoMemory;
 use vf_spans::Spans;
 
-/// The strips of a plan from one number on and below another, before the first edit, by shapes of the three bodies.
+/// The strips of a plan from one number on and below another, before the first edit, by shapes of the three solids.
 fn strips_by<
     A: Fn(&Ray) -> Result<Spans, NoMemory>,
     B: Fn(&Ray) -> Result<Spans, NoMemory>,
@@ -34,17 +33,16 @@ fn strips_by<
 ) -> Result<Vec<Strip>, NoMemory>
     requires order { from ≤ to }
     requires within { to ≤ length (strips_of plan.now.grid) }
-    requires stock_grid { stock.now.grid ≡ plan.now.grid }
-    requires part_grid { part.now.grid ≡ plan.now.grid }
-    requires fixture_grid { fixture.now.grid ≡ plan.now.grid }
-    requires stock_callable { (ray : _) → IsRay stock.now.grid ray.now → A.pre stock.now.source ray }
-    requires part_callable { (ray : _) → IsRay part.now.grid ray.now → B.pre part.now.source ray }
-    requires fixture_callable { (ray : _) → IsRay fixture.now.grid ray.now → C.pre fixture.now.source ray }
-    requires stock_gives { Gives (FnReturnsAt A.Fn stock.now.source) stock.now.grid stock.now.solid }
-    requires part_gives { Gives (FnReturnsAt B.Fn part.now.source) part.now.grid part.now.solid }
-    requires fixture_gives { Gives (FnReturnsAt C.Fn fixture.now.source) fixture.now.grid fixture.now.solid }
+    requires stock { GivesSolid A.Fn plan.now.grid stock.now }
+    requires part { GivesSolid B.Fn plan.now.grid part.now }
+    requires fixture { GivesSolid C.Fn plan.now.grid fixture.now }
     ensures { IfOk result (λ strips. AreFrom
-        record { plan = plan.now; stock = stock.now.solid; part = part.now.solid; fixture = fixture.now.solid } 0 from to strips.items) }
+        record {
+          plan = plan.now;
+          stock = stock.now.solid.value;
+          part = part.now.solid.value;
+          fixture = fixture.now.solid.value;
+        } 0 from to strips.items) }
 {
     let mut strips = Vec::with_capacity(alloc, (to - from) as usize)?;
     for number in from..to {
@@ -63,20 +61,25 @@ fn strips_between(
 ) -> Result<Vec<Strip>, NoMemory>
     requires order { from ≤ to }
     requires within { to ≤ length (strips_of plan.now.grid) }
+    requires over { AreOver plan.now.grid bodies.now }
     ensures { IfOk result (λ strips. AreFrom (job_with plan.now bodies.now) 0 from to strips.items) }
 {
     let grid = plan.grid();
     let stock = &bodies.stock;
     let part = &bodies.part;
     let fixture = &bodies.fixture;
-    let stock = RayShape::new(*grid, Solid::Bodies(stock.copy()?), move |ray: &Ray| {
-        body_spans(alloc, stock.as_slice(), grid, ray)
-    });
-    let part = RayShape::new(*grid, Solid::Bodies(part.copy()?), move |ray: &Ray| {
-        body_spans(alloc, part.as_slice(), grid, ray)
-    });
-    let fixture = RayShape::new(*grid, Solid::Bodies(fixture.copy()?), move |ray: &Ray| {
-        body_spans(alloc, fixture.as_slice(), grid, ray)
+    let stock = RayShape::new(
+        *grid,
+        stock,
+        move |ray: &Ray| solid_spans(alloc, stock, grid, ray),
+    );
+    let part = RayShape::new(
+        *grid,
+        part,
+        move |ray: &Ray| solid_spans(alloc, part, grid, ray),
+    );
+    let fixture = RayShape::new(*grid, fixture, move |ray: &Ray| {
+        solid_spans(alloc, fixture, grid, ray)
     });
     strips_by(alloc, plan, from, to, &stock, &part, &fixture)
 }
@@ -92,7 +95,7 @@ fn rays_between(grid: &Grid, from: u32, to: u32) -> u64
     rays
 }
 
-/// The end of the first of so many parts, which has its share of the rays: strips of one family have more of them than those of another.
+/// The end of the first of `parts` parts, which has its share of the rays: strips of one family have more of them than those of another.
 fn share_end(grid: &Grid, from: u32, to: u32, parts: u32) -> u32
     requires parts { 0 < parts }
     requires order { from ≤ to }
@@ -110,7 +113,7 @@ fn share_end(grid: &Grid, from: u32, to: u32, parts: u32) -> u32
     to
 }
 
-/// The same strips, made in so many parts, each in a thread of its own where one can be made.
+/// The same strips, made in `parts` parts, each in a thread of its own where one can be made.
 #[cycle(parts)]
 fn strips_in_parts<R: Threads + Sync>(
     rt: &R,
@@ -124,6 +127,7 @@ fn strips_in_parts<R: Threads + Sync>(
     requires parts { 0 < parts }
     requires order { from ≤ to }
     requires within { to ≤ length (strips_of plan.now.grid) }
+    requires over { AreOver plan.now.grid bodies.now }
     ensures { IfOk result (λ strips. AreFrom (job_with plan.now bodies.now) 0 from to strips.items) }
 {
     if parts == 1 {
@@ -132,11 +136,12 @@ fn strips_in_parts<R: Threads + Sync>(
     let next = share_end(plan.grid(), from, to, parts);
     let others = parts - 1;
     let front = move || -> Result<Vec<Strip>, NoMemory>
-        requires { (from ≤ next) × (next ≤ length (strips_of plan.now.grid)) }
+        requires { (from ≤ next) × (next ≤ length (strips_of plan.now.grid)) × AreOver plan.now.grid bodies.now }
         ensures { IfOk result (λ strips. AreFrom (job_with plan.entry.now bodies.entry.now) 0 from next strips.items) }
     { strips_between(alloc, plan, bodies, from, next) };
     let back = move || -> Result<Vec<Strip>, NoMemory>
-        requires { IsSync R.row × (0 < others) × (next ≤ to) × (to ≤ length (strips_of plan.now.grid)) }
+        requires { IsSync R.row × (0 < others) × (next ≤ to) × (to ≤ length (strips_of plan.now.grid))
+            × AreOver plan.now.grid bodies.now }
         ensures { IfOk result (λ strips. AreFrom (job_with plan.entry.now bodies.entry.now) 0 next to strips.items) }
     { strips_in_parts(rt, alloc, plan, bodies, next, to, others) };
     let (first, rest) = join(rt, front, back);
@@ -152,12 +157,12 @@ fn strip_count(plan: &PlanDraft) -> u32
     ensures valid { IsGrid plan.now.grid }
 {
     let grid = plan.grid();
-    // A grid is valid by its type, which is known where a field of it is seen.
+    // Reading a field of the grid gives the prover its invariant.
     let _valid = &grid.origin;
     grid.strips()
 }
 
-/// The strips of a plan before the first edit, made by so many workers.
+/// The strips of a plan before the first edit, made by `workers` workers.
 pub fn fresh_strips<R: Threads + Sync>(
     rt: &R,
     alloc: Global,
@@ -165,7 +170,8 @@ pub fn fresh_strips<R: Threads + Sync>(
     bodies: &JobBodies,
     workers: u32,
 ) -> Result<Vec<Strip>, NoMemory>
-    requires { 0 < workers }
+    requires workers { 0 < workers }
+    requires over { AreOver plan.now.grid bodies.now }
     ensures { IfOk result (λ strips. AreAt plan.now (job_with plan.now bodies.now) 0 strips.items) }
 {
     let count = strip_count(plan);

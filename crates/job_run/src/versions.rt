@@ -6,7 +6,7 @@ ghost use Rattle.job_run.specs.Jobs.{OfSomeJob};
 ghost use Rattle.job_run.specs.Strips.{AreAt, AreOf};
 
 use edit_plan::Query;
-use job_facts::Answer;
+use job_counts::Answer;
 use std::alloc::Global;
 use std::sync::Wait;
 use std::thread::Threads;
@@ -16,8 +16,8 @@ use strip_turns::Board;
 use vf_io::NoMemory;
 use worker_gate::{Gate, crew};
 
-/// Answers all queries, and takes all strips to the last version: so many workers take turns with them while the queries are asked.
-/// Who takes which turn, and in which order, is seen nowhere.
+/// Answers all queries, and takes all strips to the last version: `workers` workers turn the strips while the queries are asked.
+/// Who takes which turn, and in which order, doesn't show in any result.
 pub fn bring_up<R: Threads + Wait + Sync, G: Gate + Sync>(
     rt: &R,
     alloc: Global,

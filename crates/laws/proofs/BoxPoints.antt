@@ -18,7 +18,7 @@ use Rattle.laws.proofs.FirstAbove.{is_first, is_on_side}
 from_origin : (origin spacing place : ℤ) → (origin +ℤ (pos 0 *ℤ spacing)) ≤ℤ place → origin ≤ℤ place
 from_origin origin spacing place h = omega (arith, ints)
 
--- the first number whose multiple comes up to a place that is at or below the last of so many is one of theirs
+-- the first number whose multiple comes up to a place that is at or below the last of `count` of them is one of theirs
 among : (origin spacing place : ℤ) (count : ℕ) → pos 1 ≤ℤ spacing → 1 ≤ count → IsBetween (origin +ℤ (pos 0 *ℤ spacing)) (origin +ℤ (pos (count - 1) *ℤ spacing)) place
     → first_above origin spacing place < count
 among origin spacing place count some any between =

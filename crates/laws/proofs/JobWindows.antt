@@ -1,22 +1,27 @@
--- What is found of a job is the sum over its windows: all of it is asked of a point's position alone.
-use Rattle.std.proofs.Common.{◌≡◌, ℕ, zero, suc, ◌+◌, ◌==◌, Bool, cond, ◌&&◌, ◌↔◌, IsTrue, List, [], ◌∷◌, map, ℤ, arith, refl, sym, ap, ◌∙◌, subst}
-use Rattle.std.specs.List.{All, sum_by}
-use Rattle.std.proofs.lemmas.Bool.{and_parts, eqb-true}
+-- What is found of a job is the sum over its windows: all of it depends only on a point's position.
+use Rattle.std.proofs.Common.{◌≡◌, ℕ, zero, suc, ◌+◌, ◌==◌, Bool, true, false, cond, ◌&&◌, ◌↔◌, IsTrue, List, [], ◌∷◌, map, ℤ, arith, refl, sym, ap, ◌∙◌, subst}
+use Rattle.std.specs.List.{All, count_by, sum_by}
+use Rattle.std.proofs.lemmas.Bool.{and_parts, eqb-true, true≢false}
 use Rattle.std.proofs.lemmas.List.Elements.{All-cons, All-head, All-nil, All-tail}
 use Rattle.std.proofs.lemmas.List.Sums.{sum_by-cons}
 use Rattle.dexel_rays.specs.Findings.{Seen, is_fixture_possible, is_fixture_sure, is_new_possible, is_part_possible, is_part_sure, is_rapid_possible, is_rapid_sure, is_removed}
 use Rattle.ray_grid.specs.Grids.{GridSize}
-use Rattle.ray_grid.specs.Points.{LatticePoint}
+use Rattle.ray_grid.specs.Points.{LatticePoint, lattice_of}
+use Rattle.ray_grid.specs.Turns.{back}
 use Rattle.ray_grid.specs.declared.ray.Family.TheVariants.{Z}
-use Rattle.job_facts.specs.Counts.{is_safe, plus}
-use Rattle.job_facts.specs.Totals.{plus_totals}
-use Rattle.job_facts.specs.declared.counts.Counts.{Counts}
-use Rattle.job_facts.specs.declared.totals.Totals.{Totals}
+use Rattle.ray_shapes.specs.declared.solid.Solid.{Solid}
+use Rattle.ray_shapes.specs.declared.solid.Solid.TheVariants.{Bodies, Listed, Turned}
+use Rattle.ray_shapes.specs.Planes.{in_bodies}
+use Rattle.ray_shapes.specs.Sets.{in_solid}
+use Rattle.job_counts.specs.Counts.{is_safe, plus}
+use Rattle.job_counts.specs.Totals.{plus_totals}
+use Rattle.job_counts.specs.declared.counts.Counts.{Counts}
+use Rattle.job_counts.specs.declared.totals.Totals.{Totals}
 use Rattle.job_model.specs.Findings.{seen}
-use Rattle.job_model.specs.Points.{is_stock, some_possible, some_sure, totals_after}
+use Rattle.job_model.specs.Points.{some_possible, some_sure, totals_after}
 use Rattle.job_model.specs.Sums.{sum_counts, sum_totals}
 use Rattle.job_model.specs.Tasks.{Job, JobMove}
-use Rattle.laws.specs.Windows.{IsCut, found_in, in_window, points_where, window_jobs, windows_of}
+use Rattle.laws.specs.Windows.{AreOfPlaces, IsCut, found_in, in_window, is_of_places, points_where, window_jobs, windows_of}
 use Rattle.laws.proofs.WindowSums.{windows_sum}
 
 pub counts_sum : (grid : GridSize) (axis : ℕ) (counts : List ℕ) (test : List ℤ → Bool) → IsCut grid axis counts
@@ -89,34 +94,68 @@ counts_apart f (w ∷ windows) =
 abbrev at_place : List ℤ → LatticePoint
 at_place x = record { ray = record { family = Z; i = 0; j = 0 }; l = 0; position = x }
 
-pub totals_sum : (job : Job) (axis : ℕ) (counts : List ℕ) (moves : List JobMove) → IsCut job.plan.grid axis counts
+-- whether a place is in a solid that is given by places
+abbrev at_places : Solid → List ℤ → Bool
+at_places (Bodies bodies) x = in_bodies bodies x
+at_places (Listed sets) x = false
+at_places (Turned part) x = in_bodies part.bodies (back part.turn x)
+
+abbrev Inside : Type 0
+Inside = GridSize → LatticePoint → Bool
+
+abbrev by_place : Solid → Inside
+by_place solid grid point = at_places solid point.position
+
+placed : (solid : Solid) → is_of_places solid ≡ true → by_place solid ≡ in_solid solid
+placed (Bodies bodies) of = refl
+placed (Listed sets) of = absurd (true≢false (sym of))
+placed (Turned part) of = refl
+
+pub totals_sum : (job : Job) (axis : ℕ) (counts : List ℕ) (moves : List JobMove) → AreOfPlaces job → IsCut job.plan.grid axis counts
     → totals_after job moves ≡ sum_totals (map (λ part. totals_after part moves) (window_jobs job axis counts))
-totals_sum job axis counts moves cut =
+totals_sum job axis counts moves of cut =
     let grid = job.plan.grid in
     let windows = windows_of grid axis counts in
     let f : GridSize → Totals = λ window. totals_after (in_window job window) moves in
+    let stock : List ℤ → Bool = at_places job.stock in
+    let counted : (Bool → LatticePoint → Bool) → Inside → GridSize → ℕ = λ test inside g. count_by (λ p. test (inside g p) p) (lattice_of g) in
+    let sums : (test : Bool → LatticePoint → Bool) → counted test (by_place job.stock) grid ≡ sum_by (counted test (by_place job.stock)) windows
+    → counted test (in_solid job.stock) grid ≡ sum_by (counted test (in_solid job.stock)) windows =
+    λ test. subst (λ (inside : Inside). counted test inside grid ≡ sum_by (counted test inside) windows) (placed job.stock of.stock) in
     same_totals (totals_after job moves) (totals_of f windows)
-    (counts_sum grid axis counts (λ x. is_stock job (at_place x) && some_sure job.plan moves (at_place x)) cut)
-    (counts_sum grid axis counts (λ x. is_stock job (at_place x) && some_possible job.plan moves (at_place x)) cut)
-    (counts_sum grid axis counts (λ x. is_stock job (at_place x)) cut)
+    (sums (λ b p. b && some_sure job.plan moves p) (counts_sum grid axis counts (λ x. stock x && some_sure job.plan moves (at_place x)) cut))
+    (sums (λ b p. b && some_possible job.plan moves p) (counts_sum grid axis counts (λ x. stock x && some_possible job.plan moves (at_place x)) cut))
+    (sums (λ b p. b) (counts_sum grid axis counts stock cut))
     ∙ sym (totals_apart f windows) ∙ sym (ap sum_totals (map_map (λ part. totals_after part moves) (in_window job) windows))
 
-pub findings_sum : (job : Job) (axis : ℕ) (counts : List ℕ) (earlier : List JobMove) (move : JobMove) → IsCut job.plan.grid axis counts
+-- what is known of a point, with the three solids by tests of their own
+abbrev seen_by : Job → List JobMove → JobMove → Inside → Inside → Inside → GridSize → LatticePoint → Seen
+seen_by job earlier move s p f grid point =
+    record (seen job earlier move point) { stock = s grid point; part = p grid point; fixture = f grid point }
+
+pub findings_sum : (job : Job) (axis : ℕ) (counts : List ℕ) (earlier : List JobMove) (move : JobMove) → AreOfPlaces job → IsCut job.plan.grid axis counts
     → found_in earlier move job ≡ sum_counts (map (found_in earlier move) (window_jobs job axis counts))
-findings_sum job axis counts earlier move cut =
+findings_sum job axis counts earlier move of cut =
     let grid = job.plan.grid in
     let windows = windows_of grid axis counts in
     let f : GridSize → Counts = λ window. found_in earlier move (in_window job window) in
-    let see : List ℤ → Seen = λ x. seen job earlier move (at_place x) in
+    let see : List ℤ → Seen = λ x. seen_by job earlier move (by_place job.stock) (by_place job.part) (by_place job.fixture) grid (at_place x) in
+    let counted : (Seen → Bool) → Inside → Inside → Inside → GridSize → ℕ =
+    λ test s p t g. count_by (λ q. test (seen_by job earlier move s p t g q)) (lattice_of g) in
+    let sums : (test : Seen → Bool)
+    → counted test (in_solid job.stock) (in_solid job.part) (in_solid job.fixture) grid
+    ≡ sum_by (counted test (in_solid job.stock) (in_solid job.part) (in_solid job.fixture)) windows =
+    λ test.
+    subst (λ (s : Inside). counted test s (in_solid job.part) (in_solid job.fixture) grid ≡ sum_by (counted test s (in_solid job.part) (in_solid job.fixture)) windows)
+    (placed job.stock of.stock)
+    (subst (λ (p : Inside). counted test (by_place job.stock) p (in_solid job.fixture) grid ≡ sum_by (counted test (by_place job.stock) p (in_solid job.fixture)) windows)
+    (placed job.part of.part)
+    (subst (λ (t : Inside). counted test (by_place job.stock) (by_place job.part) t grid ≡ sum_by (counted test (by_place job.stock) (by_place job.part) t) windows)
+    (placed job.fixture of.fixture)
+    (counts_sum grid axis counts (λ x. test (see x)) cut))) in
     same_counts (found_in earlier move job) (counts_of f windows)
-    (counts_sum grid axis counts (λ x. is_removed (see x)) cut)
-    (counts_sum grid axis counts (λ x. is_new_possible (see x)) cut)
-    (counts_sum grid axis counts (λ x. is_part_sure (see x)) cut)
-    (counts_sum grid axis counts (λ x. is_part_possible (see x)) cut)
-    (counts_sum grid axis counts (λ x. is_fixture_sure (see x)) cut)
-    (counts_sum grid axis counts (λ x. is_fixture_possible (see x)) cut)
-    (counts_sum grid axis counts (λ x. is_rapid_sure (see x)) cut)
-    (counts_sum grid axis counts (λ x. is_rapid_possible (see x)) cut)
+    (sums is_removed) (sums is_new_possible) (sums is_part_sure) (sums is_part_possible)
+    (sums is_fixture_sure) (sums is_fixture_possible) (sums is_rapid_sure) (sums is_rapid_possible)
     ∙ sym (counts_apart f windows) ∙ sym (ap sum_counts (map_map (found_in earlier move) (in_window job) windows))
 
 -- a move is safe by its counts where three of them are 0
@@ -156,10 +195,10 @@ safe_all f (part ∷ parts) =
       λ all. both_safe (f part) (sum_counts (map f parts)) (All-head P part parts all) ((safe_all f parts).1 (All-tail P part parts all)),
     )
 
-pub safe_in_each : (job : Job) (axis : ℕ) (counts : List ℕ) (earlier : List JobMove) (move : JobMove) → IsCut job.plan.grid axis counts
+pub safe_in_each : (job : Job) (axis : ℕ) (counts : List ℕ) (earlier : List JobMove) (move : JobMove) → AreOfPlaces job → IsCut job.plan.grid axis counts
     → IsTrue (is_safe (found_in earlier move job)) ↔ All (λ part. IsTrue (is_safe (found_in earlier move part))) (window_jobs job axis counts)
-safe_in_each job axis counts earlier move cut =
+safe_in_each job axis counts earlier move of cut =
     let parts = window_jobs job axis counts in
     let each = safe_all (found_in earlier move) parts in
-    let e = findings_sum job axis counts earlier move cut in
+    let e = findings_sum job axis counts earlier move of cut in
     (λ h. each.0 (subst (λ x. IsTrue (is_safe x)) e h), λ all. subst (λ x. IsTrue (is_safe x)) (sym e) (each.1 all))

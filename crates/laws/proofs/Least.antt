@@ -1,4 +1,4 @@
--- Fewer lengths than the length of the normal rounded up are too few: some point so near is left out.
+-- Fewer lengths than the length of the normal rounded up are too few: some point that near is left out.
 use Rattle.std.proofs.Common.{◌≡◌, ℕ, zero, suc, ◌+◌, ◌-◌, ◌*◌, ◌≤◌, ◌<◌, List, [], ◌∷◌, ℤ, pos, negsuc, neg_ℤ, ◌+ℤ◌, ◌-ℤ◌, ◌*ℤ◌, ◌≤ℤ◌, unsigned_abs, IsTrue, arith, refl, sym, subst, ap, ◌∙◌, ⊎_elim}
 use Rattle.std.proofs.Math.Nat.{mul-le-mul_left}
 use Rattle.std.proofs.lemmas.Bool.{cases_lt}
@@ -54,7 +54,7 @@ way N (suc k) e more =
     let times = mul-le-mul_left s (let q : s * s + 1 ≤ N = omega arith in q) in
     way_by N s e s (omega arith)
 
--- so many normals from the origin
+-- t normals from the origin
 abbrev along : Plane → ℤ → List ℤ
 along plane t = (t *ℤ plane.a) ∷ (t *ℤ plane.b) ∷ (t *ℤ plane.c) ∷ []
 
@@ -71,7 +71,7 @@ distance_along plane t u =
     let N = from 2 in let T = var 0 in let U = var 1 in
     ring (t ∷ u ∷ plane.a ∷ plane.b ∷ plane.c ∷ []) (dots (λ k. sub (mul U (N k)) (mul T (N k))) (λ k. sub (mul U (N k)) (mul T (N k)))) (mul (mul (sub U T) (sub U T)) (dots N N)) refl
 
--- a point so far below the plane as its right side is from 0, or further
+-- a point as far below the plane as its right side is from 0, or further
 low_enough : (d : ℤ) (N : ℕ) → 1 ≤ N → (neg_ℤ (pos (unsigned_abs d)) *ℤ pos N) ≤ℤ d
 low_enough (pos zero) N some = omega (arith, ints)
 low_enough (pos (suc n)) N some = let k = mul-le-mul_left (suc n) some in omega (arith, ints)

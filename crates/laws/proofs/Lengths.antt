@@ -50,7 +50,7 @@ value_moves plane p q =
     ring (plane.a ∷ plane.b ∷ plane.c ∷ at p 0 ∷ at p 1 ∷ at p 2 ∷ at q 0 ∷ at q 1 ∷ at q 2 ∷ [])
     (dots N Q) (add (dots N P) (dots N (λ k. sub (Q k) (P k)))) refl
 
--- so near a point that the plane holds, the left side exceeds the right one by no more than that
+-- for a point that near to one that the plane holds, the left side exceeds the right one by no more than that
 pub value_near : (plane : Plane) (p q : List ℤ) (b : ℕ) (d : ℤ) → value_at plane p ≤ℤ d → squared_distance p q ≤ℤ pos (b * b)
     → value_at plane q ≤ℤ (d +ℤ pos (b * normal_length plane))
 value_near plane p q b d held near =

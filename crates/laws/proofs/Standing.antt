@@ -1,8 +1,8 @@
--- A motion that stands is at the same place at all times.
-use Rattle.std.proofs.Common.{◌≡◌, ℕ, ◌*◌, ◌<◌, [], ◌∷◌, ℤ, pos, arith, refl, subst, inr, ⊎_elim}
+-- A motion from a place to the same place is there at all times.
+use Rattle.std.proofs.Common.{◌≡◌, ℕ, ◌*◌, ◌<◌, [], ◌∷◌, ℤ, pos, arith, refl, subst, inl, inr, ⊎_elim}
 use Rattle.std.proofs.lemmas.Int.{ints}
 use Rattle.space.specs.Flanks.{lower_tangent}
-use Rattle.space.specs.Motion.{IsSweep, axis_at, between, offset, offset_at}
+use Rattle.space.specs.Sweeps.{IsSweep, axis_at, between, offset, offset_at}
 use Rattle.space.proofs.Solver.{add, mul, ring, var}
 use Rattle.space.proofs.Terms.{sub}
 use Rattle.cutter_slabs.specs.Cutter.{IsCutter}
@@ -50,6 +50,8 @@ valid_cone = record {
   angle = refl;
   sharp = inr refl;
   top = omega arith;
+  hollow = omega arith;
+  plain = inl refl;
 }
 
 pub valid_sweep : IsSweep standing
@@ -71,6 +73,7 @@ in_upper = record {
   time = (omega arith, omega arith);
   inside = record {
     forward = omega (arith, ints);
+    above = omega (arith, ints);
     height = omega (arith, ints);
     shape = inr record { leaning = omega arith; cone = inr (omega (arith, ints)) };
   };

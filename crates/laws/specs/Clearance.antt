@@ -23,7 +23,7 @@ ShrunkStaysInside =
     (by : ℤ) (bodies : List (List Plane)) (p q : List ℤ) → by ≤ℤ pos 0
     → IsTrue (in_bodies (shifted_of by bodies) p) → squared_distance p q ≤ℤ (by *ℤ by) → IsTrue (in_bodies bodies q)
 
--- so many whole lengths are enough for a plane: moved by so many times an amount, it holds all that is no further than it from what it held
+-- `lengths` whole lengths are enough for a plane: moved by `lengths` times an amount, it holds all within that amount of what it held
 abbrev pub IsClearedBy : Plane → ℕ → Type 0
 IsClearedBy plane lengths =
     (by : ℤ) (p q : List ℤ) → pos 0 ≤ℤ by → IsTrue (plane_holds plane p)

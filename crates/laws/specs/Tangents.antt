@@ -1,10 +1,10 @@
--- The table of flank angles holds the true tangents, by whole numbers alone: an angle is the direction that leans by it, so many
--- times the angle is that direction turned on by itself, and the tangent of 30 degrees is 1 / sqrt(3).
+-- The table of flank angles holds the true tangents, by whole numbers only: an angle is the direction that leans by it, a multiple
+-- of the angle is that direction turned on by itself, and the tangent of 30 degrees is 1 / sqrt(3).
 use Rattle.std.specs.Prelude.{◌≡◌, ℕ, zero, suc, ◌+◌, ◌*◌, ℤ, pos, ◌+ℤ◌, ◌-ℤ◌, ◌*ℤ◌, ◌≤ℤ◌, int_le, int_lt, Bool, ◌&&◌, IsTrue, [], ◌∷◌, map}
 use Rattle.std.specs.List.{list_all, range_with_len}
 use Rattle.space.specs.Flanks.{flanks, lower_tangent, upper_tangent}
 
--- a direction in a plane through the tool axis: so far along the axis, and so far across it
+-- a direction in a plane through the tool axis: how far along the axis, and how far across it
 pub record Direction : Type 0 where
   pub along : ℤ
   pub across : ℤ
@@ -25,7 +25,7 @@ abbrev pub multiple : ℕ → ℕ → Direction
 multiple t zero = record { along = pos 1; across = pos 0 }
 multiple t (suc k) = together (multiple t k) (leaning_by t)
 
--- the direction leans by an angle from 0 up to 90 degrees, but not by 90
+-- the direction leans by an angle from 0 up to 90 degrees, 90 excluded
 abbrev pub is_in_quadrant : Direction → Bool
 is_in_quadrant a = int_lt (pos 0) a.along && int_le (pos 0) a.across
 
@@ -43,7 +43,7 @@ pub record IsBeyondThirty (k t : ℕ) : Type 0 where
   pub turned : IsTrue (stays_in_quadrant k t)
   pub beyond : ((multiple t k).along *ℤ (multiple t k).along) ≤ℤ (pos 3 *ℤ ((multiple t k).across *ℤ (multiple t k).across))
 
--- The table's bounds hold the tangent of so many degrees, a k-th of 30: k times the angle of the lower bound is at most 30
+-- The table's bounds hold the tangent of `degrees` degrees, a k-th of 30: k times the angle of the lower bound is at most 30
 -- degrees, k times that of the upper one at least, and they are one millionth apart.
 pub record IsTangentOf (degrees k : ℕ) : Type 0 where
   pub part : degrees * k ≡ 30

@@ -1,4 +1,4 @@
-//! Laws of the definitions that no clause of the program cites, by which a reader can tell that they say what they are meant to say.
+//! Laws of the definitions that no clause of the program cites, by which a reader can check that they say what they are meant to say.
 #![tactic(auto)]
 
 mod clearance;

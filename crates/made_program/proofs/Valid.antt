@@ -1,4 +1,4 @@
--- Every move that is made is a valid one.
+-- Every generated move is a valid one.
 use Rattle.std.proofs.Common.{◌≡◌, ℕ, ◌+◌, ◌*◌, ◌^◌, ◌<◌, ◌≤◌, ◌&&◌, zero, suc, Bool, true, false, List, ℤ, pos, ◌-ℤ◌, ◌+ℤ◌, ◌*ℤ◌, int_lt, unsigned_abs, refl, arith}
 use Rattle.std.specs.Ordering.{int_eq}
 use Rattle.std.proofs.lemmas.Int.{ints}

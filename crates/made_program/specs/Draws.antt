@@ -5,11 +5,11 @@ use Rattle.std.specs.Prelude.{ℕ, ◌+◌, ◌*◌, ◌/◌, ◌%◌, ◌^◌, 
 abbrev pub next_state : ℕ → ℕ
 next_state state = (1103515245 * state + 12345) % 2 ^ 31
 
--- the state after so many draws
-abbrev pub state_after : ℕ → ℕ → ℕ
-state_after zero state = state
-state_after (suc n) state = next_state (state_after n state)
+-- the state after a number of draws
+abbrev pub generator_state : ℕ → ℕ → ℕ
+generator_state zero state = state
+generator_state (suc n) state = next_state (generator_state n state)
 
 -- the n-th draw, from 1: the upper 15 bits of the state after it
 abbrev pub draw : ℕ → ℕ → ℕ
-draw n state = state_after n state / 65536
+draw n state = generator_state n state / 65536

@@ -1,4 +1,4 @@
--- The program that is made from a number: cutting moves without a cutter, each from where the one ahead of it ended.
+-- The program that is generated from a number: cutting moves without a cutter, each from where the one before it ended.
 use Rattle.std.specs.Prelude.{ℕ, ◌+◌, ◌*◌, ◌%◌, pos, ◌-ℤ◌, zero, suc, false, [], ◌∷◌, map, None}
 use Rattle.std.specs.List.{range_with_len}
 use Rattle.space.specs.Ranges.{axis_unit}
@@ -8,7 +8,7 @@ use Rattle.cl_moves.specs.declared.program.Program.{Program}
 use Rattle.made_program.specs.Draws.{draw}
 use Rattle.made_program.specs.declared.place.Place.{Place}
 
--- the tool stands upright at the start, 20 mm above the origin
+-- the tool is upright at the start, 20 mm above the origin
 abbrev pub first_place : Place
 first_place = record { tip = pos 0 ∷ pos 0 ∷ pos 20000 ∷ []; axis = upright }
 
@@ -20,18 +20,18 @@ place_by a b c p q = record {
   axis = (pos p -ℤ pos 16384) ∷ (pos q -ℤ pos 16384) ∷ pos axis_unit ∷ [];
 }
 
--- the place that the first five draws behind a state give
+-- the place that the first five draws after a state give
 abbrev pub place_from : ℕ → Place
 place_from state = place_by (draw 1 state) (draw 2 state) (draw 3 state) (draw 4 state) (draw 5 state)
 
--- where the tool is after so many moves: each takes the next five draws
+-- where the tool is after a number of moves: each takes the next five draws
 unfoldable pub place_after : ℕ → ℕ → Place
 place_after number zero = first_place
 place_after number (suc i) =
     place_by (draw (5 * i + 1) number) (draw (5 * i + 2) number) (draw (5 * i + 3) number)
     (draw (5 * i + 4) number) (draw (5 * i + 5) number)
 
--- the move with i ahead of it, on the line of its own number
+-- the move with i moves before it, on the line of its own number
 abbrev pub made_move : ℕ → ℕ → Move
 made_move number i = record {
   line = i + 1;
@@ -43,7 +43,7 @@ made_move number i = record {
   cutter = None;
 }
 
--- how many moves are made
+-- how many moves are generated
 abbrev pub made_moves : ℕ
 made_moves = 24
 

@@ -1,4 +1,4 @@
-//! The program of a self-test: moves that are made from a number, all valid, without a file.
+//! The program of a self-test: moves that are generated from a number, all valid, without a file.
 #![tactic(auto)]
 
 mod draw;

@@ -1,5 +1,5 @@
 ghost use Rattle.std.specs.Prelude.{◌≡◌, ◌^◌, ◌<◌};
-ghost use Rattle.made_program.specs.Draws.{state_after};
+ghost use Rattle.made_program.specs.Draws.{generator_state};
 ghost use Rattle.made_program.specs.Made.{first_place, place_by, place_from};
 
 use crate::draw::draw;
@@ -12,7 +12,7 @@ pub(crate) struct Place {
 }
 
 impl Place {
-    /// The tool stands upright at the start, above the origin.
+    /// The tool is upright at the start, above the origin.
     pub(crate) fn first() -> Place
         ensures { result ≡ first_place }
     {
@@ -24,7 +24,7 @@ impl Place {
 
     /// The place that the next five draws give.
     pub(crate) fn next(state: &mut u32) -> Place
-        ensures state { state.new ≡ state_after 5 state.old }
+        ensures state { state.new ≡ generator_state 5 state.old }
         ensures place { result ≡ place_from state.old }
     {
         let a = draw(state);

@@ -1,7 +1,7 @@
 ghost use Rattle.std.specs.Prelude.{◌≡◌, ◌+◌, ◌*◌, IfOk, All, None, false, map};
 ghost use Rattle.std.specs.List.{range_with_len};
 ghost use Rattle.cl_moves.specs.Moves.{IsMove};
-ghost use Rattle.made_program.specs.Draws.{state_after};
+ghost use Rattle.made_program.specs.Draws.{generator_state};
 ghost use Rattle.made_program.specs.Made.{made_move, made_of, place_after};
 
 use crate::place::Place;
@@ -9,10 +9,10 @@ use cl_moves::{Move, Moves, Program};
 use std::alloc::Global;
 use vf_io::NoMemory;
 
-/// How many moves are made.
+/// How many moves a generated program has.
 pub const MADE_MOVES: u32 = 24;
 
-/// The program that is made from a number.
+/// The program that is generated from a number.
 pub fn made_program(alloc: Global, number: u32) -> Result<Program, NoMemory>
     ensures program { IfOk result (λ program. program ≡ made_of number) }
     ensures moves { IfOk result (λ program. All IsMove program.moves) }

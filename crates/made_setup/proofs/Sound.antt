@@ -1,4 +1,4 @@
--- The made setup's numbers are all in their ranges.
+-- The generated setup's numbers are all in their ranges.
 use Rattle.std.proofs.Common.{◌≡◌, ℕ, ◌≤◌, ◌<◌, ℤ, pos, neg_ℤ, ◌≤ℤ◌, List, [], ◌∷◌, inl, inr, refl, arith}
 use Rattle.std.specs.List.{All}
 use Rattle.std.proofs.lemmas.Int.{ints}
@@ -63,7 +63,10 @@ made_sound = record {
       angle = refl;
       sharp = inl refl;
       top = omega arith;
+      hollow = omega arith;
+      plain = inl refl;
     };
     upright = refl;
+    from_tip = refl;
   };
 }

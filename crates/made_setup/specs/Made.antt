@@ -19,5 +19,5 @@ made_setup = record {
   clearance = pos 0;
   slabs = 4;
   depth = 4;
-  tool = record { d = 4000; r = 1000; h = 30000; flank = 0 };
+  tool = record { d = 4000; r = 1000; h = 30000; flank = 0; base = 0 };
 }

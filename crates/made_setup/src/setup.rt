@@ -36,6 +36,7 @@ pub fn made_setup(alloc: Global) -> Result<Setup, NoMemory>
             r: 1_000,
             h: 30_000,
             flank: 0,
+            base: 0,
         },
     })
 }

@@ -8,13 +8,13 @@ use Rattle.cl_records.specs.Kinds.{tallest, widest}
 use Rattle.cl_records.specs.Ranges.{IsCutterText}
 use Rattle.cl_records.specs.declared.cutter.CutterText.{CutterText}
 use Rattle.cutter_slabs.specs.Cutter.{IsCutter}
-use Rattle.move_cutters.specs.Cutters.{IsUsual, height_of, is_low, size_of}
-use Rattle.move_cutters.specs.declared.cutters.Usual.{Usual}
+use Rattle.move_cutters.specs.Cutters.{AreDefaults, height_of, is_low, size_of}
+use Rattle.move_cutters.specs.declared.cutters.CutterDefaults.{CutterDefaults}
 
 -- a height, or the usual one where there is none
-height_within : (h : Option ℤ) (usual : ℤ) → IfSome h (IsBetween (pos 1) (pos tallest)) → IsBetween (pos 1) (pos tallest) usual → IsBetween (pos 1) (pos tallest) (unwrap_or h usual)
-height_within None usual valid tall = tall
-height_within (Some z) usual valid tall = valid
+height_within : (h : Option ℤ) (defaults : ℤ) → IfSome h (IsBetween (pos 1) (pos tallest)) → IsBetween (pos 1) (pos tallest) defaults → IsBetween (pos 1) (pos tallest) (unwrap_or h defaults)
+height_within None defaults valid tall = tall
+height_within (Some z) defaults valid tall = valid
 
 -- an upright flank widens nothing
 no_wider : (d x : ℕ) → x ≡ 0 → d ≤ widest → d + 2 * ((x + 999999) / 1000000) ≤ widest
@@ -30,15 +30,15 @@ pub record IsFlanked (d r h : ℤ) (flank : ℕ) : Type 0 where
   pub top : top_of (unsigned_abs d) (unsigned_abs h) flank ≤ widest
 
 -- a cutter with an upright flank is as wide at the top, and a cone has a height of its own
-flanked : (d r : ℤ) (h : Option ℤ) (usual : ℤ) (flank : ℕ) → IsBetween (pos 1) (pos widest) d
-    → (flank ≢ 0 → (r ≡ pos 0) × MatchOption h ⊥ (λ z. top_of (unsigned_abs d) (unsigned_abs z) flank ≤ widest)) → IsFlanked d r (unwrap_or h usual) flank
-flanked d r h usual zero width cone = record { sharp = inl refl; top = upright_top d (unwrap_or h usual) width }
-flanked d r None usual (suc n) width cone = absurd (cone (λ e. omega arith)).1
-flanked d r (Some z) usual (suc n) width cone =
+flanked : (d r : ℤ) (h : Option ℤ) (defaults : ℤ) (flank : ℕ) → IsBetween (pos 1) (pos widest) d
+    → (flank ≢ 0 → (r ≡ pos 0) × MatchOption h ⊥ (λ z. top_of (unsigned_abs d) (unsigned_abs z) flank ≤ widest)) → IsFlanked d r (unwrap_or h defaults) flank
+flanked d r h defaults zero width cone = record { sharp = inl refl; top = upright_top d (unwrap_or h defaults) width }
+flanked d r None defaults (suc n) width cone = absurd (cone (λ e. omega arith)).1
+flanked d r (Some z) defaults (suc n) width cone =
     let leaning = cone (λ e. omega arith) in record { sharp = inr (ap unsigned_abs leaning.0); top = leaning.1 }
 
 sizes : (d r h : ℤ) (flank : ℕ) → IsBetween (pos 1) (pos widest) d → pos 0 ≤ℤ r → (pos 2 *ℤ r) ≤ℤ d → IsBetween (pos 1) (pos tallest) h → int_lt h r ≡ false
-    → is_flank flank ≡ true → IsFlanked d r h flank → IsCutter record { d = unsigned_abs d; r = unsigned_abs r; h = unsigned_abs h; flank = flank }
+    → is_flank flank ≡ true → IsFlanked d r h flank → IsCutter record { d = unsigned_abs d; r = unsigned_abs r; h = unsigned_abs h; flank = flank; base = 0 }
 sizes (negsuc d) r h flank width radius corner height rounded known flanks = absurd width.from_least.le
 sizes (pos d) (negsuc r) h flank width radius corner height rounded known flanks = absurd radius.le
 sizes (pos d) (pos r) (negsuc h) flank width radius corner height rounded known flanks = absurd height.from_least.le
@@ -54,12 +54,14 @@ sizes (pos d) (pos r) (pos h) flank width radius corner height rounded known fla
       angle = known;
       sharp = flanks.sharp;
       top = flanks.top;
+      hollow = omega (arith, ints, low);
+      plain = inl refl;
     }
 
-is_cutter : (usual : Usual) (cutter : CutterText) → IsUsual usual → IsCutterText cutter → is_low usual cutter ≡ false → IsCutter (size_of usual cutter)
-is_cutter usual cutter all valid high =
-    sizes cutter.d cutter.r (height_of usual cutter) cutter.flank valid.width valid.radius valid.corner (height_within cutter.h usual.height valid.height all.tall) high valid.flank
-    (flanked cutter.d cutter.r cutter.h usual.height cutter.flank valid.width (λ leaning. let cone = valid.cone leaning in (cone.sharp, cone.top)))
+is_cutter : (defaults : CutterDefaults) (cutter : CutterText) → AreDefaults defaults → IsCutterText cutter → is_low defaults cutter ≡ false → IsCutter (size_of defaults cutter)
+is_cutter defaults cutter all valid high =
+    sizes cutter.d cutter.r (height_of defaults cutter) cutter.flank valid.width valid.radius valid.corner (height_within cutter.h defaults.height valid.height all.tall) high valid.flank
+    (flanked cutter.d cutter.r cutter.h defaults.height cutter.flank valid.width (λ leaning. let cone = valid.cone leaning in (cone.sharp, cone.top)))
 
 -- the bits of a size give it back
 given_back : (z : ℤ) → pos 0 ≤ℤ z → z ≤ℤ pos tallest → to_z w32 (of_z w32 z) ≡ z
@@ -71,10 +73,10 @@ pub record IsWritten (d r h : ℤ) (flank : ℕ) : Type 0 where
   pub wide : pos 0 ≤ℤ d
   pub round : pos 0 ≤ℤ r
   pub high : pos 0 ≤ℤ h
-  pub sizes_are : IsCutter record { d = unsigned_abs d; r = unsigned_abs r; h = unsigned_abs h; flank = flank }
+  pub sizes_are : IsCutter record { d = unsigned_abs d; r = unsigned_abs r; h = unsigned_abs h; flank = flank; base = 0 }
 
 written : (d r h : ℤ) (flank : ℕ) → IsBetween (pos 1) (pos widest) d → pos 0 ≤ℤ r → (pos 2 *ℤ r) ≤ℤ d → IsBetween (pos 1) (pos tallest) h
-    → IsCutter record { d = unsigned_abs d; r = unsigned_abs r; h = unsigned_abs h; flank = flank }
+    → IsCutter record { d = unsigned_abs d; r = unsigned_abs r; h = unsigned_abs h; flank = flank; base = 0 }
     → IsWritten (to_z w32 (of_z w32 d)) (to_z w32 (of_z w32 r)) (to_z w32 (of_z w32 h)) flank
 written d r h flank width radius corner height valid =
     let wide = width.from_least in let most = width.to_most in let low = height.from_least in let tall = height.to_most in
@@ -82,9 +84,9 @@ written d r h flank width radius corner height valid =
     rw (given_back d wide_above (omega (arith, ints, most)), given_back r radius (omega (arith, ints, corner, most, radius)), given_back h high_above tall)
     record { wide = wide_above; round = radius; high = high_above; sizes_are = valid }
 
-pub is_written : (usual : Usual) (cutter : CutterText) (h : ℤ) → IsUsual usual → IsCutterText cutter → is_low usual cutter ≡ false → height_of usual cutter ≡ h
+pub is_written : (defaults : CutterDefaults) (cutter : CutterText) (h : ℤ) → AreDefaults defaults → IsCutterText cutter → is_low defaults cutter ≡ false → height_of defaults cutter ≡ h
     → IsWritten (to_z w32 (of_z w32 cutter.d)) (to_z w32 (of_z w32 cutter.r)) (to_z w32 (of_z w32 h)) cutter.flank
-is_written usual cutter h all valid high same =
+is_written defaults cutter h all valid high same =
     subst (λ (z : ℤ). IsWritten (to_z w32 (of_z w32 cutter.d)) (to_z w32 (of_z w32 cutter.r)) (to_z w32 (of_z w32 z)) cutter.flank) same
-    (written cutter.d cutter.r (height_of usual cutter) cutter.flank valid.width valid.radius valid.corner
-    (height_within cutter.h usual.height valid.height all.tall) (is_cutter usual cutter all valid high))
+    (written cutter.d cutter.r (height_of defaults cutter) cutter.flank valid.width valid.radius valid.corner
+    (height_within cutter.h defaults.height valid.height all.tall) (is_cutter defaults cutter all valid high))

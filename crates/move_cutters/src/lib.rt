@@ -3,4 +3,4 @@
 
 mod cutters;
 
-pub use cutters::{Usual, cutter_of, low_cutter, size, sweep_of};
+pub use cutters::{CutterDefaults, cutter_of, low_cutter, size, sweep_of};

@@ -2,9 +2,9 @@
 use Rattle.std.proofs.Common.{◌≡◌, ◌⊎◌, inl, inr, ⊎_elim, true, ℕ, ◌-◌, ◌≤◌, ℤ, pos, negsuc, ◌+ℤ◌, ◌*ℤ◌, ◌-ℤ◌, ◌≤ℤ◌, ◌<ℤ◌, arith, sym, subst}
 use Rattle.std.proofs.lemmas.Int.{ints}
 use Rattle.space.proofs.Tests.{decides_le}
-use Rattle.near_points.specs.declared.hold.Hold.{Hold}
-use Rattle.near_points.specs.declared.stance.Stance.{Stance}
-use Rattle.near_points.specs.declared.step.Step.{Step}
+use Rattle.near_points.specs.declared.axis_offset.AxisOffset.{AxisOffset}
+use Rattle.near_points.specs.declared.cylinder_test.CylinderTest.{CylinderTest}
+use Rattle.near_points.specs.declared.ray_step.RayStep.{RayStep}
 use Rattle.near_points.specs.Lines.{is_amid_after, is_held_after, is_narrow_after, second_at, third_at, width_at}
 use Rattle.near_points.proofs.Growing.{growth_at, grows_back, grows_on, less_between, more_between, two_squares}
 use Rattle.near_points.proofs.Leaving.{on_to}
@@ -22,7 +22,7 @@ falls : (c g : ℤ) → pos 0 ≤ℤ c → (c +ℤ g) <ℤ pos 0 → pos 0 ≤�
 falls c g h k = omega (arith, ints, h, k)
 
 -- the square of the moment is not too large between two points where it isn't
-narrow_between : (s : Stance) (t : Step) (y : ℤ) (l x m : ℕ) → l ≤ x → x ≤ m → width_at s t (pos l) ≤ℤ y → width_at s t (pos m) ≤ℤ y → width_at s t (pos x) ≤ℤ y
+narrow_between : (s : AxisOffset) (t : RayStep) (y : ℤ) (l x m : ℕ) → l ≤ x → x ≤ m → width_at s t (pos l) ≤ℤ y → width_at s t (pos m) ≤ℤ y → width_at s t (pos x) ≤ℤ y
 narrow_between s t y l x m from to first last =
     let c = t.second *ℤ t.second +ℤ t.third *ℤ t.third in
     let slope = λ (z : ℤ). pos 2 *ℤ (second_at s t z *ℤ t.second +ℤ third_at s t z *ℤ t.third) in
@@ -45,16 +45,16 @@ at_most_between h t y l x m from to first last =
     let less = less_between h t (y +ℤ pos 1) l x m from to (omega (arith, ints, first)) (omega (arith, ints, last)) in omega (arith, ints, less)
 
 -- a point is held that lies between two that are amid, and between two moments that aren't too long
-pub held_amid : (hold : Hold) (s : Stance) (t : Step) (bottom from x to top : ℕ) → bottom ≤ from → from ≤ x → x ≤ to → to ≤ top → is_amid_after hold s t (pos bottom) ≡ true → is_amid_after hold s t (pos top) ≡ true
-    → is_narrow_after hold s t (pos from) ≡ true → is_narrow_after hold s t (pos to) ≡ true → is_held_after hold s t (pos x) ≡ true
-held_amid hold s t bottom from x to top first before behind last low high near far =
-    let a = amid_parts hold s t (pos bottom) low in let b = amid_parts hold s t (pos top) high in
+pub held_amid : (test : CylinderTest) (s : AxisOffset) (t : RayStep) (bottom from x to top : ℕ) → bottom ≤ from → from ≤ x → x ≤ to → to ≤ top → is_amid_after test s t (pos bottom) ≡ true → is_amid_after test s t (pos top) ≡ true
+    → is_narrow_after test s t (pos from) ≡ true → is_narrow_after test s t (pos to) ≡ true → is_held_after test s t (pos x) ≡ true
+held_amid test s t bottom from x to top first before behind last low high near far =
+    let a = amid_parts test s t (pos bottom) low in let b = amid_parts test s t (pos top) high in
     let up : bottom ≤ x = omega (arith, first, before) in let down : x ≤ top = omega (arith, behind, last) in
-    held_by_parts hold s t (pos x)
-    (narrow_between s t hold.square from x to before behind ((decides_le (width_at s t (pos from)) hold.square).0 near) ((decides_le (width_at s t (pos to)) hold.square).0 far))
+    held_by_parts test s t (pos x)
+    (narrow_between s t test.square from x to before behind ((decides_le (width_at s t (pos from)) test.square).0 near) ((decides_le (width_at s t (pos to)) test.square).0 far))
     record {
-      low = at_least_between s.height t.height hold.least bottom x top up down a.low b.low;
-      high = at_most_between s.height t.height hold.most bottom x top up down a.high b.high;
-      left = at_least_between s.side t.side (pos 0 -ℤ hold.across) bottom x top up down a.left b.left;
-      right = at_most_between s.side t.side hold.across bottom x top up down a.right b.right;
+      low = at_least_between s.height t.height test.least bottom x top up down a.low b.low;
+      high = at_most_between s.height t.height test.most bottom x top up down a.high b.high;
+      left = at_least_between s.side t.side (pos 0 -ℤ test.across) bottom x top up down a.left b.left;
+      right = at_most_between s.side t.side test.across bottom x top up down a.right b.right;
     }

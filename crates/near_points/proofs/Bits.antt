@@ -1,9 +1,10 @@
--- Numbers passed as their bits, and what is reckoned of them.
+-- Numbers passed as their bits, and what is computed from them.
 use Rattle.std.proofs.Common.{◌≡◌, ℕ, ◌*◌, ◌^◌, ◌<◌, ◌≤◌, ℤ, pos, ◌+ℤ◌, ◌-ℤ◌, ◌*ℤ◌, ◌≤ℤ◌, FitsSigned, to_z, of_z, unsigned_abs, arith, refl, sym, subst, ap, ap₂, ◌∙◌}
 use Rattle.std.proofs.lemmas.Int.{ints, to_z-of_z, fits_signed_from_abs}
 use mir.Syntax.{Width, w32, w64, w128}
 use Rattle.space.proofs.Naturals.{abs_add, abs_mul, abs_sub}
-use Rattle.sweep_boxes.specs.Limits.{place_limit, side_limit}
+use Rattle.sweep_boxes.specs.Limits.{place_limit}
+use Rattle.space.specs.Ranges.{vector_limit}
 use Rattle.near_points.specs.Limits.{moment_limit, tilt_limit}
 use Rattle.near_points.proofs.Growing.{three_small}
 
@@ -19,7 +20,7 @@ small_fits m x few h = fits_signed_from_abs w64 x (omega (arith, few, h))
 pub as_bits : (w : Width) (x a : ℤ) → x ≡ a → FitsSigned w a → to_z w (of_z w x) ≡ a
 as_bits w x a e f = ap (λ z. to_z w (of_z w z)) e ∙ to_z-of_z w a f
 
--- a number that was reckoned in a machine word: it fits there, is what it should be, and is small
+-- a number that was computed in a machine word: it fits there, is what it should be, and is small
 pub record IsReckoned (w : Width) (m : ℕ) (x a : ℤ) : Type 0 where
   pub fits : FitsSigned w x
   pub value : to_z w (of_z w x) ≡ a
@@ -93,13 +94,13 @@ pub place_passed : (x a : ℤ) → unsigned_abs a ≤ place_limit → x ≡ to_z
 place_passed x a h e = e ∙ to_z-of_z w32 a (fits_signed_from_abs w32 a (omega (arith, h)))
 
 -- the difference of two products of components
-pub minor_fits : (x y : ℤ) → unsigned_abs x ≤ side_limit * side_limit → unsigned_abs y ≤ side_limit * side_limit → FitsSigned w64 (x -ℤ y)
+pub minor_fits : (x y : ℤ) → unsigned_abs x ≤ vector_limit * vector_limit → unsigned_abs y ≤ vector_limit * vector_limit → FitsSigned w64 (x -ℤ y)
 minor_fits x y h k = let s = abs_sub x y in fits_signed_from_abs w64 (x -ℤ y) (omega (arith, s, h, k))
 
-pub minor_passed : (x y : ℤ) → unsigned_abs x ≤ side_limit * side_limit → unsigned_abs y ≤ side_limit * side_limit → to_z w64 (of_z w64 x) -ℤ to_z w64 (of_z w64 y) ≡ x -ℤ y
+pub minor_passed : (x y : ℤ) → unsigned_abs x ≤ vector_limit * vector_limit → unsigned_abs y ≤ vector_limit * vector_limit → to_z w64 (of_z w64 x) -ℤ to_z w64 (of_z w64 y) ≡ x -ℤ y
 minor_passed x y h k =
-    let few : side_limit * side_limit < 2 ^ 63 = omega arith in
-    difference_passed w64 x y x y refl refl (small_fits (side_limit * side_limit) x few h) (small_fits (side_limit * side_limit) y few k)
+    let few : vector_limit * vector_limit < 2 ^ 63 = omega arith in
+    difference_passed w64 x y x y refl refl (small_fits (vector_limit * vector_limit) x few h) (small_fits (vector_limit * vector_limit) y few k)
 
 -- the product of two numbers of moments
 pub wide_fits : (a b : ℤ) → unsigned_abs a ≤ moment_limit → unsigned_abs b ≤ moment_limit → FitsSigned w128 (a *ℤ b)

@@ -3,8 +3,8 @@ use Rattle.std.proofs.Common.{◌≡◌, ℕ, ◌+◌, ◌-◌, ◌*◌, ◌<◌
 use Rattle.std.proofs.lemmas.Int.{to_z-of_z}
 use mir.Syntax.{w128}
 use Rattle.space.proofs.Naturals.{abs_add, abs_mul, abs_sub}
-use Rattle.near_points.specs.declared.stance.Stance.{Stance}
-use Rattle.near_points.specs.declared.step.Step.{Step}
+use Rattle.near_points.specs.declared.axis_offset.AxisOffset.{AxisOffset}
+use Rattle.near_points.specs.declared.ray_step.RayStep.{RayStep}
 use Rattle.near_points.specs.Limits.{moment_limit}
 use Rattle.near_points.specs.Lines.{FitsAfter, IsAfter, width_at, width_of}
 use Rattle.near_points.proofs.Bits.{IsReckoned, difference_passed, reckoned, sum_passed, wide_by}
@@ -42,7 +42,7 @@ bend_reckoned c hc =
 pub width_kept : (w : ℤ) → unsigned_abs w ≤ width_limit → as_word w ≡ w
 width_kept w h = to_z-of_z w128 w (wide_by width_limit w (omega arith) h)
 
-pub width_begins : (r s : Stance) (t : Step) (l w : ℤ) → IsAfter r s t l
+pub width_begins : (r s : AxisOffset) (t : RayStep) (l w : ℤ) → IsAfter r s t l
     → record { value : w ≡ width_of r; small : unsigned_abs w ≤ width_limit } → as_word w ≡ width_at s t l
 width_begins r s t l w is of = width_kept w of.small ∙ of.value ∙ width_after r s t l is
 
@@ -59,33 +59,33 @@ adds_up m n x y a b z few ha hb ex ey e =
     let fits = subst (FitsSigned w128) (sym is) (wide_by (10 * (moment_limit * moment_limit)) (a +ℤ b) (omega arith) small) in
     record { fits = fits; value = to_z-of_z w128 (x +ℤ y) fits ∙ is ∙ e }
 
-bend_is : (t : Step) → as_word (pos 2 *ℤ as_word t.curve) ≡ pos 2 *ℤ (t.second *ℤ t.second +ℤ t.third *ℤ t.third)
+bend_is : (t : RayStep) → as_word (pos 2 *ℤ as_word t.curve) ≡ pos 2 *ℤ (t.second *ℤ t.second +ℤ t.third *ℤ t.third)
 bend_is t = (bend_reckoned t.curve t.curve_small).value ∙ ap (λ z. pos 2 *ℤ z) t.curve_is
 
-bend_small : (t : Step) → unsigned_abs (pos 2 *ℤ (t.second *ℤ t.second +ℤ t.third *ℤ t.third)) ≤ slope_limit
+bend_small : (t : RayStep) → unsigned_abs (pos 2 *ℤ (t.second *ℤ t.second +ℤ t.third *ℤ t.third)) ≤ slope_limit
 bend_small t = subst (λ (z : ℤ). unsigned_abs z ≤ slope_limit) (bend_is t) (bend_reckoned t.curve t.curve_small).small
 
 -- from the point l to the next
-pub width_on : (s : Stance) (t : Step) (w g : ℤ) (l : ℕ) → FitsAfter s t (pos l) → w ≡ width_at s t (pos l) → g ≡ growth_at s t (pos l)
+pub width_on : (s : AxisOffset) (t : RayStep) (w g : ℤ) (l : ℕ) → FitsAfter s t (pos l) → w ≡ width_at s t (pos l) → g ≡ growth_at s t (pos l)
     → AddsUp w g (width_at s t (pos (l + 1)))
 width_on s t w g l fits ew eg =
     adds_up width_limit growth_limit w g _ _ _ (omega arith) (width_fits s t (pos l) fits) (growth_fits s t (pos l) fits) ew eg
     (width_next s t (pos l) ∙ ap (width_at s t) (next_index l))
 
-pub growth_on : (s : Stance) (t : Step) (g : ℤ) (l : ℕ) → FitsAfter s t (pos l) → g ≡ growth_at s t (pos l)
+pub growth_on : (s : AxisOffset) (t : RayStep) (g : ℤ) (l : ℕ) → FitsAfter s t (pos l) → g ≡ growth_at s t (pos l)
     → AddsUp g (as_word (pos 2 *ℤ as_word t.curve)) (growth_at s t (pos (l + 1)))
 growth_on s t g l fits eg =
     adds_up growth_limit slope_limit g _ _ _ _ (omega arith) (growth_fits s t (pos l) fits) (bend_small t) eg (bend_is t)
     (growth_next s t (pos l) ∙ ap (growth_at s t) (next_index l))
 
 -- and to the one before
-pub width_off : (s : Stance) (t : Step) (w g : ℤ) (l : ℕ) → FitsAfter s t (pos l) → w ≡ width_at s t (pos l) → g ≡ back_at s t (pos l)
+pub width_off : (s : AxisOffset) (t : RayStep) (w g : ℤ) (l : ℕ) → FitsAfter s t (pos l) → w ≡ width_at s t (pos l) → g ≡ back_at s t (pos l)
     → 0 < l → AddsUp w g (width_at s t (pos (l - 1)))
 width_off s t w g l fits ew eg some =
     adds_up width_limit growth_limit w g _ _ _ (omega arith) (width_fits s t (pos l) fits) (back_fits s t (pos l) fits) ew eg
     (width_back s t (pos l) ∙ ap (width_at s t) (index_before l some))
 
-pub rise_off : (s : Stance) (t : Step) (g : ℤ) (l : ℕ) → FitsAfter s t (pos l) → g ≡ back_at s t (pos l) → 0 < l
+pub rise_off : (s : AxisOffset) (t : RayStep) (g : ℤ) (l : ℕ) → FitsAfter s t (pos l) → g ≡ back_at s t (pos l) → 0 < l
     → AddsUp g (as_word (pos 2 *ℤ as_word t.curve)) (back_at s t (pos (l - 1)))
 rise_off s t g l fits eg some =
     adds_up growth_limit slope_limit g _ _ _ _ (omega arith) (back_fits s t (pos l) fits) (bend_small t) eg (bend_is t)

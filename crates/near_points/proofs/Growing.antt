@@ -6,13 +6,13 @@ use borrow.Author.Differences.{abs_is}
 use Rattle.space.proofs.Solver.{Term, var, num, add, mul, ring}
 use Rattle.space.proofs.Terms.{sub, square}
 use Rattle.space.proofs.Naturals.{abs_add, abs_mul, square_not_negative}
-use Rattle.near_points.specs.declared.stance.Stance.{Stance}
-use Rattle.near_points.specs.declared.step.Step.{Step}
+use Rattle.near_points.specs.declared.axis_offset.AxisOffset.{AxisOffset}
+use Rattle.near_points.specs.declared.ray_step.RayStep.{RayStep}
 use Rattle.near_points.specs.Limits.{moment_limit}
 use Rattle.near_points.specs.Lines.{FitsAfter, second_at, third_at, width_at}
 
 -- what the square of the moment grows by to the next point
-abbrev pub growth_at : Stance → Step → ℤ → ℤ
+abbrev pub growth_at : AxisOffset → RayStep → ℤ → ℤ
 growth_at s t l = (t.second *ℤ t.second +ℤ t.third *ℤ t.third) +ℤ pos 2 *ℤ (second_at s t l *ℤ t.second +ℤ third_at s t l *ℤ t.third)
 
 -- the terms of both
@@ -22,32 +22,32 @@ width_term a p q = add (add (square a) (square p)) (square q)
 abbrev growth_term : Term → Term → Term → Term → Term
 growth_term p q b d = add (add (square b) (square d)) (mul (num (pos 2)) (add (mul p b) (mul q d)))
 
-pub width_next : (s : Stance) (t : Step) (l : ℤ) → width_at s t l +ℤ growth_at s t l ≡ width_at s t (l +ℤ pos 1)
+pub width_next : (s : AxisOffset) (t : RayStep) (l : ℤ) → width_at s t l +ℤ growth_at s t l ≡ width_at s t (l +ℤ pos 1)
 width_next s t l =
     let A = var 0 in let P = var 1 in let Q = var 2 in let B = var 3 in let D = var 4 in let L = var 5 in
     let p = add P (mul L B) in let q = add Q (mul L D) in let n = add L (num (pos 1)) in
     ring (s.along ∷ s.second ∷ s.third ∷ t.second ∷ t.third ∷ l ∷ []) (add (width_term A p q) (growth_term p q B D)) (width_term A (add P (mul n B)) (add Q (mul n D))) refl
 
-pub growth_next : (s : Stance) (t : Step) (l : ℤ) → growth_at s t l +ℤ pos 2 *ℤ (t.second *ℤ t.second +ℤ t.third *ℤ t.third) ≡ growth_at s t (l +ℤ pos 1)
+pub growth_next : (s : AxisOffset) (t : RayStep) (l : ℤ) → growth_at s t l +ℤ pos 2 *ℤ (t.second *ℤ t.second +ℤ t.third *ℤ t.third) ≡ growth_at s t (l +ℤ pos 1)
 growth_next s t l =
     let P = var 0 in let Q = var 1 in let B = var 2 in let D = var 3 in let L = var 4 in let n = add L (num (pos 1)) in
     ring (s.second ∷ s.third ∷ t.second ∷ t.third ∷ l ∷ []) (add (growth_term (add P (mul L B)) (add Q (mul L D)) B D) (mul (num (pos 2)) (add (square B) (square D))))
     (growth_term (add P (mul n B)) (add Q (mul n D)) B D) refl
 
 -- what the square grows by to the point before
-abbrev pub back_at : Stance → Step → ℤ → ℤ
+abbrev pub back_at : AxisOffset → RayStep → ℤ → ℤ
 back_at s t l = (t.second *ℤ t.second +ℤ t.third *ℤ t.third) -ℤ pos 2 *ℤ (second_at s t l *ℤ t.second +ℤ third_at s t l *ℤ t.third)
 
 abbrev back_term : Term → Term → Term → Term → Term
 back_term p q b d = sub (add (square b) (square d)) (mul (num (pos 2)) (add (mul p b) (mul q d)))
 
-pub width_back : (s : Stance) (t : Step) (l : ℤ) → width_at s t l +ℤ back_at s t l ≡ width_at s t (l -ℤ pos 1)
+pub width_back : (s : AxisOffset) (t : RayStep) (l : ℤ) → width_at s t l +ℤ back_at s t l ≡ width_at s t (l -ℤ pos 1)
 width_back s t l =
     let A = var 0 in let P = var 1 in let Q = var 2 in let B = var 3 in let D = var 4 in let L = var 5 in
     let p = add P (mul L B) in let q = add Q (mul L D) in let n = sub L (num (pos 1)) in
     ring (s.along ∷ s.second ∷ s.third ∷ t.second ∷ t.third ∷ l ∷ []) (add (width_term A p q) (back_term p q B D)) (width_term A (add P (mul n B)) (add Q (mul n D))) refl
 
-pub back_next : (s : Stance) (t : Step) (l : ℤ) → back_at s t l +ℤ pos 2 *ℤ (t.second *ℤ t.second +ℤ t.third *ℤ t.third) ≡ back_at s t (l -ℤ pos 1)
+pub back_next : (s : AxisOffset) (t : RayStep) (l : ℤ) → back_at s t l +ℤ pos 2 *ℤ (t.second *ℤ t.second +ℤ t.third *ℤ t.third) ≡ back_at s t (l -ℤ pos 1)
 back_next s t l =
     let P = var 0 in let Q = var 1 in let B = var 2 in let D = var 3 in let L = var 4 in let n = sub L (num (pos 1)) in
     ring (s.second ∷ s.third ∷ t.second ∷ t.third ∷ l ∷ []) (add (back_term (add P (mul L B)) (add Q (mul L D)) B D) (mul (num (pos 2)) (add (square B) (square D))))
@@ -99,13 +99,13 @@ back_growth p q b d =
 width_by : (a p q r s : ℤ) (w : ℤ) → p ≡ r → q ≡ s → w ≤ℤ ((a *ℤ a +ℤ p *ℤ p) +ℤ q *ℤ q) → w ≤ℤ ((a *ℤ a +ℤ r *ℤ r) +ℤ s *ℤ s)
 width_by a p q r s w e f h = subst (λ (y : ℤ). w ≤ℤ ((a *ℤ a +ℤ r *ℤ r) +ℤ y *ℤ y)) f (subst (λ (y : ℤ). w ≤ℤ ((a *ℤ a +ℤ y *ℤ y) +ℤ q *ℤ q)) e h)
 
-pub grows_on : (s : Stance) (t : Step) (l n : ℕ) → pos 0 ≤ℤ growth_at s t (pos l) → width_at s t (pos l) ≤ℤ width_at s t (pos l +ℤ pos n)
+pub grows_on : (s : AxisOffset) (t : RayStep) (l n : ℕ) → pos 0 ≤ℤ growth_at s t (pos l) → width_at s t (pos l) ≤ℤ width_at s t (pos l +ℤ pos n)
 grows_on s t l n growing =
     let p = second_at s t (pos l) in let q = third_at s t (pos l) in
     width_by s.along (p +ℤ pos n *ℤ t.second) (q +ℤ pos n *ℤ t.third) (second_at s t (pos l +ℤ pos n)) (third_at s t (pos l +ℤ pos n)) (width_at s t (pos l))
     (on_by s.second t.second (pos l) (pos n)) (on_by s.third t.third (pos l) (pos n)) (grows s.along p q t.second t.third n growing)
 
-pub grows_back : (s : Stance) (t : Step) (x n : ℕ)
+pub grows_back : (s : AxisOffset) (t : RayStep) (x n : ℕ)
     → pos 0 ≤ℤ ((t.second *ℤ t.second +ℤ t.third *ℤ t.third) -ℤ pos 2 *ℤ (second_at s t (pos x +ℤ pos n) *ℤ t.second +ℤ third_at s t (pos x +ℤ pos n) *ℤ t.third))
     → width_at s t (pos x +ℤ pos n) ≤ℤ width_at s t (pos x)
 grows_back s t x n growing =
@@ -149,15 +149,15 @@ less_small c g h k = omega (arith, ints, abs_is c, abs_is g, abs_is (c -ℤ g), 
 pub three_by : (a b c x y z : ℤ) → a ≡ x → b ≡ y → c ≡ z → (a +ℤ b) +ℤ c ≡ (x +ℤ y) +ℤ z
 three_by a b c x y z e f g = ap₂ (λ u v. (u +ℤ v) +ℤ c) e f ∙ ap (λ u. (x +ℤ y) +ℤ u) g
 
-pub width_fits : (s : Stance) (t : Step) (l : ℤ) → FitsAfter s t l → unsigned_abs (width_at s t l) ≤ 3 * (moment_limit * moment_limit)
+pub width_fits : (s : AxisOffset) (t : RayStep) (l : ℤ) → FitsAfter s t l → unsigned_abs (width_at s t l) ≤ 3 * (moment_limit * moment_limit)
 width_fits s t l h = width_small s.along (second_at s t l) (third_at s t l) s.along_small h.second h.third
 
-pub growth_fits : (s : Stance) (t : Step) (l : ℤ) → FitsAfter s t l → unsigned_abs (growth_at s t l) ≤ 6 * (moment_limit * moment_limit)
+pub growth_fits : (s : AxisOffset) (t : RayStep) (l : ℤ) → FitsAfter s t l → unsigned_abs (growth_at s t l) ≤ 6 * (moment_limit * moment_limit)
 growth_fits s t l h =
     growth_small (t.second *ℤ t.second +ℤ t.third *ℤ t.third) (pos 2 *ℤ (second_at s t l *ℤ t.second +ℤ third_at s t l *ℤ t.third))
     (subst (λ (z : ℤ). unsigned_abs z ≤ 2 * (moment_limit * moment_limit)) t.curve_is t.curve_small) (slope_small (second_at s t l) (third_at s t l) t.second t.third h.second h.third t.second_small t.third_small)
 
-pub back_fits : (s : Stance) (t : Step) (l : ℤ) → FitsAfter s t l → unsigned_abs (back_at s t l) ≤ 6 * (moment_limit * moment_limit)
+pub back_fits : (s : AxisOffset) (t : RayStep) (l : ℤ) → FitsAfter s t l → unsigned_abs (back_at s t l) ≤ 6 * (moment_limit * moment_limit)
 back_fits s t l h =
     let slope = pos 2 *ℤ (second_at s t l *ℤ t.second +ℤ third_at s t l *ℤ t.third) in
     less_small (t.second *ℤ t.second +ℤ t.third *ℤ t.third) slope

@@ -3,8 +3,8 @@ use Rattle.std.proofs.Common.{◌≡◌, ℕ, ◌*◌, ◌^◌, ◌<◌, ◌≤�
 use Rattle.std.proofs.lemmas.Int.{ints, to_z-of_z, fits_signed_from_abs}
 use mir.Syntax.{w32, w64}
 use borrow.Author.Differences.{abs_is}
-use Rattle.near_points.specs.declared.stance.Stance.{Stance}
-use Rattle.near_points.specs.declared.step.Step.{Step}
+use Rattle.near_points.specs.declared.axis_offset.AxisOffset.{AxisOffset}
+use Rattle.near_points.specs.declared.ray_step.RayStep.{RayStep}
 use Rattle.near_points.specs.Limits.{moment_limit, tilt_limit}
 use Rattle.near_points.specs.Lines.{FitsAfter, FitsMoved}
 use Rattle.near_points.proofs.Bits.{IsReckoned, as_bits, product_passed, reckoned, small_fits, small_passed, sum_passed}
@@ -38,16 +38,16 @@ pub tilt_moves : (a b n : ℤ) → unsigned_abs a ≤ tilt_limit → unsigned_ab
     → MovesWithin tilt_limit a b n
 tilt_moves a b n = moves_within tilt_limit a b n (omega arith)
 
--- the numbers of a stance, moved by n times those of another
-pub record StanceMoves (s t : Stance) (n : ℤ) : Type 0 where
+-- the numbers of an axis offset, moved by n times those of another
+pub record AxisOffsetMoves (s t : AxisOffset) (n : ℤ) : Type 0 where
   pub along : MovesWithin moment_limit s.along t.along n
   pub second : MovesWithin moment_limit s.second t.second n
   pub third : MovesWithin moment_limit s.third t.third n
   pub side : MovesWithin tilt_limit s.side t.side n
   pub height : MovesWithin moment_limit s.height t.height n
 
-pub stance_moves : (s t : Stance) (n : ℤ) → FitsMoved s t n → StanceMoves s t n
-stance_moves s t n fits = record {
+pub axis_offset_moves : (s t : AxisOffset) (n : ℤ) → FitsMoved s t n → AxisOffsetMoves s t n
+axis_offset_moves s t n fits = record {
   along = moment_moves s.along t.along n s.along_small t.along_small fits.along;
   second = moment_moves s.second t.second n s.second_small t.second_small fits.second;
   third = moment_moves s.third t.third n s.third_small t.third_small fits.third;
@@ -56,13 +56,13 @@ stance_moves s t n fits = record {
 }
 
 -- and by what l steps add
-pub record StepMoves (s : Stance) (t : Step) (l : ℤ) : Type 0 where
+pub record StepMoves (s : AxisOffset) (t : RayStep) (l : ℤ) : Type 0 where
   pub second : MovesWithin moment_limit s.second t.second l
   pub third : MovesWithin moment_limit s.third t.third l
   pub side : MovesWithin tilt_limit s.side t.side l
   pub height : MovesWithin moment_limit s.height t.height l
 
-pub step_moves : (s : Stance) (t : Step) (l : ℤ) → FitsAfter s t l → StepMoves s t l
+pub step_moves : (s : AxisOffset) (t : RayStep) (l : ℤ) → FitsAfter s t l → StepMoves s t l
 step_moves s t l fits = record {
   second = moment_moves s.second t.second l s.second_small t.second_small fits.second;
   third = moment_moves s.third t.third l s.third_small t.third_small fits.third;
@@ -70,7 +70,7 @@ step_moves s t l fits = record {
   height = moment_moves s.height t.height l s.height_small t.height_small fits.height;
 }
 
--- the sum as code reckons it, where f is n as a word: first the product, and then the whole
+-- the sum as code computes it, where f is n as a word: first the product, and then the whole
 added_fits : (m : ℕ) (a y : ℤ) → 2 * m < 2 ^ 63 → unsigned_abs a ≤ m → unsigned_abs (a +ℤ y) ≤ m → FitsSigned w64 y
 added_fits m a y few ha h = fits_signed_from_abs w64 y (omega (arith, ints, few, ha, h, abs_is a, abs_is y, abs_is (a +ℤ y)))
 

@@ -1,4 +1,4 @@
--- Sums of products of the numbers of moments, reckoned in machine words: what is added fits there, and what comes out is right.
+-- Sums of products of the numbers of moments, computed in machine words: what is added fits there, and what comes out is right.
 use Rattle.std.proofs.Common.{◌≡◌, ℕ, ◌*◌, ◌≤◌, ℤ, pos, ◌+ℤ◌, ◌*ℤ◌, to_z, of_z, unsigned_abs, arith, ap, ap₂}
 use mir.Syntax.{w64, w128}
 use Rattle.space.proofs.Naturals.{abs_add, abs_mul}
@@ -15,7 +15,7 @@ IsProduct x a b = x ≡ to_z w64 (of_z w64 a) *ℤ to_z w64 (of_z w64 b)
 abbrev pub as_word : ℤ → ℤ
 as_word x = to_z w128 (of_z w128 x)
 
--- the factors that a product is asked for
+-- the factors that a product is called with
 pub factors_passed : (a b : ℤ) → IsMoment a → IsMoment b
     → record { a : IsMoment (to_z w64 (of_z w64 a)); b : IsMoment (to_z w64 (of_z w64 b)) }
 factors_passed a b ha hb = record { a = moment_passed a ha; b = moment_passed b hb }

@@ -1,11 +1,11 @@
--- The points of a range, and those of them that a level leaves out.
+-- The points of a range, and those of them that a band leaves out.
 use Rattle.std.proofs.Common.{◌≡◌, ◌⊎◌, Bool, true, false, not, ◌&&◌, ℕ, ◌+◌, ◌-◌, ◌<◌, ◌≤◌, ℤ, pos, ◌-ℤ◌, ◌*ℤ◌, ◌≤ℤ◌, ◌<ℤ◌, int_le, int_lt, leb, ltb, arith, refl, sym, ap, ap₂, ⊎_elim, ◌∙◌, FitsSigned, to_z, of_z}
 use Rattle.std.proofs.lemmas.Int.{ints, to_z-of_z}
 use Rattle.std.proofs.lemmas.Bool.{and_parts, cases_lt, le-leb, le-ltb, lt-leb, lt-ltb}
 use mir.Syntax.{w64}
 use borrow.Author.Tests.{leb-true, ltb-true}
 use Rattle.vf_spans.specs.Members.{in_range}
-use Rattle.sweep_boxes.specs.declared.level.Level.{Level}
+use Rattle.sweep_boxes.specs.declared.band.Band.{Band}
 use Rattle.space.proofs.Tests.{decides_le}
 use Rattle.near_points.specs.Trimmed.{is_within}
 use Rattle.near_points.proofs.Bits.{opposite_reckoned}
@@ -31,16 +31,16 @@ in_range_on first b l m from to = ap₂ (λ u v. u && v) (low (cases_lt b (l - f
 not_false : (x : Bool) → x ≡ false → true ≡ not x
 not_false x h = ap not (sym h)
 
--- the test of a level at a point that is too far to a side for it, or else by the square of the moment
-pub beyond_left : (level : Level) (side width : ℤ) → side <ℤ (pos 0 -ℤ level.across) → true ≡ not (is_within level side width)
-beyond_left level side width h =
-    let w = int_le width (level.moment *ℤ level.moment) in let left = int_le (pos 0 -ℤ level.across) side in let right = int_le side level.across in
-    not_false (is_within level side width) (second_false w (left && right) (first_false left right (above_false (pos 0 -ℤ level.across) side h)))
+-- the test of a band at a point that is too far to a side for it, or else by the square of the moment
+pub beyond_left : (band : Band) (side width : ℤ) → side <ℤ (pos 0 -ℤ band.across) → true ≡ not (is_within band side width)
+beyond_left band side width h =
+    let w = int_le width (band.moment *ℤ band.moment) in let left = int_le (pos 0 -ℤ band.across) side in let right = int_le side band.across in
+    not_false (is_within band side width) (second_false w (left && right) (first_false left right (above_false (pos 0 -ℤ band.across) side h)))
 
-pub beyond_right : (level : Level) (side width : ℤ) → level.across <ℤ side → true ≡ not (is_within level side width)
-beyond_right level side width h =
-    let w = int_le width (level.moment *ℤ level.moment) in let left = int_le (pos 0 -ℤ level.across) side in let right = int_le side level.across in
-    not_false (is_within level side width) (second_false w (left && right) (second_false left right (above_false side level.across h)))
+pub beyond_right : (band : Band) (side width : ℤ) → band.across <ℤ side → true ≡ not (is_within band side width)
+beyond_right band side width h =
+    let w = int_le width (band.moment *ℤ band.moment) in let left = int_le (pos 0 -ℤ band.across) side in let right = int_le side band.across in
+    not_false (is_within band side width) (second_false w (left && right) (second_false left right (above_false side band.across h)))
 
 yes_right : (x y : Bool) → y ≡ true → x ≡ (x && y)
 yes_right true y h = sym h
@@ -52,20 +52,20 @@ yes_both x y h k = ap (λ z. z && y) h ∙ k
 turned_round : (x y : ℤ) → int_lt x y ≡ not (int_le y x)
 turned_round x y = grind (arith, ints)
 
-pub beyond_about : (level : Level) (side width : ℤ) → (pos 0 -ℤ level.across) ≤ℤ side → side ≤ℤ level.across
-    → int_lt (level.moment *ℤ level.moment) width ≡ not (is_within level side width)
-beyond_about level side width from to =
-    let w = int_le width (level.moment *ℤ level.moment) in let left = int_le (pos 0 -ℤ level.across) side in let right = int_le side level.across in
-    turned_round (level.moment *ℤ level.moment) width
-    ∙ ap not (yes_right w (left && right) (yes_both left right ((decides_le (pos 0 -ℤ level.across) side).1 from) ((decides_le side level.across).1 to)))
+pub beyond_about : (band : Band) (side width : ℤ) → (pos 0 -ℤ band.across) ≤ℤ side → side ≤ℤ band.across
+    → int_lt (band.moment *ℤ band.moment) width ≡ not (is_within band side width)
+beyond_about band side width from to =
+    let w = int_le width (band.moment *ℤ band.moment) in let left = int_le (pos 0 -ℤ band.across) side in let right = int_le side band.across in
+    turned_round (band.moment *ℤ band.moment) width
+    ∙ ap not (yes_right w (left && right) (yes_both left right ((decides_le (pos 0 -ℤ band.across) side).1 from) ((decides_le side band.across).1 to)))
 
-pub within_by_parts : (level : Level) (side width : ℤ) → width ≤ℤ (level.moment *ℤ level.moment) → (pos 0 -ℤ level.across) ≤ℤ side
-    → side ≤ℤ level.across → is_within level side width ≡ true
-within_by_parts level side width about from to =
-    yes_both (int_le width (level.moment *ℤ level.moment)) (int_le (pos 0 -ℤ level.across) side && int_le side level.across)
-    ((decides_le width (level.moment *ℤ level.moment)).1 about)
-    (yes_both (int_le (pos 0 -ℤ level.across) side) (int_le side level.across)
-    ((decides_le (pos 0 -ℤ level.across) side).1 from) ((decides_le side level.across).1 to))
+pub within_by_parts : (band : Band) (side width : ℤ) → width ≤ℤ (band.moment *ℤ band.moment) → (pos 0 -ℤ band.across) ≤ℤ side
+    → side ≤ℤ band.across → is_within band side width ≡ true
+within_by_parts band side width about from to =
+    yes_both (int_le width (band.moment *ℤ band.moment)) (int_le (pos 0 -ℤ band.across) side && int_le side band.across)
+    ((decides_le width (band.moment *ℤ band.moment)).1 about)
+    (yes_both (int_le (pos 0 -ℤ band.across) side) (int_le side band.across)
+    ((decides_le (pos 0 -ℤ band.across) side).1 from) ((decides_le side band.across).1 to))
 
 -- tests by what they say
 pub not_less : (x y : ℤ) → int_lt x y ≡ false → y ≤ℤ x
@@ -81,13 +81,13 @@ in_range_ends x l m h = let parts = and_parts (leb l x) (ltb x m) h in (leb-true
 pub in_range_by : (x l m : ℕ) → l ≤ x → x < m → in_range x (l, m) ≡ true
 in_range_by x l m from to = ap₂ (λ u v. u && v) (le-leb l x from) (lt-ltb x m to)
 
--- what the code finds of a side, in machine words, is so of it
-pub left_told : (level : Level) (side : ℤ) → FitsSigned w64 side → FitsSigned w64 level.across
-    → int_lt (to_z w64 (of_z w64 side)) (to_z w64 (of_z w64 (pos 0 -ℤ to_z w64 (of_z w64 level.across))))
-    ≡ int_lt side (pos 0 -ℤ level.across)
-left_told level side fits across =
-    ap₂ int_lt (to_z-of_z w64 side fits) (opposite_reckoned level.across across level.across_some).value
+-- what the code finds of a side, in machine words, is true of it
+pub left_told : (band : Band) (side : ℤ) → FitsSigned w64 side → FitsSigned w64 band.across
+    → int_lt (to_z w64 (of_z w64 side)) (to_z w64 (of_z w64 (pos 0 -ℤ to_z w64 (of_z w64 band.across))))
+    ≡ int_lt side (pos 0 -ℤ band.across)
+left_told band side fits across =
+    ap₂ int_lt (to_z-of_z w64 side fits) (opposite_reckoned band.across across band.across_some).value
 
-pub right_told : (level : Level) (side : ℤ) → FitsSigned w64 side → FitsSigned w64 level.across
-    → int_lt (to_z w64 (of_z w64 level.across)) (to_z w64 (of_z w64 side)) ≡ int_lt level.across side
-right_told level side fits across = ap₂ int_lt (to_z-of_z w64 level.across across) (to_z-of_z w64 side fits)
+pub right_told : (band : Band) (side : ℤ) → FitsSigned w64 side → FitsSigned w64 band.across
+    → int_lt (to_z w64 (of_z w64 band.across)) (to_z w64 (of_z w64 side)) ≡ int_lt band.across side
+right_told band side fits across = ap₂ int_lt (to_z-of_z w64 band.across across) (to_z-of_z w64 side fits)

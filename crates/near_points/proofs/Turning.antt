@@ -1,9 +1,9 @@
--- The points of the rays of a strip against a cylinder: from ray to ray and from point to point their stances grow evenly.
+-- The points of the rays of a strip against a cylinder: from ray to ray and from point to point their axis offsets grow evenly.
 use Rattle.std.proofs.Common.{◌≡◌, ℕ, ◌*◌, ◌^◌, ◌≤◌, ◌<◌, List, [], ◌∷◌, ℤ, pos, ◌+ℤ◌, ◌*ℤ◌, ◌-ℤ◌, ◌≤ℤ◌, unsigned_abs, arith, refl, sym, ap, ap₂, subst, ◌∙◌}
 use Rattle.std.proofs.lemmas.Int.{ints}
 use borrow.Author.Differences.{abs_is as size_is}
-use Rattle.space.specs.Ranges.{IsPoint, IsWithin, metre}
-use Rattle.space.specs.Vectors.{at, dot}
+use Rattle.space.specs.Ranges.{IsPoint, IsWithin, metre, vector_limit}
+use Rattle.space.specs.Vectors.{at, cross, dot}
 use Rattle.space.proofs.Solver.{Term, var, num, add, mul, ring}
 use Rattle.space.proofs.Terms.{dots, from, square, sub}
 use Rattle.space.proofs.Naturals.{abs_mul, abs_sub}
@@ -16,17 +16,16 @@ use Rattle.ray_grid.specs.Lattice.{node_at, nodes_of, per_node, place_at, point_
 use Rattle.ray_grid.specs.Ranges.{IsGrid}
 use Rattle.ray_grid.proofs.Sizes.{abs_is, axis_of, few_places, has_first, node_within, place_within, times_is}
 use Rattle.sweep_boxes.specs.declared.cylinder.BoundingCylinder.{BoundingCylinder}
-use Rattle.sweep_boxes.specs.Limits.{aim_limit, place_limit, side_limit}
-use Rattle.sweep_boxes.specs.Vectors.{cross}
-use Rattle.near_points.specs.declared.hold.Hold.{Hold}
-use Rattle.near_points.specs.declared.stance.Stance.{Stance}
-use Rattle.near_points.specs.declared.step.Step.{Step}
+use Rattle.sweep_boxes.specs.Limits.{place_limit, side_component_limit}
+use Rattle.near_points.specs.declared.axis_offset.AxisOffset.{AxisOffset}
+use Rattle.near_points.specs.declared.cylinder_test.CylinderTest.{CylinderTest}
+use Rattle.near_points.specs.declared.ray_step.RayStep.{RayStep}
+use Rattle.near_points.specs.AxisOffsets.{IsAxisOffset, IsRayStep, IsRayStepOf}
+use Rattle.near_points.specs.AxisOrder.{ray_axis_first, way_across, way_along}
 use Rattle.near_points.specs.Limits.{moment_limit, tilt_limit}
 use Rattle.near_points.specs.Lines.{FitsMoved, IsMoved, height_at, second_at, side_at, third_at}
-use Rattle.near_points.specs.Rays.{NearStripOf, near_ray_at}
+use Rattle.near_points.specs.Rays.{CylinderStripOf, cylinder_ray_at}
 use Rattle.near_points.specs.Ready.{IsReadyRay, IsReadyStrip, offset_of}
-use Rattle.near_points.specs.Stances.{IsStance, IsStep, IsStepLike}
-use Rattle.near_points.specs.Turned.{turned, way_across, way_along}
 
 -- the points of a grid
 node_coordinate : (g : GridSize) (axis n : ℕ) → IsGrid g → axis < 3 → n < nodes_of g axis → unsigned_abs (node_at g axis n) ≤ metre
@@ -90,7 +89,7 @@ node_stays : (z j l : ℤ) → z ≡ (z +ℤ j *ℤ pos 0) +ℤ l *ℤ pos 0
 node_stays z j l = let Z = var 0 in let J = var 1 in let L = var 2 in let none = num (pos 0) in ring (z ∷ j ∷ l ∷ []) Z (add (add Z (mul J none)) (mul L none)) refl
 
 abbrev offset_in : BoundingCylinder → GridSize → Family → ℕ → ℕ → ℕ → List ℤ
-offset_in c g f i j l = turned f (offset_of c (point_at g f i j l))
+offset_in c g f i j l = ray_axis_first f (offset_of c (point_at g f i j l))
 
 offset_moves : (c : BoundingCylinder) (g : GridSize) (f : Family) (i j l : ℕ)
     → IsMovedOffset (offset_in c g f i j l) (offset_in c g f i 0 0) (way_across f (pos c.scale *ℤ g.pitch)) (way_along (pos c.scale *ℤ g.step)) (pos j) (pos l)
@@ -158,8 +157,8 @@ combined s t u x y z j l r e f g h = ap₂ (λ a b. (a +ℤ j *ℤ b) +ℤ l *�
 no_along : (w a : List ℤ) (z : ℤ) → z ≡ pos 0 *ℤ at a 2 -ℤ pos 0 *ℤ at a 1 → z ≡ pos 0
 no_along w a z e = e ∙ ring (at a 1 ∷ at a 2 ∷ []) (sub (mul (num (pos 0)) (var 1)) (mul (num (pos 0)) (var 0))) (num (pos 0)) refl
 
--- so the stance on the ray
-pub record HasStance (first : Stance) (step : Step) (l : ℤ) (p a d : List ℤ) : Type 0 where
+-- so the axis offset on the ray
+pub record HasAxisOffset (first : AxisOffset) (step : RayStep) (l : ℤ) (p a d : List ℤ) : Type 0 where
   pub along : first.along ≡ at (cross p a) 0
   pub second : second_at first step l ≡ at (cross p a) 1
   pub third : third_at first step l ≡ at (cross p a) 2
@@ -169,9 +168,9 @@ pub record HasStance (first : Stance) (step : Step) (l : ℤ) (p a d : List ℤ)
 stays : (x l y : ℤ) → y ≡ pos 0 → (x +ℤ l *ℤ y) ≡ x
 stays x l y e = ap (λ z. x +ℤ l *ℤ z) e ∙ ring (x ∷ l ∷ []) (add (var 0) (mul (var 1) (num (pos 0)))) (var 0) refl
 
-has_stance : (start across first : Stance) (step : Step) (p v e a d : List ℤ) (w j l : ℤ) → IsStance start v a d → IsStance across e a d → IsStep step (way_along w) a d → IsMoved first start across j
-    → IsMovedOffset p v e (way_along w) j l → HasStance first step l p a d
-has_stance start across first step p v e a d w j l s t u moved o =
+has_axis_offset : (start across first : AxisOffset) (step : RayStep) (p v e a d : List ℤ) (w j l : ℤ) → IsAxisOffset start v a d → IsAxisOffset across e a d → IsRayStep step (way_along w) a d → IsMoved first start across j
+    → IsMovedOffset p v e (way_along w) j l → HasAxisOffset first step l p a d
+has_axis_offset start across first step p v e a d w j l s t u moved o =
     let none = no_along (way_along w) a (at (cross (way_along w) a) 0) refl in record {
       along = moved.along ∙ sym (stays (start.along +ℤ j *ℤ across.along) l (at (cross (way_along w) a) 0) none)
           ∙ combined start.along across.along (at (cross (way_along w) a) 0) _ _ _ j l _ s.along t.along refl (minor_moves (at p 1) (at p 2) (at v 1) (at v 2) (at e 1) (at e 2) (pos 0) (pos 0) (at a 1) (at a 2) j l o.second o.third);
@@ -190,25 +189,25 @@ by_none : (x y r : ℤ) → x +ℤ pos 0 *ℤ y ≡ r → x ≡ r
 by_none x y r e = ring (x ∷ y ∷ []) (var 0) (add (var 0) (mul (num (pos 0)) (var 1))) refl ∙ e
 
 -- how large they are
-pub turned_within : (f : Family) (m : ℕ) (v : List ℤ) → IsWithin m v → IsWithin m (turned f v)
-turned_within X m v h = (h.0, h.1, h.2)
-turned_within Y m v h = (h.1, h.2, h.0)
-turned_within Z m v h = (h.2, h.0, h.1)
+pub ray_axis_first_within : (f : Family) (m : ℕ) (v : List ℤ) → IsWithin m v → IsWithin m (ray_axis_first f v)
+ray_axis_first_within X m v h = (h.0, h.1, h.2)
+ray_axis_first_within Y m v h = (h.1, h.2, h.0)
+ray_axis_first_within Z m v h = (h.2, h.0, h.1)
 
-offset_small : (s : ℕ) (x t : ℤ) → s ≤ 128 → unsigned_abs x ≤ metre → unsigned_abs t ≤ 128 * place_limit → unsigned_abs (pos s *ℤ x -ℤ t) ≤ side_limit
+offset_small : (s : ℕ) (x t : ℤ) → s ≤ 128 → unsigned_abs x ≤ metre → unsigned_abs t ≤ 128 * place_limit → unsigned_abs (pos s *ℤ x -ℤ t) ≤ vector_limit
 offset_small s x t few hx ht =
     let a = abs_mul (pos s) x 128 metre (omega arith) hx in let b = abs_sub (pos s *ℤ x) t in omega (arith, a, b, ht)
 
-offset_within : (c : BoundingCylinder) (p : List ℤ) → IsPoint p → IsWithin side_limit (offset_of c p)
+offset_within : (c : BoundingCylinder) (p : List ℤ) → IsPoint p → IsWithin vector_limit (offset_of c p)
 offset_within c p h = (
   offset_small c.scale (at p 0) (at c.tip 0) c.scaled.1 h.0 c.tip_within.0,
   offset_small c.scale (at p 1) (at c.tip 1) c.scaled.1 h.1 c.tip_within.1,
   offset_small c.scale (at p 2) (at c.tip 2) c.scaled.1 h.2 c.tip_within.2,
 )
 
-minor_small : (p q a b : ℤ) → unsigned_abs p ≤ side_limit → unsigned_abs q ≤ side_limit → unsigned_abs a ≤ side_limit → unsigned_abs b ≤ side_limit → unsigned_abs (p *ℤ b -ℤ q *ℤ a) ≤ 2 * (side_limit * side_limit)
+minor_small : (p q a b : ℤ) → unsigned_abs p ≤ vector_limit → unsigned_abs q ≤ vector_limit → unsigned_abs a ≤ vector_limit → unsigned_abs b ≤ vector_limit → unsigned_abs (p *ℤ b -ℤ q *ℤ a) ≤ 2 * (vector_limit * vector_limit)
 minor_small p q a b hp hq ha hb =
-    let x = abs_mul p b side_limit side_limit hp hb in let y = abs_mul q a side_limit side_limit hq ha in let s = abs_sub (p *ℤ b) (q *ℤ a) in omega (arith, x, y, s)
+    let x = abs_mul p b vector_limit vector_limit hp hb in let y = abs_mul q a vector_limit vector_limit hq ha in let s = abs_sub (p *ℤ b) (q *ℤ a) in omega (arith, x, y, s)
 
 record AreSmall (p a d : List ℤ) : Type 0 where
   along : unsigned_abs (at (cross p a) 0) ≤ moment_limit
@@ -217,46 +216,46 @@ record AreSmall (p a d : List ℤ) : Type 0 where
   side : unsigned_abs (dot d (cross p a)) ≤ tilt_limit
   height : unsigned_abs (dot p a) ≤ moment_limit
 
-moment_small : (p a : List ℤ) → IsWithin side_limit p → IsWithin side_limit a → IsWithin (2 * (side_limit * side_limit)) (cross p a)
+moment_small : (p a : List ℤ) → IsWithin vector_limit p → IsWithin vector_limit a → IsWithin (2 * (vector_limit * vector_limit)) (cross p a)
 moment_small p a hp ha = (
   minor_small (at p 1) (at p 2) (at a 1) (at a 2) hp.1 hp.2 ha.1 ha.2,
   minor_small (at p 2) (at p 0) (at a 2) (at a 0) hp.2 hp.0 ha.2 ha.0,
   minor_small (at p 0) (at p 1) (at a 0) (at a 1) hp.0 hp.1 ha.0 ha.1,
 )
 
-less_small : (z : ℤ) → unsigned_abs z ≤ 2 * (side_limit * side_limit) → unsigned_abs z ≤ moment_limit
+less_small : (z : ℤ) → unsigned_abs z ≤ 2 * (vector_limit * vector_limit) → unsigned_abs z ≤ moment_limit
 less_small z h = omega (arith, h)
 
-are_small : (p a d : List ℤ) → IsWithin side_limit p → IsWithin side_limit a → IsWithin aim_limit d → AreSmall p a d
+are_small : (p a d : List ℤ) → IsWithin vector_limit p → IsWithin vector_limit a → IsWithin side_component_limit d → AreSmall p a d
 are_small p a d hp ha hd = let m = moment_small p a hp ha in record {
   along = less_small (at (cross p a) 0) m.0;
   second = less_small (at (cross p a) 1) m.1;
   third = less_small (at (cross p a) 2) m.2;
-  side = dot_small d (cross p a) aim_limit (2 * (side_limit * side_limit)) hd m;
-  height = dot_small p a side_limit side_limit hp ha;
+  side = dot_small d (cross p a) side_component_limit (2 * (vector_limit * vector_limit)) hd m;
+  height = dot_small p a vector_limit vector_limit hp ha;
 }
 
 small_by : (x y : ℤ) → x ≡ y → unsigned_abs y ≤ moment_limit → unsigned_abs x ≤ moment_limit
 small_by x y e h = subst (λ (z : ℤ). unsigned_abs z ≤ moment_limit) (sym e) h
 
-strip_small : (start across : Stance) (step : Step) (hold : Hold) (s : NearStripOf) (j l : ℕ) → IsReadyStrip start across step hold s → j < nodes_of s.grid (second_axis s.family) → l < points_of s.grid s.family
-    → AreSmall (offset_in s.cylinder s.grid s.family s.i j l) (turned s.family s.cylinder.axis) (turned s.family s.cylinder.side)
-strip_small start across step hold s j l ready there within =
+strip_small : (start across : AxisOffset) (step : RayStep) (test : CylinderTest) (s : CylinderStripOf) (j l : ℕ) → IsReadyStrip start across step test s → j < nodes_of s.grid (second_axis s.family) → l < points_of s.grid s.family
+    → AreSmall (offset_in s.cylinder s.grid s.family s.i j l) (ray_axis_first s.family s.cylinder.axis) (ray_axis_first s.family s.cylinder.side)
+strip_small start across step test s j l ready there within =
     let p = point_at s.grid s.family s.i j l in
-    are_small (turned s.family (offset_of s.cylinder p)) (turned s.family s.cylinder.axis) (turned s.family s.cylinder.side)
-    (turned_within s.family side_limit (offset_of s.cylinder p) (offset_within s.cylinder p (point_near s.grid s.family s.i j l ready.sized ready.first there within)))
-    (turned_within s.family side_limit s.cylinder.axis s.cylinder.axis_within)
-    (turned_within s.family aim_limit s.cylinder.side s.cylinder.side_within)
+    are_small (ray_axis_first s.family (offset_of s.cylinder p)) (ray_axis_first s.family s.cylinder.axis) (ray_axis_first s.family s.cylinder.side)
+    (ray_axis_first_within s.family vector_limit (offset_of s.cylinder p) (offset_within s.cylinder p (point_near s.grid s.family s.i j l ready.sized ready.first there within)))
+    (ray_axis_first_within s.family vector_limit s.cylinder.axis s.cylinder.axis_within)
+    (ray_axis_first_within s.family side_component_limit s.cylinder.side s.cylinder.side_within)
 
 tilted_by : (x y : ℤ) → x ≡ y → unsigned_abs y ≤ tilt_limit → unsigned_abs x ≤ tilt_limit
 tilted_by x y e h = subst (λ (z : ℤ). unsigned_abs z ≤ tilt_limit) (sym e) h
 
-first_fits : (start across : Stance) (step : Step) (hold : Hold) (s : NearStripOf) (j : ℕ) → IsReadyStrip start across step hold s → j < nodes_of s.grid (second_axis s.family) → FitsMoved start across (pos j)
-first_fits start across step hold s j ready there =
-    let c = s.cylinder in let f = s.family in let a = turned f c.axis in let d = turned f c.side in let w = pos c.scale *ℤ s.grid.step in
+first_fits : (start across : AxisOffset) (step : RayStep) (test : CylinderTest) (s : CylinderStripOf) (j : ℕ) → IsReadyStrip start across step test s → j < nodes_of s.grid (second_axis s.family) → FitsMoved start across (pos j)
+first_fits start across step test s j ready there =
+    let c = s.cylinder in let f = s.family in let a = ray_axis_first f c.axis in let d = ray_axis_first f c.side in let w = pos c.scale *ℤ s.grid.step in
     let p = offset_in c s.grid f s.i j 0 in let v = offset_in c s.grid f s.i 0 0 in let e = way_across f (pos c.scale *ℤ s.grid.pitch) in
     let o = offset_moves c s.grid f s.i j 0 in
-    let small = strip_small start across step hold s j 0 ready there (has_first s.grid f ready.sized) in
+    let small = strip_small start across step test s j 0 ready there (has_first s.grid f ready.sized) in
     let b = ready.start_is in let t = ready.across_is in record {
       along = small_by (start.along +ℤ pos j *ℤ across.along) (at (cross p a) 0)
           (by_none (start.along +ℤ pos j *ℤ across.along) (at (cross (way_along w) a) 0) (at (cross p a) 0)
@@ -282,12 +281,12 @@ squares_by a b c x y z e f g = ap₂ (λ u v. (u *ℤ u +ℤ v *ℤ v) +ℤ c *�
 abbrev squares : Term → Term → Term → Term
 squares x y z = add (add (square x) (square y)) (square z)
 
-width_turned : (f : Family) (v a : List ℤ) → dot (cross (turned f v) (turned f a)) (cross (turned f v) (turned f a)) ≡ dot (cross v a) (cross v a)
+width_turned : (f : Family) (v a : List ℤ) → dot (cross (ray_axis_first f v) (ray_axis_first f a)) (cross (ray_axis_first f v) (ray_axis_first f a)) ≡ dot (cross v a) (cross v a)
 width_turned X v a = refl
 width_turned Y v a = ring (at (cross v a) 0 ∷ at (cross v a) 1 ∷ at (cross v a) 2 ∷ []) (squares (var 1) (var 2) (var 0)) (squares (var 0) (var 1) (var 2)) refl
 width_turned Z v a = ring (at (cross v a) 0 ∷ at (cross v a) 1 ∷ at (cross v a) 2 ∷ []) (squares (var 2) (var 0) (var 1)) (squares (var 0) (var 1) (var 2)) refl
 
-side_turned : (f : Family) (d v a : List ℤ) → dot (turned f d) (cross (turned f v) (turned f a)) ≡ dot d (cross v a)
+side_turned : (f : Family) (d v a : List ℤ) → dot (ray_axis_first f d) (cross (ray_axis_first f v) (ray_axis_first f a)) ≡ dot d (cross v a)
 side_turned X d v a = refl
 side_turned Y d v a =
     let D = from 0 in let C = from 3 in
@@ -296,7 +295,7 @@ side_turned Z d v a =
     let D = from 0 in let C = from 3 in
     ring (at d 0 ∷ at d 1 ∷ at d 2 ∷ at (cross v a) 0 ∷ at (cross v a) 1 ∷ at (cross v a) 2 ∷ []) (add (add (mul (D 2) (C 2)) (mul (D 0) (C 0))) (mul (D 1) (C 1))) (dots D C) refl
 
-height_turned : (f : Family) (v a : List ℤ) → dot (turned f v) (turned f a) ≡ dot v a
+height_turned : (f : Family) (v a : List ℤ) → dot (ray_axis_first f v) (ray_axis_first f a) ≡ dot v a
 height_turned X v a = refl
 height_turned Y v a =
     let V = from 0 in let A = from 3 in
@@ -308,16 +307,16 @@ height_turned Z v a =
 few_points : (g : GridSize) (f : Family) → IsGrid g → points_of g f < 2 ^ 32
 few_points g f h = let few = few_places g (ray_axis f) h (axis_below f) in omega (arith, few)
 
-pub ready_ray : (start across first : Stance) (step : Step) (hold : Hold) (s : NearStripOf) (j : ℕ) → IsReadyStrip start across step hold s → j < nodes_of s.grid (second_axis s.family) → IsMoved first start across (pos j)
-    → IsReadyRay first step hold (near_ray_at s j)
-ready_ray start across first step hold s j ready there moved =
-    let c = s.cylinder in let f = s.family in let a = turned f c.axis in let d = turned f c.side in let w = pos c.scale *ℤ s.grid.step in let e = way_across f (pos c.scale *ℤ s.grid.pitch) in
-    let has = λ (l : ℕ). has_stance start across first step (offset_in c s.grid f s.i j l) (offset_in c s.grid f s.i 0 0) e a d w (pos j) (pos l) ready.start_is ready.across_is ready.step_is moved (offset_moves c s.grid f s.i j l) in
+pub ready_ray : (start across first : AxisOffset) (step : RayStep) (test : CylinderTest) (s : CylinderStripOf) (j : ℕ) → IsReadyStrip start across step test s → j < nodes_of s.grid (second_axis s.family) → IsMoved first start across (pos j)
+    → IsReadyRay first step test (cylinder_ray_at s j)
+ready_ray start across first step test s j ready there moved =
+    let c = s.cylinder in let f = s.family in let a = ray_axis_first f c.axis in let d = ray_axis_first f c.side in let w = pos c.scale *ℤ s.grid.step in let e = way_across f (pos c.scale *ℤ s.grid.pitch) in
+    let has = λ (l : ℕ). has_axis_offset start across first step (offset_in c s.grid f s.i j l) (offset_in c s.grid f s.i 0 0) e a d w (pos j) (pos l) ready.start_is ready.across_is ready.step_is moved (offset_moves c s.grid f s.i j l) in
     record {
       few = few_points s.grid f ready.sized;
-      hold_is = ready.hold_is;
+      test_is = ready.test_is;
       fits = λ l within.
-          let small = strip_small start across step hold s j l ready there within in record {
+          let small = strip_small start across step test s j l ready there within in record {
             second = small_by (second_at first step (pos l)) (at (cross (offset_in c s.grid f s.i j l) a) 1) (has l).second small.second;
             third = small_by (third_at first step (pos l)) (at (cross (offset_in c s.grid f s.i j l) a) 2) (has l).third small.third;
             side = tilted_by (side_at first step (pos l)) (dot d (cross (offset_in c s.grid f s.i j l) a)) (has l).side small.side;
@@ -330,18 +329,18 @@ ready_ray start across first step hold s j ready there moved =
       heights = λ l within. (has l).height ∙ height_turned f (offset_of c (point_at s.grid f s.i j l)) c.axis;
     }
 
--- a step by the stance of its way
-pub step_by : (t : Step) (way : Stance) (v a d : List ℤ) → IsStepLike t way → IsStance way v a d → IsStep t v a d
+-- a step by the axis offset of its way
+pub step_by : (t : RayStep) (way : AxisOffset) (v a d : List ℤ) → IsRayStepOf t way → IsAxisOffset way v a d → IsRayStep t v a d
 step_by t way v a d like is = record { second = like.second ∙ is.second; third = like.third ∙ is.third; side = like.side ∙ is.side; height = like.height ∙ is.height }
 
 -- the same of a strip by what its caller sees of it
-pub ready_on : (start across first : Stance) (step : Step) (hold : Hold) (s z : NearStripOf) (j : ℕ) → s ≡ z → IsReadyStrip start across step hold s → j < nodes_of z.grid (second_axis z.family)
-    → IsMoved first start across (pos j) → IsReadyRay first step hold (near_ray_at z j)
-ready_on start across first step hold s z j e ready node moved =
-    subst (λ (y : NearStripOf). IsReadyRay first step hold (near_ray_at y j)) e
-    (ready_ray start across first step hold s j ready (subst (λ (y : NearStripOf). j < nodes_of y.grid (second_axis y.family)) (sym e) node) moved)
+pub ready_on : (start across first : AxisOffset) (step : RayStep) (test : CylinderTest) (s z : CylinderStripOf) (j : ℕ) → s ≡ z → IsReadyStrip start across step test s → j < nodes_of z.grid (second_axis z.family)
+    → IsMoved first start across (pos j) → IsReadyRay first step test (cylinder_ray_at z j)
+ready_on start across first step test s z j e ready node moved =
+    subst (λ (y : CylinderStripOf). IsReadyRay first step test (cylinder_ray_at y j)) e
+    (ready_ray start across first step test s j ready (subst (λ (y : CylinderStripOf). j < nodes_of y.grid (second_axis y.family)) (sym e) node) moved)
 
-pub first_fits_on : (start across : Stance) (step : Step) (hold : Hold) (s z : NearStripOf) (j : ℕ) → s ≡ z → IsReadyStrip start across step hold s
+pub first_fits_on : (start across : AxisOffset) (step : RayStep) (test : CylinderTest) (s z : CylinderStripOf) (j : ℕ) → s ≡ z → IsReadyStrip start across step test s
     → j < nodes_of z.grid (second_axis z.family) → FitsMoved start across (pos j)
-first_fits_on start across step hold s z j e ready node =
-    first_fits start across step hold s j ready (subst (λ (y : NearStripOf). j < nodes_of y.grid (second_axis y.family)) (sym e) node)
+first_fits_on start across step test s z j e ready node =
+    first_fits start across step test s j ready (subst (λ (y : CylinderStripOf). j < nodes_of y.grid (second_axis y.family)) (sym e) node)

@@ -6,9 +6,9 @@ use borrow.Author.Differences.{abs_is}
 use Rattle.space.proofs.Naturals.{square_not_negative}
 use Rattle.space.proofs.Solver.{var, num, add, mul, ring}
 use Rattle.space.proofs.Terms.{sub, square}
-use Rattle.near_points.specs.declared.hold.Hold.{Hold}
-use Rattle.near_points.specs.declared.stance.Stance.{Stance}
-use Rattle.near_points.specs.declared.step.Step.{Step}
+use Rattle.near_points.specs.declared.axis_offset.AxisOffset.{AxisOffset}
+use Rattle.near_points.specs.declared.cylinder_test.CylinderTest.{CylinderTest}
+use Rattle.near_points.specs.declared.ray_step.RayStep.{RayStep}
 use Rattle.near_points.specs.Limits.{moment_limit}
 use Rattle.near_points.specs.Lines.{IsLeastSize, is_narrow_after, second_at, third_at, width_at}
 use Rattle.near_points.proofs.Between.{at_least_between, at_most_between, no_more}
@@ -49,12 +49,12 @@ square_between h t r l x m from to (some, inr (inr below)) =
 more_than : (s a p q x y : ℤ) → s <ℤ ((a +ℤ p) +ℤ q) → p ≤ℤ x → q ≤ℤ y → s <ℤ ((a +ℤ x) +ℤ y)
 more_than s a p q x y h k l = omega (arith, ints, h, k, l)
 
-pub wide_between : (hold : Hold) (s : Stance) (t : Step) (second third : ℤ) (l x m : ℕ) → l ≤ x → x ≤ m
+pub wide_between : (test : CylinderTest) (s : AxisOffset) (t : RayStep) (second third : ℤ) (l x m : ℕ) → l ≤ x → x ≤ m
     → IsLeastSize (second_at s t (pos l)) (second_at s t (pos m)) second → IsLeastSize (third_at s t (pos l)) (third_at s t (pos m)) third
-    → hold.square <ℤ ((s.along *ℤ s.along +ℤ second *ℤ second) +ℤ third *ℤ third) → is_narrow_after hold s t (pos x) ≡ false
-wide_between hold s t second third l x m from to p q wide =
-    above_false (width_at s t (pos x)) hold.square
-    (more_than hold.square (s.along *ℤ s.along) (second *ℤ second) (third *ℤ third) (second_at s t (pos x) *ℤ second_at s t (pos x))
+    → test.square <ℤ ((s.along *ℤ s.along +ℤ second *ℤ second) +ℤ third *ℤ third) → is_narrow_after test s t (pos x) ≡ false
+wide_between test s t second third l x m from to p q wide =
+    above_false (width_at s t (pos x)) test.square
+    (more_than test.square (s.along *ℤ s.along) (second *ℤ second) (third *ℤ third) (second_at s t (pos x) *ℤ second_at s t (pos x))
     (third_at s t (pos x) *ℤ third_at s t (pos x)) wide (square_between s.second t.second second l x m from to p)
     (square_between s.third t.third third l x m from to q))
 

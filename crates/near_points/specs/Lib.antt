@@ -1,6 +1,6 @@
 pub mod Limits
-pub mod Turned
-pub mod Stances
+pub mod AxisOrder
+pub mod AxisOffsets
 pub mod Lines
 pub mod Trimmed
 pub mod Rays

@@ -1,14 +1,14 @@
 //! Which points of a word of 64 points of a ray a bounding cylinder holds.
 #![tactic(auto)]
 
-mod hold;
+mod axis_offset;
+mod cylinder_test;
 mod offset;
+mod ray_step;
 mod scan;
-mod stance;
-mod step;
 mod strip;
 mod trim;
 mod walk;
 mod wide;
 
-pub use strip::NearStrip;
+pub use strip::CylinderStrip;

@@ -3,43 +3,49 @@ ghost use Rattle.vf_spans.specs.Members.{in_range};
 ghost use Rattle.near_points.specs.Lines.{FitsAfter, is_held_after, is_narrow_after};
 ghost use Rattle.near_points.specs.Trimmed.{IsLeftOut, IsPassed, IsPassedAfter};
 
-use crate::hold::Hold;
+use crate::axis_offset::AxisOffset;
+use crate::cylinder_test::CylinderTest;
+use crate::ray_step::RayStep;
 use crate::scan::{are_all_beyond, first_amid, last_amid};
-use crate::stance::Stance;
-use crate::step::Step;
 use crate::trim::is_out;
 use crate::wide::are_all_wide;
-use sweep_boxes::{LEVELS, Level};
+use sweep_boxes::{BANDS, Band};
 
 /// Whether a square of a moment is too large, and grows from there.
 #[inline]
-fn is_leaving(hold: &Hold, width: i128, growth: i128) -> bool
-    ensures far { IsTrue result → hold.now.square <ℤ width }
+fn is_leaving(test: &CylinderTest, width: i128, growth: i128) -> bool
+    ensures far { IsTrue result → test.now.square <ℤ width }
     ensures growing { IsTrue result → pos 0 ≤ℤ growth }
 {
-    hold.square < width && 0 <= growth
+    test.square < width && 0 <= growth
 }
 
-/// Whether a point's moment is too long, by its square, or a level is found that leaves it out.
+/// Whether a point's moment is too long, by its square, or a band is found that leaves it out.
 #[inline]
-fn is_passed(hold: &Hold, levels: &[Level; LEVELS], height: i64, side: i64, width: i128) -> bool
-    ensures passed { IsTrue result → IsPassed hold.now levels.now height side width }
-    ensures kept { result ≡ false → int_le width hold.now.square ≡ true }
+fn is_passed(
+    test: &CylinderTest,
+    bands: &[Band; BANDS],
+    height: i64,
+    side: i64,
+    width: i128,
+) -> bool
+    ensures passed { IsTrue result → IsPassed test.now bands.now height side width }
+    ensures kept { result ≡ false → int_le width test.now.square ≡ true }
 {
-    if !hold.has_width(width) {
+    if !test.has_width(width) {
         return true;
     }
-    is_out(levels, height, side, width)
+    is_out(bands, height, side, width)
 }
 
-/// The first point from one on up to another whose moment isn't too long and that isn't found to be left out by a level, or the one behind
+/// The first point from one on up to another whose moment isn't too long and that isn't found to be left out by a band, or the one after
 /// them where there is none. Where the moment is too long and no shorter at the next point, there is none from there on.
 #[inline]
 fn first_kept(
-    first: &Stance,
-    step: &Step,
-    hold: &Hold,
-    levels: &[Level; LEVELS],
+    first: &AxisOffset,
+    step: &RayStep,
+    test: &CylinderTest,
+    bands: &[Band; BANDS],
     l: u32,
     m: u32,
 ) -> u32
@@ -48,8 +54,8 @@ fn first_kept(
     requires fits { (x : ℕ) → l ≤ x → x ≤ m → FitsAfter first.now step.now (pos x) }
     ensures from { l ≤ result }
     ensures to { result ≤ m + 1 }
-    ensures ahead { (x : ℕ) → l ≤ x → x ≤ m → x < result → IsPassedAfter hold.now levels.now first.now step.now (pos x) }
-    ensures there { result ≤ m → is_narrow_after hold.now first.now step.now (pos result) ≡ true }
+    ensures ahead { (x : ℕ) → l ≤ x → x ≤ m → x < result → IsPassedAfter test.now bands.now first.now step.now (pos x) }
+    ensures there { result ≤ m → is_narrow_after test.now first.now step.now (pos result) ≡ true }
 {
     let from = step.after(first, l);
     let mut height = from.height;
@@ -59,10 +65,10 @@ fn first_kept(
     let bend = 2 * step.curve;
     let mut at = l;
     while at <= m {
-        if !is_passed(hold, levels, height, side, width) {
+        if !is_passed(test, bands, height, side, width) {
             return at;
         }
-        if is_leaving(hold, width, growth) {
+        if is_leaving(test, width, growth) {
             return m + 1;
         }
         height += step.height;
@@ -74,23 +80,23 @@ fn first_kept(
     at
 }
 
-/// The last such point, where one is given whose moment isn't too long: that one where there is none behind it.
+/// The last such point, where one is given whose moment isn't too long: that one where there is none after it.
 #[inline]
 fn last_kept(
-    first: &Stance,
-    step: &Step,
-    hold: &Hold,
-    levels: &[Level; LEVELS],
+    first: &AxisOffset,
+    step: &RayStep,
+    test: &CylinderTest,
+    bands: &[Band; BANDS],
     l: u32,
     m: u32,
 ) -> u32
     requires order { l ≤ m }
-    requires narrow { is_narrow_after hold.now first.now step.now (pos l) ≡ true }
+    requires narrow { is_narrow_after test.now first.now step.now (pos l) ≡ true }
     requires fits { (x : ℕ) → l ≤ x → x ≤ m → FitsAfter first.now step.now (pos x) }
     ensures from { l ≤ result }
     ensures to { result ≤ m }
-    ensures behind { (x : ℕ) → result < x → x ≤ m → IsPassedAfter hold.now levels.now first.now step.now (pos x) }
-    ensures there { is_narrow_after hold.now first.now step.now (pos result) ≡ true }
+    ensures behind { (x : ℕ) → result < x → x ≤ m → IsPassedAfter test.now bands.now first.now step.now (pos x) }
+    ensures there { is_narrow_after test.now first.now step.now (pos result) ≡ true }
 {
     let to = step.after(first, m);
     let mut height = to.height;
@@ -100,7 +106,7 @@ fn last_kept(
     let bend = 2 * step.curve;
     let mut at = m;
     while l < at {
-        if !is_passed(hold, levels, height, side, width) {
+        if !is_passed(test, bands, height, side, width) {
             return at;
         }
         height -= step.height;
@@ -112,14 +118,14 @@ fn last_kept(
     at
 }
 
-/// A range of the points from one to another, as its first and the one behind its last: each of them is held, and of the others each is
-/// not, or a level leaves it out.
+/// A range of the points from one to another, as its first and the one after its last: each of them is held, and of the others each is
+/// not, or a band leaves it out.
 #[inline]
 pub fn kept_between(
-    first: &Stance,
-    step: &Step,
-    hold: &Hold,
-    levels: &[Level; LEVELS],
+    first: &AxisOffset,
+    step: &RayStep,
+    test: &CylinderTest,
+    bands: &[Band; BANDS],
     l: u32,
     m: u32,
 ) -> (u32, u32)
@@ -129,25 +135,25 @@ pub fn kept_between(
     ensures from { l ≤ result.0 }
     ensures order { result.0 ≤ result.1 }
     ensures to { result.1 ≤ m + 1 }
-    ensures held { (x : ℕ) → l ≤ x → x ≤ m → in_range x result ≡ true → is_held_after hold.now first.now step.now (pos x) ≡ true }
+    ensures held { (x : ℕ) → l ≤ x → x ≤ m → in_range x result ≡ true → is_held_after test.now first.now step.now (pos x) ≡ true }
     ensures out { (x : ℕ) → l ≤ x → x ≤ m → in_range x result ≡ false
-        → (is_held_after hold.now first.now step.now (pos x) ≡ false) ⊎ IsLeftOut levels.now first.now step.now (pos x) }
+        → (is_held_after test.now first.now step.now (pos x) ≡ false) ⊎ IsLeftOut bands.now first.now step.now (pos x) }
 {
-    if are_all_beyond(first, step, hold, l, m) {
+    if are_all_beyond(first, step, test, l, m) {
         return (l, l);
     }
-    if are_all_wide(first, step, hold, l, m) {
+    if are_all_wide(first, step, test, l, m) {
         return (l, l);
     }
-    let bottom = first_amid(first, step, hold, l, m);
+    let bottom = first_amid(first, step, test, l, m);
     if m < bottom {
         return (l, l);
     }
-    let top = last_amid(first, step, hold, bottom, m);
-    let from = first_kept(first, step, hold, levels, bottom, top);
+    let top = last_amid(first, step, test, bottom, m);
+    let from = first_kept(first, step, test, bands, bottom, top);
     if top < from {
         return (l, l);
     }
-    let to = last_kept(first, step, hold, levels, from, top);
+    let to = last_kept(first, step, test, bands, from, top);
     (from, to + 1)
 }

@@ -1,4 +1,4 @@
--- What may be asked: a point in micrometres, the depth of the time cells, and the number of slabs that a cutter is cut into.
+-- What a question may be: a point in micrometres, the depth of the time cells, and the number of slabs that a cutter is cut into.
 use Rattle.std.specs.Prelude.{ℕ, ◌≤◌}
 use Rattle.space.specs.Ranges.{IsPoint}
 use Rattle.point_marks.specs.declared.question.Question.{Question}

@@ -1,7 +1,7 @@
 ghost use Rattle.std.specs.Prelude.{◌≡◌, All, IfOk, false, None};
 ghost use Rattle.cl_moves.specs.Moves.{IsMove};
 ghost use Rattle.point_marks.specs.Questions.{IsQuestion};
-ghost use Rattle.move_cutters.specs.Cutters.{IsUsual, first_low, is_move_low};
+ghost use Rattle.move_cutters.specs.Cutters.{AreDefaults, first_low, is_move_low};
 ghost use Rattle.point_marks.specs.Marks.{AreTrueMarks, IsMarkedTruly, mark_for, marks_for};
 
 use crate::question::Question;
@@ -9,7 +9,7 @@ use axis_cells::Mark;
 use box_bisect::mark_point_uncounted;
 use cl_moves::Move;
 use cutter_slabs::{Cutter, Stacks};
-use move_cutters::{Usual, cutter_of, sweep_of};
+use move_cutters::{CutterDefaults, cutter_of, sweep_of};
 use std::alloc::Global;
 use std::marker::Model;
 use vf_io::NoMemory;
@@ -60,15 +60,20 @@ impl Marker {
     }
 
     /// The mark of a move, where it has a cutter.
-    fn mark(&mut self, alloc: Global, usual: &Usual, next: &Move) -> Result<Option<Mark>, NoMemory>
-        requires usual { IsUsual usual.now }
+    fn mark(
+        &mut self,
+        alloc: Global,
+        defaults: &CutterDefaults,
+        next: &Move,
+    ) -> Result<Option<Mark>, NoMemory>
+        requires defaults { AreDefaults defaults.now }
         requires valid { IsMove next.now }
-        requires high { is_move_low usual.now next.now ≡ false }
+        requires high { is_move_low defaults.now next.now ≡ false }
         ensures same { self.new ≡ self.old }
-        ensures mark { IfOk result (λ mark. mark ≡ mark_for usual.now self.old next.now) }
-        ensures sound { IfOk result (λ mark. IsMarkedTruly usual.now self.old.point next.now mark) }
+        ensures mark { IfOk result (λ mark. mark ≡ mark_for defaults.now self.old next.now) }
+        ensures sound { IfOk result (λ mark. IsMarkedTruly defaults.now self.old.point next.now mark) }
     {
-        let Some(cutter) = cutter_of(usual, next) else {
+        let Some(cutter) = cutter_of(defaults, next) else {
             return Ok(None);
         };
         let stacks = self.take_stacks(alloc, cutter)?;
@@ -86,21 +91,21 @@ impl Marker {
 /// The marks of the moves in order, none for a move without a cutter.
 pub fn marks_of(
     alloc: Global,
-    usual: &Usual,
+    defaults: &CutterDefaults,
     moves: &[Move],
     question: &Question,
 ) -> Result<Vec<Option<Mark>>, NoMemory>
-    requires usual { IsUsual usual.now }
+    requires defaults { AreDefaults defaults.now }
     requires question { IsQuestion question.now }
     requires valid { All IsMove moves.now }
-    requires high { first_low usual.now moves.now ≡ None }
-    ensures marks { IfOk result (λ marks. marks.items ≡ marks_for usual.now question.now moves.now) }
-    ensures sound { IfOk result (λ marks. AreTrueMarks usual.now question.now.point moves.now marks.items) }
+    requires high { first_low defaults.now moves.now ≡ None }
+    ensures marks { IfOk result (λ marks. marks.items ≡ marks_for defaults.now question.now moves.now) }
+    ensures sound { IfOk result (λ marks. AreTrueMarks defaults.now question.now.point moves.now marks.items) }
 {
     let mut marker = Marker::new(*question);
     let mut marks = Vec::with_capacity(alloc, moves.len())?;
     for next in moves {
-        marks.push(marker.mark(alloc, usual, next)?)?;
+        marks.push(marker.mark(alloc, defaults, next)?)?;
     }
     Ok(marks)
 }

@@ -1,4 +1,4 @@
-/// What is asked about the moves of a file: a point in micrometres, the depth of the time cells, and the number of slabs that
+/// A question about the moves of a file: a point in micrometres, the depth of the time cells, and the number of slabs that
 /// a cutter is cut into.
 #[derive(Clone, Copy)]
 pub struct Question {

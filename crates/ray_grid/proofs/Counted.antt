@@ -15,7 +15,7 @@ use Rattle.ray_grid.specs.Strips.{strip_of, strips_along, strips_of}
 use Rattle.ray_grid.specs.Points.{IsPointOf, LatticePoint, family_points, points_on, rays_of, lattice_of}
 
 -- lists of one length, joined
-length-same : {A B : Type 0} → (f : A → List B) (xs : List A) (n : ℕ) → ((x : A) → length (f x) ≡ n) → length (flat_map f xs) ≡ length xs * n
+pub length-same : {A B : Type 0} → (f : A → List B) (xs : List A) (n : ℕ) → ((x : A) → length (f x) ≡ n) → length (flat_map f xs) ≡ length xs * n
 length-same f [] n each = omega arith
 length-same f (x ∷ xs) n each = length-append (f x) (flat_map f xs) ∙ (let a = each x in let b = length-same f xs n each in omega arith)
 
@@ -58,7 +58,7 @@ length-lattice g =
     ∙ (let a = length-two g (strips_along g Z) (strips_along g X) in
     let z = length-family g Z in let x = length-family g X in let y = length-family g Y in omega arith)
 
--- what stands in joined lists stands in one of them
+-- what is in joined lists is in one of them
 from_flat : {A B : Type 0} → (f : A → List B) (xs : List A) (y : B) → Contains (flat_map f xs) y → (x : A) × Contains xs x × Contains (f x) y
 from_flat f [] y h = absurd (omega (arith, h.1))
 from_flat f (x ∷ xs) y h =
@@ -87,7 +87,7 @@ ray_of_grid g ray h =
     (λ y. ray_along g Y ray found.0 y found.2)
     (Contains-append_cases (strips_along g Z ++ strips_along g X) (strips_along g Y) found.0 found.1)
 
--- the lattice has points of the grid alone
+-- the lattice has only points of the grid
 pub only_points : (g : GridSize) (p : LatticePoint) → Contains (lattice_of g) p → IsPointOf g p
 only_points g p h =
     let found = from_flat (points_on g) (rays_of g) p h in

@@ -5,3 +5,7 @@ pub mod Windows
 pub mod Listed
 pub mod Counted
 pub mod Tested
+pub mod Numbered
+pub mod Turned
+pub mod TurnSizes
+pub mod Images

@@ -1,4 +1,4 @@
--- Each point of a ray of the grid stands in the list of the lattice.
+-- Each point of a ray of the grid is in the list of the lattice.
 use Rattle.std.proofs.Common.{◌≡◌, ℕ, suc, zero, ◌<◌, List, [], ◌∷◌, length, map, get_or, Contains, arith, sym, ◌∙◌, subst}
 use Rattle.std.specs.List.{flat_map, range_with_len}
 use Rattle.std.proofs.lemmas.List.Elements.{Contains-append_left, Contains-append_right}

@@ -1,4 +1,4 @@
--- Where each strip and each ray stands in the list of strips.
+-- Where each strip and each ray is in the list of strips.
 use Rattle.std.proofs.Common.{◌≡◌, ℕ, ◌+◌, ◌-◌, ◌<◌, ◌≤◌, [], ◌++◌, length, get_or, slice_get, Some, None, arith, refl, sym, ap, ◌∙◌, subst, length-append}
 use Rattle.std.proofs.lemmas.List.{get_or_append_left, get_or-append_right, get_or_past}
 use Rattle.std.proofs.lemmas.List.FromFn.{length-map-range_with_len, get_or-map-range_with_len}
@@ -74,7 +74,7 @@ strip_there g Y i lt =
     row_y g (nodes_of g 0 + nodes_of g 1 + i) (omega arith) (omega arith) ∙ ap (strip_of g Y) (let q : nodes_of g 0 + nodes_of g 1 + i - nodes_of g 0 - nodes_of g 1 ≡ i = omega arith in q)
 strip_there g Z i lt = row_z g i lt
 
--- a ray that stands in a strip of a family stands at its own numbers
+-- a ray that is in a strip of a family is there at its own numbers
 own_place : (g : GridSize) (f : Family) (i n : ℕ) (ray : Ray) → slice_get (strip_of g f i) n ≡ Some ray → (strip_number g f i ≡ strip_number g ray.family ray.i) × (n ≡ ray.j)
 own_place g f i n ray is =
     dite (dec_le (nodes_of g (second_axis f)) n)

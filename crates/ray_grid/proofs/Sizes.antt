@@ -44,7 +44,7 @@ place_within o s m l lt last =
     let far = mul-le-mul_right s (let q : l ≤ m - 1 = omega arith in q) in
     omega (arith, ints)
 
--- what a coordinate is made of in the code's own 32 bits, and that nothing is lost on the way
+-- how a coordinate is computed in the code's own 32 bits, and that nothing is lost on the way
 pub record Scaled (o z value : ℤ) (k : ℕ) : Type 0 where
   pub product : FitsSigned w32 (to_z w32 k *ℤ to_z w32 (of_z w32 z))
   pub sum : FitsSigned w32 (to_z w32 (of_z w32 o) +ℤ to_z w32 (of_z w32 (to_z w32 k *ℤ to_z w32 (of_z w32 z))))

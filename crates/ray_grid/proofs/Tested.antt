@@ -1,4 +1,4 @@
--- What the test of a point tells.
+-- What the test of a point says.
 use Rattle.std.proofs.Common.{◌≡◌, ℕ, ◌<◌, nat_lt, true}
 use Rattle.std.proofs.lemmas.Bool.{and_parts, ltb-true}
 use Rattle.ray_grid.specs.Grids.{GridSize}

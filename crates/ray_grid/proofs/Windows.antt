@@ -79,7 +79,7 @@ none_second g f i j from to reach b l eb far = (
       absurd (far (subst (λ (k : ℕ). IsTrue (is_near reach (at from k) (at to k) (node_at g k j))) (sym eb) parts.second)),
 )
 
--- what the test of a node's coordinate told
+-- what the test of a node's coordinate said
 pub told_near : (r : Bool) (from to reach x y : ℤ) → r ≡ is_near reach from to x → x ≡ y → r ≡ true → IsTrue (is_near reach from to y)
 told_near r from to reach x y test same is = cc
 

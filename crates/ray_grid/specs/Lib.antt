@@ -7,3 +7,6 @@ pub mod Strips
 pub mod Reach
 pub mod Points
 pub mod OnAxis
+pub mod Turns
+pub mod TurnLaws
+pub mod RayLaws

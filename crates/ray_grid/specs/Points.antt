@@ -14,6 +14,10 @@ pub record LatticePoint : Type 0 where
   pub l : ℕ
   pub position : List ℤ
 
+-- the point of a ray with an index
+abbrev pub point_in : GridSize → Ray → ℕ → LatticePoint
+point_in grid ray l = record { ray = ray; l = l; position = point_of grid ray l }
+
 -- the points of a ray, in order
 abbrev pub points_on : GridSize → Ray → List LatticePoint
 points_on grid ray =

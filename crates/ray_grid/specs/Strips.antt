@@ -1,5 +1,5 @@
 -- The strips: the rays of the grid in order, a row of rays in each.
-use Rattle.std.specs.Prelude.{ℕ, ◌+◌, List, [], ◌++◌, map, slice_index_or}
+use Rattle.std.specs.Prelude.{ℕ, ◌+◌, ◌*◌, List, [], ◌++◌, map, slice_index_or}
 use Rattle.std.specs.List.{range_with_len}
 use Rattle.ray_grid.specs.Grids.{GridSize}
 use Rattle.ray_grid.specs.declared.ray.Ray.{Ray}
@@ -29,3 +29,16 @@ abbrev pub strip_number : GridSize → Family → ℕ → ℕ
 strip_number grid Z i = i
 strip_number grid X i = nodes_of grid 0 + i
 strip_number grid Y i = nodes_of grid 0 + nodes_of grid 1 + i
+
+-- how many rays a family has, and the number of its first ray among all rays in order
+abbrev pub family_rays : GridSize → Family → ℕ
+family_rays grid family = nodes_of grid (first_axis family) * nodes_of grid (second_axis family)
+
+abbrev pub first_number : GridSize → Family → ℕ
+first_number grid Z = 0
+first_number grid X = family_rays grid Z
+first_number grid Y = family_rays grid Z + family_rays grid X
+
+-- the number of a ray among all rays of the grid in their order, from 0
+abbrev pub ray_number : GridSize → Ray → ℕ
+ray_number grid ray = first_number grid ray.family + (ray.i * nodes_of grid (second_axis ray.family) + ray.j)

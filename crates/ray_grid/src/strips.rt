@@ -2,10 +2,11 @@ use crate::grid::Grid;
 use crate::ray::{Family, Ray};
 
 impl Grid {
-    ghost use Rattle.std.specs.Prelude.{◌≡◌, ℕ, ◌<◌, Some, length, slice_get};
+    ghost use Rattle.std.specs.Prelude.{◌≡◌, ℕ, ◌<◌, ◌≤◌, Some, length, slice_get};
     ghost use Rattle.ray_grid.specs.Families.{first_axis, second_axis};
     ghost use Rattle.ray_grid.specs.Lattice.{IsRay, nodes_of};
-    ghost use Rattle.ray_grid.specs.Strips.{strip_of, strips_of, strip_at, strip_number};
+    ghost use Rattle.ray_grid.specs.Points.{rays_of};
+    ghost use Rattle.ray_grid.specs.Strips.{first_number, ray_number, strip_of, strips_of, strip_at, strip_number};
 
     /// How many strips the grid has.
     pub fn strips(&self) -> u32
@@ -34,7 +35,7 @@ impl Grid {
         Ray { family, i, j: n }
     }
 
-    /// The strip of a ray, and the ray's number in it: the only place where it stands.
+    /// The strip of a ray, and the ray's number in it: the only place where the ray is.
     pub fn place(&self, ray: &Ray) -> (u32, u32)
         requires { IsRay self.now ray.now }
         ensures strip { result.0 < length (strips_of self.now) }
@@ -55,6 +56,31 @@ impl Grid {
             Family::Z => i,
             Family::X => x + i,
             Family::Y => x + y + i,
+        }
+    }
+
+    /// The number of a ray among all rays of the grid in their order, strip by strip.
+    pub fn ray_number(&self, ray: &Ray) -> u32
+        requires { IsRay self.now ray.now }
+        ensures number { result ≡ ray_number self.now ray.now }
+        ensures there { slice_get (rays_of self.now) result ≡ Some ray.now }
+    {
+        // Reading a field of the grid gives the prover its invariant.
+        let _valid = &self.origin;
+        let along = self.nodes(ray.family.second_axis());
+        self.first_number(ray.family) + (ray.i * along + ray.j)
+    }
+
+    /// The number of a family's first ray.
+    fn first_number(&self, family: Family) -> u32
+        ensures number { result ≡ first_number self.now family }
+        ensures few { result ≤ 320000 }
+    {
+        let (x, y, z) = (self.nodes(0), self.nodes(1), self.nodes(2));
+        match family {
+            Family::Z => 0,
+            Family::X => x * y,
+            Family::Y => x * y + y * z,
         }
     }
 

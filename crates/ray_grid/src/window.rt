@@ -15,7 +15,7 @@ impl Grid {
     /// The indices of a ray's points within reach of the segment from `from` to `to`, the first
     /// included, the second excluded; the two are equal where there are none.
     ///
-    /// A ray's points differ on one axis alone: the ray's two nodes are near or not, and along it
+    /// A ray's points differ on one axis only: the ray's two nodes are near or not, and along it
     /// the points within reach follow each other.
     pub fn window(&self, ray: &Ray, from: [i32; 3], to: [i32; 3], reach: i32) -> (u32, u32)
         requires { IsRay self.now ray.now }
@@ -40,7 +40,7 @@ impl Grid {
     /// The numbers of a strip's rays that have a point within reach of the segment from `from` to
     /// `to`, the first included, the second excluded; the two are equal where there are none.
     ///
-    /// The rays of a strip differ in their node `j` alone: all of them have the same points within
+    /// The rays of a strip differ only in their node `j`: all of them have the same points within
     /// reach along them, if any, and the near nodes follow each other.
     pub fn strip_window(&self, strip: u32, from: [i32; 3], to: [i32; 3], reach: i32) -> (u32, u32)
         requires { strip < length (strips_of self.now) }

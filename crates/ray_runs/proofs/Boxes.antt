@@ -3,11 +3,11 @@ use Rattle.std.proofs.Common.{◌≡◌, Bool, true, false, not, ℕ, zero, suc,
 use Rattle.std.specs.List.{All, list_any}
 use Rattle.std.proofs.lemmas.Int.{ints}
 use Rattle.std.proofs.lemmas.List.Folds.{list_any_none}
-use Rattle.space.specs.Motion.{Motion, axis_at, offset_at}
+use Rattle.space.specs.Sweeps.{SweepOf, axis_at, offset_at}
 use Rattle.space.specs.Vectors.{at, dot}
-use Rattle.space.proofs.Solver.{var, add, mul, ring}
-use Rattle.space.proofs.Terms.{sub, dots, from}
-use Rattle.bern_form.specs.Between.{d_between, is_left_between, n_between, u_between}
+use Rattle.space.proofs.Solver.{var, mul, ring}
+use Rattle.space.proofs.Terms.{sub, from}
+use Rattle.bern_form.specs.Between.{d_between, is_unexcluded_between, n_between, u_between}
 use Rattle.bern_form.specs.Cells.{dot_on_cell, scaled_square}
 use Rattle.bern_form.specs.Forms.{lifted}
 use Rattle.bern_form.specs.Grids.{columns21}
@@ -16,16 +16,19 @@ use Rattle.bern_form.specs.Slab.{SlabSize}
 use Rattle.bern_form.proofs.HalfSigns.{all_three}
 use Rattle.bern_form.proofs.Relations.{AllNegative, AllPositive}
 use Rattle.box_bisect.specs.Between.{IsOutWithin}
-use Rattle.box_bisect.specs.RayBoxes.{grid_less, is_excluded_across, is_excluded_in_box, is_undecided, width_column}
+use Rattle.ray_boxes.specs.Boxes.{grid_less, is_excluded_across, is_excluded_in_box, width_column}
+use Rattle.box_bisect.specs.RayBoxes.{is_undecided}
 use Rattle.box_bisect.specs.Stretches.{AreFormsBetween}
-use Rattle.box_bisect.proofs.RayExcluded.{decides_across}
-use Rattle.box_bisect.proofs.RayLines.{IsLine, decided_at}
+use Rattle.ray_boxes.proofs.Excluded.{decides_across}
+use Rattle.ray_boxes.proofs.Lines.{IsLine}
+use Rattle.box_bisect.proofs.RayLines.{decided_at}
 use Rattle.box_bisect.proofs.Searching.{dropped}
-use Rattle.ray_runs.specs.Apart.{AreAbove, AreApart, AreBeside, AreOutBeside, IsBehind, IsNoWider}
-use Rattle.ray_runs.specs.Moments.{moment_product}
+use Rattle.ray_runs.specs.Missed.{AreAbove, AreBeside, AreMissed, AreOutBeside, IsBehind, IsNoWider}
+use Rattle.moment_forms.specs.Moments.{moment_product}
 use Rattle.ray_runs.proofs.Convex.{product_natural, squares_rise}
-use Rattle.ray_runs.proofs.Fives.{each_of_five}
-use Rattle.ray_runs.proofs.Lagrange.{lagrange_at, less_squares}
+use Rattle.moment_forms.proofs.Fives.{each_of_five}
+use Rattle.moment_forms.proofs.Lagrange.{lagrange_at, less_squares}
+use Rattle.moment_forms.proofs.Middle.{middle_is}
 
 -- rows
 pair_of : (P : ℤ → Type 0) (a b : ℤ) → P a → P b → All P (a ∷ b ∷ [])
@@ -85,14 +88,6 @@ rows_beside f g p p' q q' a c h beside =
     (lagrange_at p p' p p' a c k l) (lagrange_at p p' q q' a c k l) (lagrange_at q q' q q' a c k l) (beside k l) in
     rows_of_five AllPositive _ _ _ _ _ (row 0 (omega arith)) (row 1 (omega arith)) (row 2 (omega arith)) (row 3 (omega arith)) (row 4 (omega arith))
 
--- behind the tip
-pub middle_is : (p p' a c : List ℤ) → at (dot_on_cell p p' a c) 1 ≡ dot p c +ℤ dot p' a
-middle_is p p' a c =
-    let P = from 0 in let Q = from 3 in let A = from 6 in let C = from 9 in
-    let x = λ (k : ℕ). add (mul (P k) (C k)) (mul (Q k) (A k)) in
-    ring (at p 0 ∷ at p 1 ∷ at p 2 ∷ at p' 0 ∷ at p' 1 ∷ at p' 2 ∷ at a 0 ∷ at a 1 ∷ at a 2 ∷ at c 0 ∷ at c 1 ∷ at c 2 ∷ [])
-    (add (add (x 0) (x 1)) (x 2)) (add (dots P C) (dots Q A)) refl
-
 rows_behind : (p p' q q' a c : List ℤ) → IsBehind p p' a c → IsBehind q q' a c → All AllNegative (columns21 (dot_on_cell p p' a c) (dot_on_cell q q' a c))
 rows_behind p p' q q' a c x y =
     let P = λ (z : ℤ). z <ℤ pos 0 in
@@ -105,7 +100,7 @@ denied : (b : Bool) → b ≡ true → not b ≡ false
 denied true h = refl
 denied false h = cc
 
-excluded_apart : (S : ℕ) (f most : ℤ) (p p' q q' a c : List ℤ) (s : SlabSize) → f ≡ scaled_square S most → IsNoWider most s → AreApart f p p' q q' a c
+excluded_apart : (S : ℕ) (f most : ℤ) (p p' q q' a c : List ℤ) (s : SlabSize) → f ≡ scaled_square S most → IsNoWider most s → AreMissed f p p' q q' a c
     → is_excluded_across S (dot_on_cell p p' a c) (dot_on_cell q q' a c) (dot_on_cell a c a c) (dot_on_cell p p' p p') (dot_on_cell p p' q q') (dot_on_cell q q' q q') s ≡ true
 excluded_apart S f most p p' q q' a c s e narrow apart =
     let decides = decides_across s S (dot_on_cell p p' a c) (dot_on_cell q q' a c) (dot_on_cell a c a c) (dot_on_cell p p' p p') (dot_on_cell p p' q q') (dot_on_cell q q' q q') in
@@ -117,8 +112,8 @@ excluded_apart S f most p p' q q' a c s e narrow apart =
     apart
 
 -- so none is left for the points between
-none_undecided : (m : Motion) (point : ℕ → List ℤ) (S from to j k : ℕ) (f most : ℤ) (slabs : List SlabSize) → f ≡ scaled_square S most → All (IsNoWider most) slabs
-    → AreApart f (offset_at m (point from) (pos j) (pos S)) (offset_at m (point from) (pos k) (pos S)) (offset_at m (point to) (pos j) (pos S)) (offset_at m (point to) (pos k) (pos S)) (axis_at m (pos j) (pos S)) (axis_at m (pos k) (pos S))
+none_undecided : (m : SweepOf) (point : ℕ → List ℤ) (S from to j k : ℕ) (f most : ℤ) (slabs : List SlabSize) → f ≡ scaled_square S most → All (IsNoWider most) slabs
+    → AreMissed f (offset_at m (point from) (pos j) (pos S)) (offset_at m (point from) (pos k) (pos S)) (offset_at m (point to) (pos j) (pos S)) (offset_at m (point to) (pos k) (pos S)) (axis_at m (pos j) (pos S)) (axis_at m (pos k) (pos S))
     → list_any (λ s. not (is_excluded_in_box m (point from) (point to) j k S s)) slabs ≡ false
 none_undecided m point S from to j k f most slabs e narrow apart =
     let at_j = λ (p : List ℤ). offset_at m p (pos j) (pos S) in let at_k = λ (p : List ℤ). offset_at m p (pos k) (pos S) in
@@ -126,17 +121,17 @@ none_undecided m point S from to j k f most slabs e narrow apart =
     list_any_none (λ s. not (is_excluded_in_box m (point from) (point to) j k S s)) slabs
     (λ i d l. denied (is_excluded_in_box m (point from) (point to) j k S (get_or slabs i d)) (excluded (get_or slabs i d) (narrow i d l)))
 
-holds_none : (m : Motion) (p : List ℤ) (i S : ℕ) (slabs : List SlabSize) → some_holds [] m p i S ≡ true → some_holds slabs m p i S ≡ true
+holds_none : (m : SweepOf) (p : List ℤ) (i S : ℕ) (slabs : List SlabSize) → some_holds [] m p i S ≡ true → some_holds slabs m p i S ≡ true
 holds_none m p i S slabs h = cc
 
-out_between : (m : Motion) (p : List ℤ) (S levels j : ℕ) (slabs : List SlabSize) → 0 < S → is_left_between slabs m p j (j + 2 ^ levels) S ≡ false → IsOutWithin slabs m p j (j + 2 ^ levels) S
+out_between : (m : SweepOf) (p : List ℤ) (S levels j : ℕ) (slabs : List SlabSize) → 0 < S → is_unexcluded_between slabs m p j (j + 2 ^ levels) S ≡ false → IsOutWithin slabs m p j (j + 2 ^ levels) S
 out_between m p S levels j slabs some left =
     let k = j + 2 ^ levels in
     let forms : AreFormsBetween (u_between m p j k S) (n_between m j k S) (d_between m p j k S) m p j k S = record { u_is = refl; n_is = refl; d_is = refl } in
     (dropped [] slabs (u_between m p j k S) (n_between m j k S) (d_between m p j k S) m p S levels j some forms (λ i h. holds_none m p i S slabs h) left).1
 
-pub apart_at : (m : Motion) (point : ℕ → List ℤ) (S from to j levels : ℕ) (f : ℤ) → IsLine point → 0 < S
-    → (let k = j + 2 ^ levels in AreApart f (offset_at m (point from) (pos j) (pos S)) (offset_at m (point from) (pos k) (pos S)) (offset_at m (point to) (pos j) (pos S)) (offset_at m (point to) (pos k) (pos S)) (axis_at m (pos j) (pos S)) (axis_at m (pos k) (pos S)))
+pub apart_at : (m : SweepOf) (point : ℕ → List ℤ) (S from to j levels : ℕ) (f : ℤ) → IsLine point → 0 < S
+    → (let k = j + 2 ^ levels in AreMissed f (offset_at m (point from) (pos j) (pos S)) (offset_at m (point from) (pos k) (pos S)) (offset_at m (point to) (pos j) (pos S)) (offset_at m (point to) (pos k) (pos S)) (axis_at m (pos j) (pos S)) (axis_at m (pos k) (pos S)))
     → AreOutBeside f m point S from to j (j + 2 ^ levels)
 apart_at m point S from to j levels f line some apart slabs most e narrow l after before =
     let k = j + 2 ^ levels in
@@ -146,7 +141,7 @@ apart_at m point S from to j levels f line some apart slabs most e narrow l afte
     subst (λ i. list_any (λ s. not (is_excluded_in_box m (point from) (point i) j k S s)) slabs ≡ false) (sym last) none in
     out_between m (point l) S levels j slabs some (decided_at slabs m point S levels j from (to + 1) l line after (omega (arith, before)) undecided)
 
-pub apart_same : (f : ℤ) (p p' q q' a c P P' Q Q' A C : List ℤ) → p ≡ P → p' ≡ P' → q ≡ Q → q' ≡ Q' → a ≡ A → c ≡ C → AreApart f p p' q q' a c → AreApart f P P' Q Q' A C
+pub apart_same : (f : ℤ) (p p' q q' a c P P' Q Q' A C : List ℤ) → p ≡ P → p' ≡ P' → q ≡ Q → q' ≡ Q' → a ≡ A → c ≡ C → AreMissed f p p' q q' a c → AreMissed f P P' Q Q' A C
 apart_same f p p' q q' a c P P' Q Q' A C e1 e2 e3 e4 e5 e6 h =
-    subst (λ z. AreApart f P P' Q Q' A z) e6 (subst (λ z. AreApart f P P' Q Q' z c) e5
-    (subst (λ z. AreApart f P P' Q z a c) e4 (subst (λ z. AreApart f P P' z q' a c) e3 (subst (λ z. AreApart f P z q q' a c) e2 (subst (λ z. AreApart f z p' q q' a c) e1 h)))))
+    subst (λ z. AreMissed f P P' Q Q' A z) e6 (subst (λ z. AreMissed f P P' Q Q' z c) e5
+    (subst (λ z. AreMissed f P P' Q z a c) e4 (subst (λ z. AreMissed f P P' z q' a c) e3 (subst (λ z. AreMissed f P z q q' a c) e2 (subst (λ z. AreMissed f z p' q q' a c) e1 h)))))

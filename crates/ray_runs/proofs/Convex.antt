@@ -9,7 +9,7 @@ use Rattle.space.proofs.Solver.{Term, var, num, add, mul, ring}
 use Rattle.space.proofs.Terms.{sub, square, dots, from}
 use Rattle.bern_form.specs.Slab.{SlabSize}
 use Rattle.bern_form.proofs.Relations.{Covers}
-use Rattle.box_bisect.proofs.RayMixed.{blend}
+use Rattle.ray_boxes.proofs.Mixed.{blend}
 
 -- products of numbers that aren't below 0, and a factor of one
 pub product_natural : (a b : ℤ) → pos 0 ≤ℤ a → pos 0 ≤ℤ b → pos 0 ≤ℤ (a *ℤ b)

@@ -1,8 +1,5 @@
 pub mod Convex
 pub mod Runs
-pub mod Fits
-pub mod Fives
-pub mod Lagrange
 pub mod Boxes
 pub mod ClearPoints
 pub mod StretchTests

@@ -6,9 +6,9 @@ use Rattle.space.proofs.Solver.{Term, var, num, add, mul, ring}
 use Rattle.space.proofs.Terms.{dots, from, sub}
 use Rattle.bern_form.specs.Cells.{dot_on_cell}
 use Rattle.bern_form.specs.Forms.{lifted, product22, scaled2}
-use Rattle.ray_runs.specs.Moments.{middle_moment, moment, moment_product, vector_product}
-use Rattle.ray_runs.proofs.Fives.{each_of_five}
-use Rattle.ray_runs.proofs.Lagrange.{cell, conv}
+use Rattle.moment_forms.specs.Moments.{middle_moment, moment, moment_product, vector_product}
+use Rattle.moment_forms.proofs.Fives.{each_of_five}
+use Rattle.moment_forms.proofs.Lagrange.{cell, conv}
 
 same3 : (a b c d e f : ℤ) → a ≡ d → b ≡ e → c ≡ f → a ∷ b ∷ c ∷ [] ≡ d ∷ e ∷ f ∷ []
 same3 a b c d e f h k l = λ i. h i ∷ k i ∷ l i ∷ []
@@ -102,7 +102,7 @@ product_of_parts : (s w v x y : ℤ) (a b A B : List ℤ) (k : ℕ) → k < 5 �
     → (s *ℤ s) *ℤ at (product22 A B) k ≡ summed (weight w v x y k) (at (product22 a b))
 product_of_parts s w v x y a b A B k l ea eb = product_scaled s A B k l ∙ (λ i. at (product22 (ea i) (eb i)) k) ∙ product_part a b w v x y k l
 
--- A vector at a sample of a cell: s times it is made of those at both ends of the stretch.
+-- A vector at a sample of a cell: s times it is a weighted sum of those at both ends of the stretch.
 pub record IsMixed (s w v : ℤ) (p q r : List ℤ) : Type 0 where
   pub x : s *ℤ at r 0 ≡ w *ℤ at p 0 +ℤ v *ℤ at q 0
   pub y : s *ℤ at r 1 ≡ w *ℤ at p 1 +ℤ v *ℤ at q 1

@@ -2,7 +2,7 @@
 use Rattle.std.proofs.Common.{◌≡◌, true, ℕ, ◌+◌, ◌-◌, ◌*◌, ◌<◌, ◌≤◌, List, ℤ, pos, arith, ap, subst, ⊎_elim}
 use Rattle.std.specs.List.{Contains}
 use Rattle.std.proofs.lemmas.Bool.{cases_lt}
-use Rattle.space.specs.Motion.{Motion, axis_at, offset_at}
+use Rattle.space.specs.Sweeps.{SweepOf, axis_at, offset_at}
 use Rattle.space.specs.Vectors.{at, dot, spread}
 use Rattle.bern_form.specs.Marks.{held_at_sample, some_holds}
 use Rattle.bern_form.specs.Slab.{SlabSize, holds_at}
@@ -10,12 +10,12 @@ use Rattle.bern_form.proofs.Decided.{decides_covers, decides_some_holds, found_b
 use Rattle.bern_form.proofs.Relations.{HoldsAt}
 use Rattle.cutter_slabs.specs.Stacks.{StacksOf, inner_stack}
 use Rattle.cutter_marks.specs.MarkBy.{is_sure_by}
-use Rattle.box_bisect.proofs.RayLines.{IsLine}
-use Rattle.box_bisect.proofs.RayMixed.{IsAlong, d_mixed, u_mixed}
+use Rattle.ray_boxes.proofs.Lines.{IsLine}
+use Rattle.ray_boxes.proofs.Mixed.{IsAlong, d_mixed, u_mixed}
 use Rattle.ray_runs.specs.Between.{AreSure}
 use Rattle.ray_runs.proofs.Convex.{covers_between}
 
-held_along : (s : SlabSize) (m : Motion) (p q r : List ℤ) (w v k S : ℕ) → IsAlong p q r w v → HoldsAt s m p k S → HoldsAt s m q k S → HoldsAt s m r k S
+held_along : (s : SlabSize) (m : SweepOf) (p q r : List ℤ) (w v k S : ℕ) → IsAlong p q r w v → HoldsAt s m p k S → HoldsAt s m q k S → HoldsAt s m r k S
 held_along s m p q r w v k S along hp hq =
     let A = axis_at m (pos k) (pos S) in let place = along.place in
     covers_between s (pos S) w v (offset_at m p (pos k) (pos S)) (offset_at m q (pos k) (pos S)) (offset_at m r (pos k) (pos S)) A (omega (arith, place))
@@ -24,17 +24,17 @@ held_along s m p q r w v k S along hp hq =
 weights : (a v w : ℕ) → (w + v) * (a + v) ≡ w * a + v * (a + (v + w))
 weights a v w = omega arith
 
-is_held : (s : SlabSize) (m : Motion) (p : List ℤ) (k S : ℕ) → holds_at s m p k S ≡ true → HoldsAt s m p k S
+is_held : (s : SlabSize) (m : SweepOf) (p : List ℤ) (k S : ℕ) → holds_at s m p k S ≡ true → HoldsAt s m p k S
 is_held s m p k S h =
     let P = offset_at m p (pos k) (pos S) in let A = axis_at m (pos k) (pos S) in
     (decides_covers s (pos S) (dot P A) (dot A A) (spread P A)).0 h
 
-held_apart : (s : SlabSize) (m : Motion) (point : ℕ → List ℤ) (a v w k S : ℕ) → IsLine point → 0 < v + w
+held_apart : (s : SlabSize) (m : SweepOf) (point : ℕ → List ℤ) (a v w k S : ℕ) → IsLine point → 0 < v + w
     → HoldsAt s m (point a) k S → HoldsAt s m (point (a + (v + w))) k S → HoldsAt s m (point (a + v)) k S
 held_apart s m point a v w k S line some ha hb =
     held_along s m (point a) (point (a + (v + w))) (point (a + v)) w v k S (line.each a (a + v) (a + (v + w)) w v some (weights a v w)) ha hb
 
-held_between : (s : SlabSize) (m : Motion) (point : ℕ → List ℤ) (a b l k S : ℕ) → IsLine point → a ≤ l → l ≤ b
+held_between : (s : SlabSize) (m : SweepOf) (point : ℕ → List ℤ) (a b l k S : ℕ) → IsLine point → a ≤ l → l ≤ b
     → HoldsAt s m (point a) k S → HoldsAt s m (point b) k S → HoldsAt s m (point l) k S
 held_between s m point a b l k S line after before ha hb =
     let v = l - a in let w = b - l in
@@ -46,7 +46,7 @@ held_between s m point a b l k S line after before ha hb =
     (cases_lt 0 (v + w))
 
 -- held by an inner slab at a sample, so sure
-pub are_sure : (stacks : StacksOf) (inner : List SlabSize) (m : Motion) (point : ℕ → List ℤ) (s : SlabSize) (k S S' a b : ℕ) → IsLine point → inner ≡ inner_stack stacks.cutter stacks.slabs
+pub are_sure : (stacks : StacksOf) (inner : List SlabSize) (m : SweepOf) (point : ℕ → List ℤ) (s : SlabSize) (k S S' a b : ℕ) → IsLine point → inner ≡ inner_stack stacks.cutter stacks.slabs
     → Contains inner s → k ≤ S → S ≡ S' → holds_at s m (point a) k S ≡ true → holds_at s m (point b) k S ≡ true → AreSure stacks m point S' a b
 unfolding is_sure_by
 are_sure stacks inner m point s k S S' a b line ei among within es ha hb l after before =

@@ -3,8 +3,8 @@ use Rattle.std.proofs.Common.{◌≡◌, ℕ, ◌+◌, ◌^◌, ◌≤◌, FitsS
 use Rattle.std.proofs.lemmas.Int.{to_z-of_z}
 use mir.Syntax.{w64}
 use Rattle.ray_grid.specs.Lattice.{point_of}
-use Rattle.box_bisect.proofs.RayLines.{ray_line}
-use Rattle.ray_runs.specs.Apart.{AreApart, AreBesideAt, AreOutBeside}
+use Rattle.ray_boxes.proofs.Lines.{ray_line}
+use Rattle.ray_runs.specs.Missed.{AreBesideAt, AreMissed, AreOutBeside}
 use Rattle.ray_runs.specs.Open.{AreOutAround}
 use Rattle.ray_runs.specs.Searched.{IsPairOf}
 use Rattle.ray_runs.specs.declared.pair.Pair.{Pair}
@@ -22,11 +22,11 @@ beside_by_word x k pair fits at h =
     subst (λ f. AreBesideAt f pair.first_moment pair.last_moment pair.first.axis) (sym (to_z-of_z w64 x.square fits)) (at.beside h)
 
 pub apart_between : (x : Searched) (j k : ℕ) (start end : Pair) → FitsSigned w64 x.square → IsPairOf x j start → IsPairOf x k end
-    → AreApart (to_z w64 (of_z w64 x.square)) start.first.offset end.first.offset start.last.offset end.last.offset start.first.axis end.first.axis
+    → AreMissed (to_z w64 (of_z w64 x.square)) start.first.offset end.first.offset start.last.offset end.last.offset start.first.axis end.first.axis
     → AreOutBeside x.square x.sweep.now (point_of x.grid.now x.ray.now) x.scale x.from x.to j k
 apart_between x j k start end fits at_j at_k apart =
     apart_out x.sweep.now (point_of x.grid.now x.ray.now) x.scale x.from x.to j k x.square _ _ _ _ _ _ (ray_line x.grid.now x.ray.now) x.some at_j.stands at_k.stands
-    (subst (λ f. AreApart f start.first.offset end.first.offset start.last.offset end.last.offset start.first.axis end.first.axis) (to_z-of_z w64 x.square fits) apart)
+    (subst (λ f. AreMissed f start.first.offset end.first.offset start.last.offset end.last.offset start.first.axis end.first.axis) (to_z-of_z w64 x.square fits) apart)
 
 -- nothing is left outside of the whole stretch
 pub around_whole : (x : Searched) (j levels : ℕ) → levels ≤ 10

@@ -7,9 +7,10 @@ use Rattle.space.proofs.Solver.{Term, var, num, add, mul, ring}
 use Rattle.space.proofs.Terms.{dots, from}
 use Rattle.bern_form.specs.Cells.{dot_on_cell}
 use Rattle.bern_form.specs.Forms.{lifted}
-use Rattle.ray_runs.specs.Apart.{AreAbove, AreBeside, AreBesideAt}
-use Rattle.ray_runs.specs.Moments.{middle_moment, moment, moment_product, vector_product}
-use Rattle.ray_runs.proofs.Fives.{each_of_five}
+use Rattle.ray_runs.specs.Missed.{AreAbove, AreBeside, AreBesideAt}
+use Rattle.moment_forms.specs.Moments.{middle_moment, moment, moment_product, vector_product}
+use Rattle.moment_forms.proofs.Fives.{each_of_five}
+use Rattle.moment_forms.proofs.Middle.{five_same}
 
 above_same : (f r r' x x' y y' z z' : ℤ) → r ≡ r' → x ≡ x' → y ≡ y' → z ≡ z' → AreAbove f r x y z → AreAbove f r' x' y' z'
 above_same f r r' x x' y y' z z' er ex ey ez h =
@@ -63,13 +64,6 @@ cross_term k = add (mul (from 0 k) (from 3 k)) (mul (from 3 k) (from 0 k))
 
 abbrev crosses : Term
 crosses = add (add (cross_term 0) (cross_term 1)) (cross_term 2)
-
-pub three_same : (x0 x1 x2 y0 y1 y2 : ℤ) → x0 ≡ y0 → x1 ≡ y1 → x2 ≡ y2 → ◌≡◌ {A = List ℤ} (x0 ∷ x1 ∷ x2 ∷ []) (y0 ∷ y1 ∷ y2 ∷ [])
-three_same x0 x1 x2 y0 y1 y2 e0 e1 e2 = λ i. e0 i ∷ e1 i ∷ e2 i ∷ []
-
-pub five_same : (x0 x1 x2 x3 x4 y0 y1 y2 y3 y4 : ℤ) → x0 ≡ y0 → x1 ≡ y1 → x2 ≡ y2 → x3 ≡ y3 → x4 ≡ y4
-    → ◌≡◌ {A = List ℤ} (x0 ∷ x1 ∷ x2 ∷ x3 ∷ x4 ∷ []) (y0 ∷ y1 ∷ y2 ∷ y3 ∷ y4 ∷ [])
-five_same x0 x1 x2 x3 x4 y0 y1 y2 y3 y4 e0 e1 e2 e3 e4 = λ i. e0 i ∷ e1 i ∷ e2 i ∷ e3 i ∷ e4 i ∷ []
 
 pub raised_same : (x0 x1 x2 x3 x4 : ℤ) (a c : List ℤ) → x0 ≡ dot a a → x1 ≡ pos 2 *ℤ dot a a +ℤ pos 2 *ℤ dot a c → x2 ≡ (dot a a +ℤ pos 4 *ℤ dot a c) +ℤ dot c c
     → x3 ≡ pos 2 *ℤ dot a c +ℤ pos 2 *ℤ dot c c → x4 ≡ dot c c → ◌≡◌ {A = List ℤ} (x0 ∷ x1 ∷ x2 ∷ x3 ∷ x4 ∷ []) (lifted (dot_on_cell a c a c))

@@ -6,7 +6,7 @@ use Rattle.space.proofs.Solver.{Term, var, num, add, mul, ring}
 use Rattle.space.proofs.Terms.{from, sub}
 use Rattle.bern_form.specs.Forms.{product22}
 use Rattle.ray_runs.proofs.Convex.{product_natural}
-use Rattle.ray_runs.proofs.Fives.{each_of_five}
+use Rattle.moment_forms.proofs.Fives.{each_of_five}
 use Rattle.ray_runs.proofs.Parts.{crossed, squared, summed, weight}
 
 -- a cell of a stretch of s cells, with v cells before it and x after it, by its weights at both ends
@@ -52,7 +52,7 @@ factor_natural s z some h =
     (λ no. omega (arith, ints, no))
     (sign_of (pos 0 -ℤ z))
 
--- a number that is above 0, or below it, so many times
+-- a multiple of a number that is above 0, or below it
 times_more : (m z : ℤ) → pos 0 ≤ℤ m → pos 0 <ℤ z → m ≤ℤ (m *ℤ z)
 times_more m z h some =
     let more = product_natural m (z -ℤ pos 1) h (omega (arith, ints, some)) in
@@ -66,7 +66,7 @@ times_less m z h some =
     ring (m ∷ z ∷ []) (mul (var 0) (sub (num (negsuc 0)) (var 1))) (sub (sub (num (pos 0)) (var 0)) (mul (var 0) (var 1))) refl in
     let left = subst (λ t. pos 0 ≤ℤ t) e more in omega (arith, ints, left)
 
--- so many of each of three numbers, and of five
+-- sums of multiples of three numbers, and of five
 pub three_negative : (m0 m1 m2 c0 c1 c2 : ℤ) → pos 0 ≤ℤ m0 → pos 0 ≤ℤ m1 → pos 0 ≤ℤ m2 → pos 0 <ℤ ((m0 +ℤ m1) +ℤ m2)
     → c0 <ℤ pos 0 → c1 <ℤ pos 0 → c2 <ℤ pos 0 → ((m0 *ℤ c0 +ℤ m1 *ℤ c1) +ℤ m2 *ℤ c2) <ℤ pos 0
 three_negative m0 m1 m2 c0 c1 c2 n0 n1 n2 some h0 h1 h2 =
@@ -105,7 +105,7 @@ summed_less f m r x =
 difference_positive : (a b : ℤ) → a <ℤ b → pos 0 <ℤ (b -ℤ a)
 difference_positive a b h = omega (arith, ints, h)
 
--- t times R and t times X are such sums, so X is as far above as what they are made of
+-- t times R and t times X are such sums, so X is above its limit as the terms of the sums are
 pub above_of_sums : (t f R X : ℤ) (m r x : ℕ → ℤ) → pos 0 <ℤ t → AreNatural m → pos 0 <ℤ total m → t *ℤ R ≡ summed m r → t *ℤ X ≡ summed m x
     → ((k : ℕ) → k < 5 → (f *ℤ r k) <ℤ (pos 4 *ℤ x k)) → (f *ℤ R) <ℤ (pos 4 *ℤ X)
 above_of_sums t f R X m r x some n more er ex h =

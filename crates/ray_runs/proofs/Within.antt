@@ -1,16 +1,17 @@
 -- Where points are apart on a stretch they are so on each of its cells, so no slab is left on any.
 use Rattle.std.proofs.Common.{◌≡◌, ℕ, ◌+◌, ◌-◌, ◌*◌, ◌<◌, List, ℤ, pos, ◌+ℤ◌, ◌*ℤ◌, ◌-ℤ◌, ◌≤ℤ◌, ◌<ℤ◌, inl, inr, [], ◌∷◌, arith, refl, subst, sym, ap, ⊎_elim, ◌∙◌}
 use Rattle.std.proofs.lemmas.Int.{ints}
-use Rattle.space.specs.Motion.{Motion, axis_at, between, offset, offset_at}
+use Rattle.space.specs.Sweeps.{SweepOf, axis_at, between, offset, offset_at}
 use Rattle.space.specs.Vectors.{at}
 use Rattle.space.proofs.Solver.{Term, var, add, mul, ring}
 use Rattle.space.proofs.Terms.{sub}
 use Rattle.bern_form.specs.Cells.{dot_on_cell}
 use Rattle.bern_form.specs.Forms.{lifted}
-use Rattle.box_bisect.proofs.RayLines.{IsLine}
-use Rattle.ray_runs.specs.Apart.{AreApart, AreBeside, AreOutBeside, IsBehind, IsPairAt}
-use Rattle.ray_runs.specs.Moments.{moment_product}
-use Rattle.ray_runs.proofs.Boxes.{apart_at, apart_same, middle_is}
+use Rattle.ray_boxes.proofs.Lines.{IsLine}
+use Rattle.ray_runs.specs.Missed.{AreBeside, AreMissed, AreOutBeside, IsBehind, IsPairAt}
+use Rattle.moment_forms.specs.Moments.{moment_product}
+use Rattle.ray_runs.proofs.Boxes.{apart_at, apart_same}
+use Rattle.moment_forms.proofs.Middle.{middle_is}
 use Rattle.ray_runs.proofs.Parts.{AreMixed, IsMixed, dot_part, mean2, moment_part, raised_part, turn_parts, weight}
 use Rattle.ray_runs.proofs.Weights.{IsCut, above_of_sums, crossed_natural, crossed_positive, factor_natural, factor_negative, more_positive, natural_of, positive_more, product_positive, squared_natural, sum_natural, summed_natural, three_negative, weight_natural, weight_some, whole_positive}
 
@@ -50,7 +51,7 @@ beside_within s w v x y f p p' q q' a c P P' Q Q' A C cut hp hq ha beside k l =
     }
 
 apart_within : (s w v x y f : ℤ) (p p' q q' a c P P' Q Q' A C : List ℤ) → IsCut s w v x y → AreMixed s w v x y p p' P P' → AreMixed s w v x y q q' Q Q' → AreMixed s w v x y a c A C
-    → AreApart f p p' q q' a c → AreApart f P P' Q Q' A C
+    → AreMissed f p p' q q' a c → AreMissed f P P' Q Q' A C
 apart_within s w v x y f p p' q q' a c P P' Q Q' A C cut hp hq ha apart =
     ⊎_elim (λ behind. inl (behind_within s w v x y p p' a c P P' A C cut hp ha behind.0, behind_within s w v x y q q' a c Q Q' A C cut hq ha behind.1))
     (λ beside. inr (beside_within s w v x y f p p' q q' a c P P' Q Q' A C cut hp hq ha beside)) apart
@@ -77,7 +78,7 @@ offset_mixed s w v i j k S p f t es ei =
     let linear = between_mixed s w v i j k S f t es ei in
     before ∙ (λ z. es z *ℤ (S *ℤ p) -ℤ linear z) ∙ after
 
-offsets_mixed : (m : Motion) (p : List ℤ) (s w v : ℤ) (i j k S : ℕ) → s ≡ w +ℤ v → s *ℤ pos i ≡ w *ℤ pos j +ℤ v *ℤ pos k
+offsets_mixed : (m : SweepOf) (p : List ℤ) (s w v : ℤ) (i j k S : ℕ) → s ≡ w +ℤ v → s *ℤ pos i ≡ w *ℤ pos j +ℤ v *ℤ pos k
     → IsMixed s w v (offset_at m p (pos j) (pos S)) (offset_at m p (pos k) (pos S)) (offset_at m p (pos i) (pos S))
 offsets_mixed m p s w v i j k S es ei = record {
   x = offset_mixed s w v (pos i) (pos j) (pos k) (pos S) (at p 0) (at m.from 0) (at m.to 0) es ei;
@@ -85,7 +86,7 @@ offsets_mixed m p s w v i j k S es ei = record {
   z = offset_mixed s w v (pos i) (pos j) (pos k) (pos S) (at p 2) (at m.from 2) (at m.to 2) es ei;
 }
 
-axes_mixed : (m : Motion) (s w v : ℤ) (i j k S : ℕ) → s ≡ w +ℤ v → s *ℤ pos i ≡ w *ℤ pos j +ℤ v *ℤ pos k
+axes_mixed : (m : SweepOf) (s w v : ℤ) (i j k S : ℕ) → s ≡ w +ℤ v → s *ℤ pos i ≡ w *ℤ pos j +ℤ v *ℤ pos k
     → IsMixed s w v (axis_at m (pos j) (pos S)) (axis_at m (pos k) (pos S)) (axis_at m (pos i) (pos S))
 axes_mixed m s w v i j k S es ei = record {
   x = between_mixed s w v (pos i) (pos j) (pos k) (pos S) (at m.axis_from 0) (at m.axis_to 0) es ei;
@@ -93,19 +94,19 @@ axes_mixed m s w v i j k S es ei = record {
   z = between_mixed s w v (pos i) (pos j) (pos k) (pos S) (at m.axis_from 2) (at m.axis_to 2) es ei;
 }
 
-offset_ends : (m : Motion) (p : List ℤ) (s w v x y : ℤ) (i j k S : ℕ) → s ≡ w +ℤ v → s *ℤ pos i ≡ w *ℤ pos j +ℤ v *ℤ pos k → s ≡ x +ℤ y → s *ℤ pos (i + 1) ≡ x *ℤ pos j +ℤ y *ℤ pos k
+offset_ends : (m : SweepOf) (p : List ℤ) (s w v x y : ℤ) (i j k S : ℕ) → s ≡ w +ℤ v → s *ℤ pos i ≡ w *ℤ pos j +ℤ v *ℤ pos k → s ≡ x +ℤ y → s *ℤ pos (i + 1) ≡ x *ℤ pos j +ℤ y *ℤ pos k
     → AreMixed s w v x y (offset_at m p (pos j) (pos S)) (offset_at m p (pos k) (pos S)) (offset_at m p (pos i) (pos S)) (offset_at m p (pos (i + 1)) (pos S))
 offset_ends m p s w v x y i j k S start place end next = record { start = offsets_mixed m p s w v i j k S start place; end = offsets_mixed m p s x y (i + 1) j k S end next }
 
 -- the points from one index to another are apart between the samples j and k
-abbrev AreApartBetween : ℤ → Motion → (ℕ → List ℤ) → ℕ → ℕ → ℕ → ℕ → ℕ → Type 0
-AreApartBetween f m point S from to j k =
-    AreApart f (offset_at m (point from) (pos j) (pos S)) (offset_at m (point from) (pos k) (pos S))
+abbrev AreMissedBetween : ℤ → SweepOf → (ℕ → List ℤ) → ℕ → ℕ → ℕ → ℕ → ℕ → Type 0
+AreMissedBetween f m point S from to j k =
+    AreMissed f (offset_at m (point from) (pos j) (pos S)) (offset_at m (point from) (pos k) (pos S))
     (offset_at m (point to) (pos j) (pos S)) (offset_at m (point to) (pos k) (pos S)) (axis_at m (pos j) (pos S)) (axis_at m (pos k) (pos S))
 
 -- v cells into a stretch, with x cells after it
-apart_on_cell : (f : ℤ) (m : Motion) (point : ℕ → List ℤ) (S from to j v x : ℕ)
-    → AreApartBetween f m point S from to j (j + (v + (x + 1))) → AreApartBetween f m point S from to (j + v) (j + v + 1)
+apart_on_cell : (f : ℤ) (m : SweepOf) (point : ℕ → List ℤ) (S from to j v x : ℕ)
+    → AreMissedBetween f m point S from to j (j + (v + (x + 1))) → AreMissedBetween f m point S from to (j + v) (j + v + 1)
 apart_on_cell f m point S from to j v x apart =
     let k = j + (v + (x + 1)) in let i = j + v in let s = pos (v + (x + 1)) in let w = pos (x + 1) in let y = pos (v + 1) in
     let first : (v + (x + 1)) * i ≡ (x + 1) * j + v * k = omega arith in
@@ -118,17 +119,17 @@ apart_on_cell f m point S from to j v x apart =
     (record { start = axes_mixed m s w (pos v) i j k S start place; end = axes_mixed m s (pos x) y (i + 1) j k S end next }) apart
 
 -- so no slab is left on any of its cells
-out_of_apart : (m : Motion) (point : ℕ → List ℤ) (S from to j k : ℕ) (f : ℤ) → IsLine point → 0 < S → AreApartBetween f m point S from to j k → AreOutBeside f m point S from to j k
+out_of_apart : (m : SweepOf) (point : ℕ → List ℤ) (S from to j k : ℕ) (f : ℤ) → IsLine point → 0 < S → AreMissedBetween f m point S from to j k → AreOutBeside f m point S from to j k
 out_of_apart m point S from to j k f line some apart slabs most e narrow l after before = record {
   none = λ c h b.
       let v = c - j in let x = k - (c + 1) in
       let ek : k ≡ j + (v + (x + 1)) = omega arith in let ec : j + v ≡ c = omega arith in
-      let here = apart_on_cell f m point S from to j v x (subst (λ z. AreApartBetween f m point S from to j z) ek apart) in
-      let cell = subst (λ z. AreApartBetween f m point S from to z (z + 1)) ec here in
+      let here = apart_on_cell f m point S from to j v x (subst (λ z. AreMissedBetween f m point S from to j z) ek apart) in
+      let cell = subst (λ z. AreMissedBetween f m point S from to z (z + 1)) ec here in
       (apart_at m point S from to c 0 f line some cell slabs most e narrow l after before).none c (omega arith) (omega arith);
 }
 
-pub apart_out : (m : Motion) (point : ℕ → List ℤ) (S from to j k : ℕ) (f : ℤ) (p q a p' q' c : List ℤ) → IsLine point → 0 < S → IsPairAt m point from to j S p q a
-    → IsPairAt m point from to k S p' q' c → AreApart f p p' q q' a c → AreOutBeside f m point S from to j k
+pub apart_out : (m : SweepOf) (point : ℕ → List ℤ) (S from to j k : ℕ) (f : ℤ) (p q a p' q' c : List ℤ) → IsLine point → 0 < S → IsPairAt m point from to j S p q a
+    → IsPairAt m point from to k S p' q' c → AreMissed f p p' q q' a c → AreOutBeside f m point S from to j k
 apart_out m point S from to j k f p q a p' q' c line some x y apart =
     out_of_apart m point S from to j k f line some (apart_same f p p' q q' a c _ _ _ _ _ _ x.first y.first x.last y.last x.axis y.axis apart)

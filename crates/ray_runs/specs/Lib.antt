@@ -1,6 +1,5 @@
 pub mod Sizes
 pub mod Between
-pub mod Moments
-pub mod Apart
+pub mod Missed
 pub mod Open
 pub mod Searched

@@ -1,7 +1,7 @@
--- How the points that are searched stand at a sample of the move.
+-- Where the points that are searched lie at a sample of the move.
 use Rattle.std.specs.Prelude.{ℕ, IsTrue}
 use Rattle.ray_grid.specs.Lattice.{point_of}
-use Rattle.ray_runs.specs.Apart.{AreBesideAt, IsPairAt}
+use Rattle.ray_runs.specs.Missed.{AreBesideAt, IsPairAt}
 use Rattle.ray_runs.specs.declared.pair.Pair.{Pair}
 use Rattle.ray_runs.specs.declared.searched.Searched.{Searched}
 

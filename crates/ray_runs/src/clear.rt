@@ -2,13 +2,12 @@ ghost use Rattle.std.specs.Prelude.{ℕ, ◌^◌, ◌<◌, ◌≤◌, All, unsig
 ghost use Rattle.std.specs.Option.{MatchOption};
 ghost use Rattle.cutter_slabs.specs.Rising.{IsRising};
 ghost use Rattle.ray_grid.specs.Lattice.{IsRay, point_of, points_of};
-ghost use Rattle.ray_runs.specs.Apart.{IsNoWider};
 ghost use Rattle.ray_runs.specs.Between.{AreClear};
+ghost use Rattle.ray_runs.specs.Missed.{IsNoWider};
 ghost use Rattle.ray_runs.specs.Open.{IsOpenOnly};
 
-use crate::length::scaled_square;
 use crate::searched::Searched;
-use axis_cells::{Sweep, cells_of};
+use axis_cells::{Sweep, cells_of, short_scaled_square};
 use bern_form::Slab;
 use cutter_slabs::Stacks;
 use ray_grid::{Grid, Ray};
@@ -24,8 +23,8 @@ pub struct OpenStretch {
 /// longer stretches; more of them settle hardly any more.
 const HALVINGS: u32 = 8;
 
-/// Moves of more than 2^`CUT_FROM` cells are cut once ahead of the halves. It is a matter of speed alone: the halves of a shorter move
-/// soon come to an end, and the cut would cost more than it saves.
+/// Moves of more than 2^`CUT_FROM` cells are cut once before the halves. Any number is right, it only matters for speed: the halves of a
+/// shorter move soon come to an end, and the cut would cost more than it saves.
 const CUT_FROM: u32 = 4;
 
 /// The diameter of the widest of the slabs, which is the highest.
@@ -60,11 +59,11 @@ pub fn open_stretch(
     ensures { MatchOption result (AreClear stacks.now sweep.now (point_of grid.now ray.now) (2 ^ depth) from to)
         (λ s. IsOpenOnly s stacks.now sweep.now (point_of grid.now ray.now) (2 ^ depth) from to) }
 {
-    // A sweep is valid by its type, which is known where a field of it is seen. What is sure is possible, by the inner stack.
+    // Reading a field of the sweep gives the prover its invariant. What is sure is possible, by the inner stack.
     let _valid = &sweep.from;
     let _inner = stacks.inner();
     let scale = cells_of(depth);
-    let square = scaled_square(scale, widest(stacks.outer()));
+    let square = short_scaled_square(scale, widest(stacks.outer()));
     let searched = Searched {
         sweep,
         grid,

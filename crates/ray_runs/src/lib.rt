@@ -1,18 +1,13 @@
 //! What a long move does to many points of a ray at once: a run of them that it cuts, or that it meets none.
 #![tactic(auto)]
 
-mod apart;
 mod clear;
-mod forms;
-mod length;
 mod likely;
-mod moments;
+mod missed;
 mod pair;
 mod run;
 mod searched;
 mod slab_at;
 
 pub use clear::{OpenStretch, open_stretch};
-pub use forms::heights;
-pub use moments::Moments;
 pub use run::{Run, sure_run};

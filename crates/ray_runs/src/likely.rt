@@ -6,7 +6,7 @@ ghost use Rattle.ray_runs.specs.Sizes.{moment_limit, short_limit};
 
 use axis_cells::Sweep;
 
-// A guess: which sample it is changes how long a run is found, and never whether it is one. So nothing is said of these numbers but
+// A guess: which sample it is changes how long a run is found, and never whether it is one. So nothing is said of these numbers except
 // that they fit.
 
 /// The difference of two numbers of 32 bits.

@@ -1,14 +1,14 @@
 ghost use Rattle.std.specs.Prelude.{◌≡◌, IsTrue};
 ghost use Rattle.space.specs.Ranges.{IsWithin};
-ghost use Rattle.ray_runs.specs.Apart.{AreBehindAt};
-ghost use Rattle.ray_runs.specs.Moments.{moment};
-ghost use Rattle.ray_runs.specs.Sizes.{turn_limit};
+ghost use Rattle.ray_runs.specs.Missed.{AreBehindAt};
+ghost use Rattle.moment_forms.specs.Moments.{moment};
+ghost use Rattle.moment_forms.specs.Sizes.{moments_limit};
 
-use crate::apart::{are_behind_at, are_beside_at};
-use crate::moments::moment;
+use crate::missed::{are_behind_at, are_beside_at};
 use axis_cells::Pose;
+use moment_forms::moment;
 
-/// Where two points of a ray stand towards the cutter at one sample, and what is the same for the stretches before it and after it:
+/// Where two points of a ray are relative to the cutter at one sample, and what is the same for the stretches before it and after it:
 /// their moments, whether both are behind the tip, and whether both are beside a diameter.
 #[derive(Drop)]
 pub struct Pair {
@@ -20,13 +20,13 @@ pub struct Pair {
     pub is_beside: bool,
     ghost first_is: { first_moment ≡ moment first.offset first.axis },
     ghost last_is: { last_moment ≡ moment last.offset first.axis },
-    ghost first_small: { IsWithin turn_limit first_moment },
-    ghost last_small: { IsWithin turn_limit last_moment },
+    ghost first_small: { IsWithin moments_limit first_moment },
+    ghost last_small: { IsWithin moments_limit last_moment },
     ghost behind: { IsTrue is_behind → AreBehindAt first.offset last.offset first.axis },
 }
 
 impl Pair {
-    ghost use Rattle.ray_runs.specs.Apart.{AreBesideAt};
+    ghost use Rattle.ray_runs.specs.Missed.{AreBesideAt};
 
     /// Whether no stretch that begins or ends at the sample is found to be clear.
     #[inline]
@@ -34,7 +34,7 @@ impl Pair {
         !self.is_behind && !self.is_beside
     }
 
-    /// Two points by where they stand, and the scaled square of a diameter.
+    /// Two points by their poses, and the scaled square of a diameter.
     pub fn of_poses(first: Pose, last: Pose, square: i64) -> Pair
         ensures first { result.first ≡ first }
         ensures last { result.last ≡ last }

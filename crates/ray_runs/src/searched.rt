@@ -3,9 +3,9 @@ ghost use Rattle.bern_form.specs.Sizes.{scale_limit};
 ghost use Rattle.ray_grid.specs.Lattice.{IsRay, points_of};
 ghost use Rattle.ray_runs.specs.Open.{joined_stretch};
 
-use crate::apart::are_apart;
 use crate::clear::OpenStretch;
 use crate::likely::likely_sample;
+use crate::missed::are_missed;
 use crate::pair::Pair;
 use axis_cells::{Pose, Sweep, cells_of};
 use ray_grid::{Grid, Ray};
@@ -56,7 +56,7 @@ fn are_open(start: &Pair, end: &Pair) -> bool {
 impl<'a> Searched<'a> {
     ghost use Rattle.std.specs.Prelude.{◌+◌, ◌^◌, ◌≤◌, IsTrue};
     ghost use Rattle.ray_grid.specs.Lattice.{point_of};
-    ghost use Rattle.ray_runs.specs.Apart.{AreOutBeside};
+    ghost use Rattle.ray_runs.specs.Missed.{AreOutBeside};
     ghost use Rattle.ray_runs.specs.Open.{AreOutBut};
     ghost use Rattle.ray_runs.specs.Searched.{IsPairOf};
 
@@ -82,7 +82,7 @@ impl<'a> Searched<'a> {
 
     /// The part of the stretch between the sample `j` and the one 2^`levels` after it outside of which no slab that is no wider than the
     /// diameter is left, for all the points: none where they are clear throughout. Where that is not found by the stretch itself, both
-    /// its halves are asked, down to stretches of 2^`stop` cells, but where a sample shows that both are open.
+    /// halves are searched, down to stretches of 2^`stop` cells, except where a sample shows that both are open.
     #[cycle(halves)]
     pub fn open_in(&self, start: &Pair, end: &Pair, j: u32, levels: u32) -> Option<OpenStretch>
         requires levels { levels ≤ 10 }
@@ -92,7 +92,7 @@ impl<'a> Searched<'a> {
         ensures { let x = self.now in
             AreOutBut result x.square x.sweep.now (point_of x.grid.now x.ray.now) x.scale x.from x.to j (j + 2 ^ levels) }
     {
-        if are_apart(start, end, self.square) {
+        if are_missed(start, end, self.square) {
             return None;
         }
         let whole = OpenStretch { first: j, levels };
@@ -113,7 +113,7 @@ impl<'a> Searched<'a> {
     }
 
     /// Whether one cut of the move's time shows at once that all the points are clear: at the sample at which the middle one is likely to
-    /// be nearest to the axis. Where that isn't shown nothing is said.
+    /// be nearest to the axis. Where that isn't shown the answer says nothing.
     pub fn are_clear_by_cut(&self, start: &Pair, end: &Pair) -> bool
         requires start { IsPairOf self.now 0 start.now }
         requires end { IsPairOf self.now self.now.scale end.now }
@@ -131,9 +131,9 @@ impl<'a> Searched<'a> {
         if pair.is_open() {
             return false;
         }
-        if !are_apart(start, &pair, self.square) {
+        if !are_missed(start, &pair, self.square) {
             return false;
         }
-        are_apart(&pair, end, self.square)
+        are_missed(&pair, end, self.square)
     }
 }

@@ -3,7 +3,7 @@ use Rattle.std.proofs.Common.{◌≡◌, ◌∙◌, ℕ, ◌+◌, ◌<◌, ◌�
 use Rattle.std.proofs.lemmas.List.{get_or_default}
 use Rattle.std.proofs.lemmas.List.Folds.{list_all_more}
 use Rattle.ray_grid.specs.Selects.{Selects}
-use Rattle.ray_shapes.specs.declared.half_line.Interval.{Interval}
+use Rattle.ray_shapes.specs.declared.half_line.IndexRange.{IndexRange}
 use Rattle.ray_shapes.specs.declared.line.Line.{Line}
 use Rattle.ray_shapes.specs.declared.plane.Plane.{Plane}
 use Rattle.std.specs.Prelude.{IsTrue}
@@ -21,7 +21,7 @@ holds_same planes n plane e point there =
     λ i. plane_holds (record { a = there.a e i; b = there.b e i; c = there.c e i; d = there.d e i }) point
 
 -- one plane more
-pub one_more : (planes : List Plane) (n : ℕ) (plane : Plane) (line : Line) (part next : Interval) → IsPlaneAt planes n plane → IsPartOf planes line n part
+pub one_more : (planes : List Plane) (n : ℕ) (plane : Plane) (line : Line) (part next : IndexRange) → IsPlaneAt planes n plane → IsPartOf planes line n part
     → next.lo ≤ next.hi → next.hi ≤ part.hi
     → Selects next.lo next.hi (λ l. (part.lo ≤ l) × (l < part.hi) × IsTrue (plane_holds plane (point_on line l)))
     → IsPartOf planes line (n + 1) next
@@ -41,7 +41,7 @@ one_more planes n plane line part next there is order within exact = record {
       );
 }
 
--- a plane with the coefficients and the limit of one that stands there
+-- a plane with the coefficients and the limit of the one that is there
 pub side_at : (planes : List Plane) (n : ℕ) (e : Plane) (a b c : ℤ) (plane : Plane) → plane ≡ record { a = a; b = b; c = c; d = (get_or planes n e).d }
     → n < length planes → ((d : Plane) → IsSide a b c (get_or planes n d)) → IsPlaneAt planes n plane
 side_at planes n e a b c plane same lt is =
@@ -54,7 +54,7 @@ side_at planes n e a b c plane same lt is =
       d = λ f. ap (λ (p : Plane). p.d) (get_or_default planes n f e lt);
     })
 
--- what stands in a place, whatever is read past the end
+-- what is in a place, whatever is read past the end
 pub plane_at : (planes : List Plane) (n : ℕ) (e : Plane) → n < length planes → IsPlaneAt planes n (get_or planes n e)
 plane_at planes n e lt = record {
   within = lt;

@@ -6,7 +6,7 @@ use Rattle.std.proofs.lemmas.List.Folds.{list_any_more, list_all-append}
 use Rattle.std.proofs.lemmas.List.{take-append-drop, get_or_default}
 use native.Mathlib.Decide.{dec_le}
 use mathlib.Core.Logic.{dite}
-use Rattle.ray_shapes.specs.declared.half_line.Interval.{Interval}
+use Rattle.ray_shapes.specs.declared.half_line.IndexRange.{IndexRange}
 use Rattle.ray_shapes.specs.Parts.{is_in, covers_some, InOrder}
 
 -- what all elements pass, the first of them pass
@@ -27,21 +27,21 @@ absorbed held before true same covered = covered refl ∙ sym (or_true before)
 absorbed held before false same covered = same ∙ or_false before
 
 -- what is covered with one more interval
-covers_more : (parts : List Interval) (k i : ℕ) (part : Interval) → k < length parts → get_or parts k part ≡ part → covers_some (take (k + 1) parts) i ≡ (covers_some (take k parts) i || is_in i part)
-covers_more parts k i part lt is = list_any_more (is_in i) parts k part lt ∙ ap (λ (p : Interval). covers_some (take k parts) i || is_in i p) is
+covers_more : (parts : List IndexRange) (k i : ℕ) (part : IndexRange) → k < length parts → get_or parts k part ≡ part → covers_some (take (k + 1) parts) i ≡ (covers_some (take k parts) i || is_in i part)
+covers_more parts k i part lt is = list_any_more (is_in i) parts k part lt ∙ ap (λ (p : IndexRange). covers_some (take k parts) i || is_in i p) is
 
 and_second : (a : Bool) (i n : ℕ) → (a && ltb i n) ≡ true → i < n
 and_second a i n h = ltb-true i n (and_parts a (ltb i n) h).1
 
-in_parts : (i : ℕ) (part : Interval) → is_in i part ≡ true → (part.lo ≤ i) × (i < part.hi)
+in_parts : (i : ℕ) (part : IndexRange) → is_in i part ≡ true → (part.lo ≤ i) × (i < part.hi)
 in_parts i part h = let q = and_parts (leb part.lo i) (ltb i part.hi) h in (leb-true part.lo i q.0, ltb-true i part.hi q.1)
 
 -- a part that lies before the end of what is held, and begins after its first index, adds nothing; an empty one neither
-pub nothing_new : (i from end : ℕ) (part : Interval) (held : Bool) → from ≤ part.lo → (from ≤ i → i < end → IsTrue held) → part.hi ≤ max part.lo end → held ≡ (held || is_in i part)
+pub nothing_new : (i from end : ℕ) (part : IndexRange) (held : Bool) → from ≤ part.lo → (from ≤ i → i < end → IsTrue held) → part.hi ≤ max part.lo end → held ≡ (held || is_in i part)
 nothing_new i from end part held low full beyond =
     absorbed held held (is_in i part) refl (λ t. let q = in_parts i part t in let a = q.0 in let b = q.1 in full (omega arith) (omega arith))
 
-pub empty_part : (i : ℕ) (part : Interval) (held : Bool) → part.hi ≤ part.lo → held ≡ (held || is_in i part)
+pub empty_part : (i : ℕ) (part : IndexRange) (held : Bool) → part.hi ≤ part.lo → held ≡ (held || is_in i part)
 empty_part i part held none = absorbed held held (is_in i part) refl (λ t. absurd (let q = in_parts i part t in let a = q.0 in let b = q.1 in omega arith))
 
 same_test : (m n i : ℕ) → (m ≤ i → n ≤ i) → (n ≤ i → m ≤ i) → leb m i ≡ leb n i
@@ -51,7 +51,7 @@ same_test m n i p q =
     (λ no. lt-leb m i (omega arith) ∙ sym (lt-leb n i (dite (dec_le n i) (λ ge. absurd (no (q ge))) (λ lt. omega arith))))
 
 -- of a part only what lies beyond the end of what is held has to be added
-pub beyond_end : (i from end : ℕ) (part : Interval) (held new : Bool) → from ≤ part.lo → (from ≤ i → i < end → IsTrue held)
+pub beyond_end : (i from end : ℕ) (part : IndexRange) (held new : Bool) → from ≤ part.lo → (from ≤ i → i < end → IsTrue held)
     → new ≡ (held || (leb (max part.lo end) i && ltb i part.hi)) → new ≡ (held || is_in i part)
 beyond_end i from end part held new low full pushed =
     dite (dec_le end i)
@@ -64,7 +64,7 @@ beyond_end i from end part held new low full pushed =
     ∙ absorbed held held (is_in i part) refl (λ t. let q = in_parts i part t in let a = q.0 in full (omega arith) (omega arith)))
 
 -- what covers the parts so far, and then one more, covers them with that one
-pub part_more : (parts : List Interval) (k i : ℕ) (part : Interval) (held next : Bool) → k < length parts → get_or parts k part ≡ part → held ≡ covers_some (take k parts) i
+pub part_more : (parts : List IndexRange) (k i : ℕ) (part : IndexRange) (held next : Bool) → k < length parts → get_or parts k part ≡ part → held ≡ covers_some (take k parts) i
     → next ≡ (held || is_in i part) → next ≡ covers_some (take (k + 1) parts) i
 part_more parts k i part held next lt is before added = added ∙ ap (λ b. b || is_in i part) before ∙ sym (covers_more parts k i part lt is)
 
@@ -84,11 +84,11 @@ full_push false new i lo hi pushed full lt =
     (λ no. let q : false ≡ true = full (omega arith) in cc)
 
 -- the element of a place, whatever is read past the end
-pub read_itself : (parts : List Interval) (k : ℕ) (d : Interval) → k < length parts → get_or parts k (get_or parts k d) ≡ get_or parts k d
+pub read_itself : (parts : List IndexRange) (k : ℕ) (d : IndexRange) → k < length parts → get_or parts k (get_or parts k d) ≡ get_or parts k d
 read_itself parts k d lt = get_or_default parts k (get_or parts k d) d lt
 
-pub later : (parts : List Interval) (k m : ℕ) (d e : Interval) → InOrder parts → k ≤ m → m < length parts → (get_or parts k d).lo ≤ (get_or parts m e).lo
+pub later : (parts : List IndexRange) (k m : ℕ) (d e : IndexRange) → InOrder parts → k ≤ m → m < length parts → (get_or parts k d).lo ≤ (get_or parts m e).lo
 later parts k m d e order le lt =
     let up = order k m e le lt in
-    let same = ap (λ (p : Interval). p.lo) (get_or_default parts k d e (omega arith)) in
+    let same = ap (λ (p : IndexRange). p.lo) (get_or_default parts k d e (omega arith)) in
     omega arith

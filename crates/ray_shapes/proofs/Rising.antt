@@ -85,7 +85,7 @@ falls start (negsuc k) limit a b steps ab first last =
 falls start (pos k) limit a b steps ab first last =
     absurd (first (let rise = up k a (b - a) in let z = ap (λ n. pos k *ℤ pos n) (let same : a + (b - a) ≡ b = omega arith in same) in omega (arith, ints)))
 
--- what a test that says no tells
+-- what follows from a test that says no
 pub told_not : {P : Type 0} (r : Bool) → IsTrue r ↔ P → r ≡ false → ¬ P
 told_not r test other h = let yes = test.1 h in cc
 

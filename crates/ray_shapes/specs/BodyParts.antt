@@ -1,13 +1,13 @@
 -- The part of a line that lies in the first planes of a body.
 use Rattle.std.specs.Prelude.{◌≡◌, ℕ, ◌<◌, ◌≤◌, ◌↔◌, IsTrue, List, length, slice_index_or, take}
-use Rattle.ray_shapes.specs.declared.half_line.Interval.{Interval}
+use Rattle.ray_shapes.specs.declared.half_line.IndexRange.{IndexRange}
 use Rattle.ray_shapes.specs.declared.line.Line.{Line}
 use Rattle.ray_shapes.specs.declared.plane.Plane.{Plane}
 use Rattle.ray_shapes.specs.OnLine.{point_on}
 use Rattle.ray_shapes.specs.Planes.{in_body}
 
--- the interval has just the line's indices whose points the first so many planes hold
-pub record IsPartOf (planes : List Plane) (line : Line) (count : ℕ) (part : Interval) : Type 0 where
+-- the interval has just the line's indices whose points the first `count` planes hold
+pub record IsPartOf (planes : List Plane) (line : Line) (count : ℕ) (part : IndexRange) : Type 0 where
   pub order : part.lo ≤ part.hi
   pub within : part.hi ≤ line.points
   pub exact : (l : ℕ) → ((part.lo ≤ l) × (l < part.hi)) ↔ ((l < line.points) × IsTrue (in_body (take count planes) (point_on line l)))

@@ -33,7 +33,7 @@ fn is_side(plane: &Plane, a: i32, b: i32, c: i32) -> bool
     plane.a == a && plane.b == b && plane.c == c
 }
 
-/// Whether the last six planes are seen to be the sides of a box along the axes.
+/// Whether the last six planes are found to be the sides of a box along the axes.
 fn ends_in_box(planes: &[Plane]) -> bool
     ensures { IsTrue result → EndsInBox planes.now }
 {
@@ -50,6 +50,7 @@ fn ends_in_box(planes: &[Plane]) -> bool
 }
 
 impl Body {
+    /// The body of these planes, with lengths in micrometres. It takes no memory.
     pub fn new(planes: Vec<Plane>) -> Body
         ensures { result ≡ planes.items }
     {
@@ -57,6 +58,7 @@ impl Body {
         Body { planes, is_boxed }
     }
 
+    /// The planes of the body, in order.
     pub fn planes(&self) -> &[Plane]
         ensures { result.now ≡ self.now }
     {
@@ -82,6 +84,7 @@ impl Body {
         })
     }
 
+    /// The list of its planes. It takes no memory.
     pub fn into_planes(self) -> Vec<Plane>
         ensures { result.items ≡ self }
     {
@@ -102,12 +105,14 @@ impl Model for Bodies {
 }
 
 impl Bodies {
+    /// The bodies of a list. It takes no memory.
     pub fn new(bodies: Vec<Body>) -> Bodies
         ensures { result ≡ bodies.items }
     {
         Bodies { bodies }
     }
 
+    /// The bodies, in order.
     pub fn as_slice(&self) -> &[Body]
         ensures { result.now ≡ self.now }
     {
@@ -126,6 +131,7 @@ impl Bodies {
         Ok(Bodies { bodies })
     }
 
+    /// The list of the bodies. It takes no memory.
     pub fn into_vec(self) -> Vec<Body>
         ensures { result.items ≡ self }
     {

@@ -11,7 +11,7 @@ ghost use Rattle.ray_shapes.specs.Parts.{covers_some, InOrder};
 ghost use Rattle.ray_shapes.specs.Sets.{HoldsPointsOf};
 
 use crate::body::Body;
-use crate::half_line::Interval;
+use crate::half_line::IndexRange;
 use crate::line::Line;
 use crate::plane::Plane;
 use ray_grid::{Grid, Ray};
@@ -21,11 +21,11 @@ use vf_spans::Spans;
 
 /// The points of a ray of the grid that lie in some of the bodies.
 ///
-/// A body is the meet of its planes, so on a ray it holds one interval of points. The intervals of
-/// all bodies are laid beside each other in order: as they come, where that is their order already.
+/// A body is the intersection of its planes, so on a ray it holds one interval of points. The intervals of
+/// all bodies are put together in order: as they come, where that is their order already.
 pub fn body_spans(alloc: Global, bodies: &[Body], grid: &Grid, ray: &Ray) -> Result<Spans, NoMemory>
     requires { IsRay grid.now ray.now }
-    ensures { IfOk result (HoldsPointsOf grid.now ray.now (in_bodies bodies.now)) }
+    ensures { IfOk result (HoldsPointsOf grid.now ray.now (λ point. in_bodies bodies.now point.position)) }
 {
     let line = Line::of(grid, ray);
     if let Some(set) = set_in_turn(alloc, bodies, &line)? {
@@ -36,12 +36,12 @@ pub fn body_spans(alloc: Global, bodies: &[Body], grid: &Grid, ray: &Ray) -> Res
 }
 
 /// The part of a line that lies in a body of these planes.
-fn part_in(planes: &[Plane], line: &Line) -> Interval
+fn part_in(planes: &[Plane], line: &Line) -> IndexRange
     ensures order { result.lo ≤ result.hi }
     ensures within { result.hi ≤ line.now.points }
     ensures exact { Selects result.lo result.hi (λ l. (l < line.now.points) × IsTrue (in_body planes.now (point_on line.now l))) }
 {
-    let mut part = Interval {
+    let mut part = IndexRange {
         lo: 0,
         hi: line.points,
     };
@@ -56,7 +56,7 @@ fn part_in(planes: &[Plane], line: &Line) -> Interval
 
 /// The part of an interval that one plane more holds.
 #[inline(always)]
-fn part_with(plane: &Plane, line: &Line, part: Interval) -> Interval
+fn part_with(plane: &Plane, line: &Line, part: IndexRange) -> IndexRange
     requires order { part.lo ≤ part.hi }
     requires within { part.hi ≤ line.now.points }
     ensures order { result.lo ≤ result.hi }
@@ -86,7 +86,7 @@ fn side(a: i32, b: i32, c: i32, other: &Plane) -> Plane
 /// The part of an interval that the sides of a box hold too, which are a body's last six planes. Their coefficients are known here, so
 /// that nothing is multiplied.
 #[inline(always)]
-fn part_in_box(planes: &[Plane], line: &Line, part: Interval) -> Interval
+fn part_in_box(planes: &[Plane], line: &Line, part: IndexRange) -> IndexRange
     requires sides { EndsInBox planes.now }
     requires part { IsPartOf planes.now line.now (length planes.now - 6) part }
     ensures { IsPartOf planes.now line.now (length planes.now) result }
@@ -108,7 +108,7 @@ fn part_in_box(planes: &[Plane], line: &Line, part: Interval) -> Interval
 
 /// The part of a line that lies in a body.
 #[inline(always)]
-fn body_part(body: &Body, line: &Line) -> Interval
+fn body_part(body: &Body, line: &Line) -> IndexRange
     ensures order { result.lo ≤ result.hi }
     ensures within { result.hi ≤ line.now.points }
     ensures exact { Selects result.lo result.hi (λ l. (l < line.now.points) × IsTrue (in_body body.now (point_on line.now l))) }
@@ -121,8 +121,8 @@ fn body_part(body: &Body, line: &Line) -> Interval
     part_in_box(planes, line, part)
 }
 
-/// The set of the parts of a line that lie in the bodies, in one walk over the bodies, where no part begins ahead of the last stretch
-/// of those before it. Of each part what lies beyond them is added. Of other bodies it tells nothing, which costs only time.
+/// The set of the parts of a line that lie in the bodies, in one walk over the bodies, where no part begins before the last stretch
+/// of the parts before it. Of each part what lies beyond them is added. For other bodies it returns `None`, which costs only time.
 fn set_in_turn(alloc: Global, bodies: &[Body], line: &Line) -> Result<Option<Spans>, NoMemory>
     ensures bound { IfOk result (λ found. IfSome found (λ s. length s ≡ line.now.points)) }
     ensures exact { IfOk result (λ found. IfSome found (λ s.
@@ -154,7 +154,7 @@ fn set_in_turn(alloc: Global, bodies: &[Body], line: &Line) -> Result<Option<Spa
 }
 
 /// The parts of a line that lie in the bodies, those that are not empty.
-fn parts_in(alloc: Global, bodies: &[Body], line: &Line) -> Result<Vec<Interval>, NoMemory>
+fn parts_in(alloc: Global, bodies: &[Body], line: &Line) -> Result<Vec<IndexRange>, NoMemory>
     ensures within { IfOk result (λ v. All (λ part. part.hi ≤ line.now.points) v.items) }
     ensures exact { IfOk result (λ v.
         (l : ℕ) → covers_some v.items l ≡ (nat_lt l line.now.points && in_bodies bodies.now (point_on line.now l))) }
@@ -170,7 +170,7 @@ fn parts_in(alloc: Global, bodies: &[Body], line: &Line) -> Result<Vec<Interval>
 }
 
 /// The set of what the parts cover, in any order.
-fn cover(alloc: Global, bound: u32, parts: &mut [Interval]) -> Result<Spans, NoMemory>
+fn cover(alloc: Global, bound: u32, parts: &mut [IndexRange]) -> Result<Spans, NoMemory>
     requires { All (λ part. part.hi ≤ bound) parts.old }
     ensures bound { IfOk result (λ s. length s ≡ bound) }
     ensures covered { IfOk result (λ s. (i : ℕ) → has s i ≡ covers_some parts.old i) }
@@ -179,9 +179,9 @@ fn cover(alloc: Global, bound: u32, parts: &mut [Interval]) -> Result<Spans, NoM
     join(alloc, bound, parts)
 }
 
-/// The set of what the parts cover, which stand in the order of their first indices, in one walk: of
+/// The set of what the parts cover, which are in the order of their first indices, in one walk: of
 /// each part what lies beyond all parts before it is added.
-fn join(alloc: Global, bound: u32, parts: &[Interval]) -> Result<Spans, NoMemory>
+fn join(alloc: Global, bound: u32, parts: &[IndexRange]) -> Result<Spans, NoMemory>
     requires order { InOrder parts.now }
     requires within { All (λ part. part.hi ≤ bound) parts.now }
     ensures bound { IfOk result (λ s. length s ≡ bound) }

@@ -5,7 +5,7 @@ ghost use Rattle.ray_shapes.specs.Sizes.{IsTerm};
 
 /// Indices from `lo` up to `hi`, `hi` excluded.
 #[derive(Clone, Copy)]
-pub struct Interval {
+pub struct IndexRange {
     pub lo: u32,
     pub hi: u32,
 }
@@ -21,11 +21,11 @@ pub struct Ramp {
 impl Ramp {
     /// The part of an interval where the value is at most the limit, found by one division.
     ///
-    /// The value rises or falls with the index by the slope, so it is at most the limit on a half-line
-    /// of indices. Where both ends of the interval are alike, all of it is. Else the whole steps that fit
+    /// The value rises or falls with the index by the slope, so it is at most the limit on a half-line of
+    /// indices. Where it is within the limit at both ends, all of the interval is; at neither, none is. Else the steps that fit
     /// between the limit and the value at the end that is within it are counted from that end, so the
     /// quotient is rounded down for a slope of either sign.
-    pub fn half_line(&self, part: Interval) -> Interval
+    pub fn half_line(&self, part: IndexRange) -> IndexRange
         requires some { part.lo < part.hi }
         requires start { IsTerm self.now.start }
         requires rise { (l : ℕ) → l < part.hi → IsTerm (self.now.slope *ℤ pos l) }
@@ -42,18 +42,18 @@ impl Ramp {
             if self.is_within(last) {
                 return part;
             }
-            return Interval {
+            return IndexRange {
                 lo: part.lo,
                 hi: part.lo + self.steps_up(part.lo, last) + 1,
             };
         }
         if self.is_within(last) {
-            return Interval {
+            return IndexRange {
                 lo: last - self.steps_down(part.lo, last),
                 hi: part.hi,
             };
         }
-        Interval {
+        IndexRange {
             lo: part.lo,
             hi: part.lo,
         }
@@ -61,7 +61,7 @@ impl Ramp {
 
     /// The part of an interval where a value that is the same at each index is at most the limit: all of it, or nothing.
     #[inline]
-    fn all_or_none(&self, part: Interval) -> Interval
+    fn all_or_none(&self, part: IndexRange) -> IndexRange
         requires level { self.now.slope ≡ pos 0 }
         requires some { part.lo < part.hi }
         ensures order { result.lo ≤ result.hi }
@@ -72,7 +72,7 @@ impl Ramp {
         if self.start <= self.limit {
             return part;
         }
-        Interval {
+        IndexRange {
             lo: part.lo,
             hi: part.lo,
         }

@@ -1,4 +1,4 @@
-//! Bodies as planes, the points that they hold on each ray, and closures kept beside their solid.
+//! Bodies as planes, solids, the points that they hold on each ray, and closures that are kept for a solid.
 #![tactic(auto)]
 
 mod body;
@@ -8,9 +8,11 @@ mod line;
 mod plane;
 mod shape;
 mod solid;
+mod turned;
 
 pub use body::{Bodies, Body};
 pub use fill::body_spans;
 pub use plane::Plane;
 pub use shape::RayShape;
-pub use solid::Solid;
+pub use solid::{Solid, solid_spans};
+pub use turned::TurnedBodies;

@@ -4,7 +4,7 @@ ghost use Rattle.space.specs.Vectors.{at};
 ghost use Rattle.ray_grid.specs.Selects.{Selects};
 ghost use Rattle.ray_shapes.specs.Sizes.{IsTerm};
 
-use crate::half_line::{Interval, Ramp};
+use crate::half_line::{IndexRange, Ramp};
 use crate::line::Line;
 use ray_grid::Family;
 
@@ -22,7 +22,7 @@ impl Plane {
     ghost use Rattle.ray_shapes.specs.OnLine.{point_on};
 
     /// The part of an interval of a line's points that the plane holds.
-    pub(crate) fn cut(&self, line: &Line, part: Interval) -> Interval
+    pub(crate) fn cut(&self, line: &Line, part: IndexRange) -> IndexRange
         requires some { part.lo < part.hi }
         requires within { part.hi ≤ line.now.points }
         ensures order { result.lo ≤ result.hi }

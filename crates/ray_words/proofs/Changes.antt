@@ -9,7 +9,7 @@ use Rattle.dexel_rays.specs.declared.word_sets.WordSets.{WordSets}
 use Rattle.ray_words.specs.Kept.{no_bits, word_at, marks_of}
 use Rattle.ray_words.proofs.Marks.{InStretch, AreBits, word_at-in, word_at-before, in_some_word, length-marks, has-marks, has-marks-past}
 
--- the stretch has as many words as before
+-- the stretch has the same number of words as before
 pub still_in : (first : ℕ) (ws : List WordSets) (k : ℕ) (w : WordSets) (m : ℕ) → InStretch first (set ws k w) m → InStretch first ws m
 still_in first ws k w m here = let size = length-set ws k w in record { from = here.from; below = let below = here.below in omega arith }
 

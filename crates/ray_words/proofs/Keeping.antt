@@ -100,7 +100,7 @@ fresh_word r stock part fixture first ws n s p f is s0 p0 f0 none = record {
   possible = λ b lt. has_bit-zero b ∙ sym (none.possible b lt);
 }
 
--- such a stretch, made of the words of a ray that is seen as r
+-- such a stretch, from the words of a ray that is seen as r
 pub made_longer : (r : KeptSets) (stock part fixture : List Bool) (first : ℕ) (ws : List WordSets) (lo hi : ℕ) (s : ℕ × ℕ)
     (ws' : List WordSets)
     → IsSeenAs stock part fixture first ws r → IsStretch r lo hi s → lo < hi → length ws' ≡ s.1 - s.0 → AreWordsFrom r.sets s.0 ws'

@@ -23,7 +23,7 @@ word_at-in first ws n k e =
     let at : n - first ≡ k = omega arith in
     ap₂ (λ b m. cond b (get_or ws m no_bits) no_bits) yes at
 
--- ahead of the stretch no bit is set
+-- before the stretch no bit is set
 pub word_at-before : (first : ℕ) (ws : List WordSets) (n : ℕ) → n < first → word_at first ws n ≡ no_bits
 word_at-before first ws n lt = ap (λ b. cond b (get_or ws (n - first) no_bits) no_bits) (lt-leb first n lt)
 

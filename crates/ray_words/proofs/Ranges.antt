@@ -1,4 +1,4 @@
--- A word made from the ranges of a set.
+-- A word from the ranges of a set.
 use Rattle.std.proofs.Common.{◌≡◌, ℕ, ◌+◌, ◌*◌, ◌/◌, ◌<◌, ◌≤◌, false, ◌&&◌, leb, ltb, ⊎_elim, arith}
 use Rattle.std.proofs.lemmas.Bool.{and_left, and_right, cases_lt, lt-leb, le-ltb}
 

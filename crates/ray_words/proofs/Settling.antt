@@ -1,4 +1,4 @@
--- At which indices no move has to be asked: by the wanted points of a word, and after a delta is given.
+-- At which indices no move has to be tested: by the wanted points of a word, and after a delta is given.
 use Rattle.std.proofs.Common.{◌≡◌, ℕ, ◌+◌, ◌-◌, ◌*◌, ◌/◌, ◌%◌, ◌^◌, ◌<◌, ◌≤◌, ◌⊎◌, Bool, true, false, not, ◌||◌, eqb, ⊎_elim, arith, refl, sym, ap, ap₂, ◌∙◌, subst}
 use Rattle.std.proofs.lemmas.Bool.{and_parts, cases_lt, eqb-true, not-true}
 use Rattle.std.proofs.lemmas.Bool.Decides.{nat_tests}
@@ -10,7 +10,7 @@ use Rattle.dexel_rays.specs.declared.word_sets.WordDelta.{WordDelta}
 use Rattle.dexel_rays.specs.Sets.{HaveBound, Sets}
 use Rattle.ray_words.specs.Rays.{HasNoneWanted, IsGiven, is_wanted_at}
 
--- of a point about which no move has to be asked some move was sure
+-- of a point that is no candidate some move was sure
 sure_there : (part fixture sure : Bool) → (part || (fixture || not sure)) ≡ false → sure ≡ true
 sure_there part fixture true e = refl
 sure_there true fixture false e = sym e
@@ -50,7 +50,7 @@ given_settled d d' n delta settled given none = λ l there. given_unwanted d d' 
 abbrev pub IsWantedWord : Sets → ℕ → ℕ → Type 0
 IsWantedWord d n wanted = (b : ℕ) → b < 64 → has_bit wanted b ≡ is_wanted_at d (64 * n + b)
 
--- a bit that isn't set in it is a point about which no move has to be asked
+-- a bit that isn't set in it is a point that is no candidate
 unwanted_bit : (d : Sets) (n wanted b : ℕ) → IsWantedWord d n wanted → wanted < 2 ^ 64 → b < 64 → has_bit (2 ^ 64 - 1 - wanted) b ≡ true
     → is_wanted_at d (64 * n + b) ≡ false
 unwanted_bit d n wanted b bits fits lt clear =

@@ -7,7 +7,7 @@ use Rattle.dexel_rays.specs.declared.word_sets.WordSets.{WordSets}
 use Rattle.dexel_rays.specs.Asked.{is_wanted}
 use Rattle.dexel_rays.specs.Sets.{HaveBound, Sets, seen_at}
 
--- the sets, and of which words the stretch consists: so many from the first on
+-- the sets, and of which words the stretch consists: `count` of them from the first on
 pub record KeptSets : Type 0 where
   pub sets : Sets
   pub first : ℕ
@@ -26,15 +26,15 @@ pub record IsWordAt (d : Sets) (n : ℕ) (w : WordSets) : Type 0 where
   pub sure : (b : ℕ) → b < 64 → has_bit w.sure b ≡ has d.sure (64 * n + b)
   pub possible : (b : ℕ) → b < 64 → has_bit w.possible b ≡ has d.possible (64 * n + b)
 
--- a move has to be asked about the point of this index; what the move marks, and whether it is rapid, doesn't matter
+-- the point of this index is a candidate for a move; what the move marks, and whether it is rapid, doesn't matter
 abbrev pub is_wanted_at : Sets → ℕ → Bool
 is_wanted_at d i = is_wanted (seen_at d [] [] false i)
 
--- at no index of a range has a move to be asked
+-- at no index of a range has a move to be tested
 abbrev pub HasNoneWanted : Sets → ℕ × ℕ → Type 0
 HasNoneWanted d range = (l : ℕ) → in_range l range ≡ true → is_wanted_at d l ≡ false
 
--- a range within a window that has each index of the window about which a move has to be asked
+-- a range within a window that has each index of the window that is a candidate
 pub record HasAllWanted (d : Sets) (window range : ℕ × ℕ) : Type 0 where
   pub from : window.0 ≤ range.0
   pub order : range.0 ≤ range.1

@@ -2,9 +2,9 @@
 #![tactic(auto)]
 
 mod range_word;
-mod row;
 mod settled;
+mod strip_rays;
 mod word_ray;
 
-pub use row::RayRow;
+pub use strip_rays::StripRays;
 pub use word_ray::WordRay;

@@ -19,7 +19,7 @@ fn start_of_run(word: u64, b: u32) -> u32
     highest_bit(below) + 1
 }
 
-/// The first bit behind the run of set bits of a word that begins with that one.
+/// The first bit after the run of set bits of a word that begins with that one.
 #[inline]
 fn end_of_run(word: u64, b: u32) -> u32
     requires some { b < 64 }
@@ -35,7 +35,7 @@ fn end_of_run(word: u64, b: u32) -> u32
     lowest_bit(above)
 }
 
-/// A range of indices of a ray, as its first one and the one behind its last.
+/// A range of indices of a ray, as its first one and the one after its last.
 #[derive(Clone, Copy)]
 pub struct Settled {
     from: u32,

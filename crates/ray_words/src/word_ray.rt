@@ -65,12 +65,14 @@ impl WordRay {
         self.stock.bound()
     }
 
+    /// Whether point l of the ray, counted from 0, is stock, removed or not.
     pub fn has_stock(&self, l: u32) -> bool
         ensures { result ≡ has self.now.sets.stock l }
     {
         self.stock.has(l)
     }
 
+    /// Whether some move was sure of point l of the ray, counted from 0.
     pub fn has_sure(&self, l: u32) -> bool
         ensures { result ≡ has self.now.sets.sure l }
     {
@@ -80,6 +82,7 @@ impl WordRay {
         }
     }
 
+    /// Whether some move was possible at point l of the ray, counted from 0.
     pub fn has_possible(&self, l: u32) -> bool
         ensures { result ≡ has self.now.sets.possible l }
     {
@@ -108,7 +111,7 @@ impl WordRay {
         }
     }
 
-    /// The points from the index 64 n on that a move has to be asked about. The other words are left alone.
+    /// The points from the index 64 n on that are candidates for a move. The other words are left alone.
     #[inline]
     pub fn wanted(&self, n: u32) -> u64
         ensures { (b : ℕ) → b < 64 → has_bit result b ≡ is_wanted_at self.now.sets (64 * n + b) }
@@ -121,7 +124,7 @@ impl WordRay {
     }
 
     /// Keeps the words from `lo` on and below `hi`, and what is between them and those that are kept already. The sets stay.
-    pub fn keep(&mut self, lo: u32, hi: u32) -> Result<(), NoMemory>
+    pub fn keep_words(&mut self, lo: u32, hi: u32) -> Result<(), NoMemory>
         requires some { lo < hi }
         requires within { hi ≤ words_below (length self.old.sets.stock) }
         ensures sets { self.new.sets ≡ self.old.sets }
@@ -140,7 +143,7 @@ impl WordRay {
     }
 
     /// Adds the points of a delta in word n. It takes no memory.
-    pub fn give(&mut self, n: u32, delta: &WordDelta)
+    pub fn add_delta(&mut self, n: u32, delta: &WordDelta)
         requires kept { IsKept self.old n }
         requires sure { IsBelow (length self.old.sets.stock) n delta.now.sure }
         requires possible { IsBelow (length self.old.sets.stock) n delta.now.possible }
@@ -153,7 +156,7 @@ impl WordRay {
     }
 
     /// Takes the points of a delta in word n away. It takes no memory.
-    pub fn take(&mut self, n: u32, delta: &WordDelta)
+    pub fn remove_delta(&mut self, n: u32, delta: &WordDelta)
         requires kept { IsKept self.old n }
         ensures taken { IsTaken self.old.sets n delta.now self.new.sets }
         ensures first { self.new.first ≡ self.old.first }
@@ -189,7 +192,7 @@ impl WordRay {
     }
 
     /// The words of the bodies, where no move was sure or possible.
-    // Apart from `word`, which is then small enough to be written into its callers.
+    // Kept apart from `word`, which is then small enough to be inlined into its callers.
     #[inline(never)]
     fn unmarked(&self, n: u32) -> WordSets
         requires within { n < words_below (length self.now.sets.stock) }
@@ -220,7 +223,7 @@ impl WordRay {
     }
 
     /// A stretch with the words from `lo` on and below `hi`, and with those that are kept. Where words are kept and it has to grow, it
-    /// grows by as many more: moves that go on along a ray have it copied a few times, and not for each word that they come to.
+    /// grows by as many more: moves that go on along a ray have it copied a few times, and not for each word that they reach.
     fn stretch(&self, lo: u32, hi: u32) -> (u32, u32)
         requires some { lo < hi }
         requires within { hi ≤ words_below (length self.now.sets.stock) }

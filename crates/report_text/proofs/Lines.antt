@@ -1,4 +1,4 @@
--- Texts and lines, one behind another.
+-- Texts and lines, one after another.
 use Rattle.std.proofs.Common.{◌≡◌, ℕ, List, [], ◌∷◌, ◌++◌, append_assoc, append-nil, refl, sym, ap, ◌∙◌}
 use Rattle.std.proofs.lemmas.List.Concat.{flat_map-append}
 use Rattle.vf_text.specs.Pages.{line}
@@ -7,11 +7,11 @@ use Rattle.report_text.specs.Verdict.{text_of_lines}
 pub three_texts : (page a b c : List ℕ) → ((page ++ a) ++ b) ++ c ≡ page ++ ((a ++ b) ++ c)
 three_texts page a b c = simp append_assoc
 
--- lines behind lines
+-- lines after lines
 pub more_lines : (page : List ℕ) (xs ys : List (List ℕ)) → (page ++ text_of_lines xs) ++ text_of_lines ys ≡ page ++ text_of_lines (xs ++ ys)
 more_lines page xs ys = append_assoc page (text_of_lines xs) (text_of_lines ys) ∙ ap (λ text. page ++ text) (sym (flat_map-append line xs ys))
 
--- a line behind lines that are all of a page
+-- a line after lines that are all of a page
 pub one_line : (page a : List ℕ) → page ++ line a ≡ page ++ text_of_lines (a ∷ [])
 one_line page a = ap (λ text. page ++ text) (sym (append-nil (line a)))
 

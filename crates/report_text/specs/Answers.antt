@@ -2,11 +2,11 @@
 use Rattle.std.specs.Prelude.{ℕ, List, [], ◌++◌, codes, decimal}
 use Rattle.edit_plan.specs.declared.query.Ask.{Ask}
 use Rattle.edit_plan.specs.declared.query.Ask.TheVariants as asks
-use Rattle.job_facts.specs.declared.totals.Answer.{Answer}
-use Rattle.job_facts.specs.declared.totals.Answer.TheVariants as answers
-use Rattle.job_facts.specs.declared.totals.PointState.{PointState}
-use Rattle.job_facts.specs.declared.totals.PointState.TheVariants.{Absent, Kept, Possible, Removed}
-use Rattle.job_facts.specs.declared.totals.Totals.{Totals}
+use Rattle.job_counts.specs.declared.totals.Answer.{Answer}
+use Rattle.job_counts.specs.declared.totals.Answer.TheVariants as answers
+use Rattle.job_counts.specs.declared.totals.PointState.{PointState}
+use Rattle.job_counts.specs.declared.totals.PointState.TheVariants.{Absent, Kept, Possible, Removed}
+use Rattle.job_counts.specs.declared.totals.Totals.{Totals}
 use Rattle.ray_grid.specs.declared.ray.Family.{Family}
 use Rattle.ray_grid.specs.declared.ray.Family.TheVariants.{X, Y, Z}
 use Rattle.ray_grid.specs.declared.ray.Ray.{Ray}

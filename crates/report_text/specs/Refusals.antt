@@ -33,7 +33,7 @@ why_name NoPosition = codes "NoPosition"
 why_name AxisFlip = codes "AxisFlip"
 why_name TooManyMoves = codes "TooManyMoves"
 
--- the word that is refused, behind a space
+-- the word that is refused, after a space
 abbrev pub refused_word : ClWhy → List ℕ
 refused_word (Unsupported word) = codes " " ++ word_name word
 refused_word _ = []

@@ -1,10 +1,10 @@
 -- The report of a job: the moves that are left with what was found of each, the answers, the totals, and the verdict.
 use Rattle.std.specs.Prelude.{ℕ, List, [], ◌∷◌, ◌++◌, length, map, codes, decimal, if◌then◌else◌}
 use Rattle.edit_plan.specs.declared.query.Ask.{Ask}
-use Rattle.job_facts.specs.declared.counts.Counts.{Counts}
+use Rattle.job_counts.specs.declared.counts.Counts.{Counts}
 use Rattle.job_report.specs.declared.facts.Found.{Found}
-use Rattle.job_facts.specs.declared.totals.Answer.{Answer}
-use Rattle.job_facts.specs.Counts.{is_safe}
+use Rattle.job_counts.specs.declared.totals.Answer.{Answer}
+use Rattle.job_counts.specs.Counts.{is_safe}
 use Rattle.job_report.specs.Facts.{JobFacts, is_clean}
 use Rattle.report_text.specs.Answers.{answer_text}
 use Rattle.report_text.specs.Listing.{move_head}

@@ -18,6 +18,6 @@ script_why_text TooManyEdits = codes "TooManyEdits"
 script_why_text TooManyQueries = codes "TooManyQueries"
 script_why_text (RedoDepth asked left) = codes "RedoDepth" ++ depths_text asked left
 
--- the line where it stands, and what is wrong there
+-- the line where it is, and what is wrong there
 abbrev pub script_fault_text : ScriptFault → List ℕ
 script_fault_text fault = codes "script line " ++ decimal fault.line ++ codes ": " ++ script_why_text fault.why

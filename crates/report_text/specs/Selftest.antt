@@ -1,6 +1,6 @@
--- The text of a made job's check: which one it is, the totals, and the verdict.
+-- The text of a generated job's check: which one it is, the totals, and the verdict.
 use Rattle.std.specs.Prelude.{ℕ, Bool, List, [], ◌∷◌, ◌++◌, codes, decimal}
-use Rattle.job_facts.specs.declared.totals.Totals.{Totals}
+use Rattle.job_counts.specs.declared.totals.Totals.{Totals}
 use Rattle.report_text.specs.Verdict.{text_of_lines, total_text, verdict_text}
 
 -- the lines in order: which job, its totals, whether it is clean

@@ -6,7 +6,7 @@ use Rattle.setup_keys.specs.declared.fault.SetupFault.{SetupFault}
 use Rattle.setup_keys.specs.declared.fault.SetupFault.TheVariants.{SetupSyntax, SetupKey, SetupRange}
 use Rattle.setup_keys.specs.declared.key.KeyName.{KeyName}
 
--- the key where a fault stands
+-- the key where a fault is
 abbrev pub key_place : KeyName → List ℕ
 key_place key = codes "setup " ++ key_text key
 

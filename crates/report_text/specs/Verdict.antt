@@ -1,7 +1,7 @@
 -- The last lines of what a check writes: the totals, and the verdict.
 use Rattle.std.specs.Prelude.{ℕ, Bool, List, ◌++◌, flat_map, codes, decimal, if◌then◌else◌}
 use Rattle.vf_text.specs.Pages.{line}
-use Rattle.job_facts.specs.declared.totals.Totals.{Totals}
+use Rattle.job_counts.specs.declared.totals.Totals.{Totals}
 
 -- lines, each with its line end
 abbrev pub text_of_lines : List (List ℕ) → List ℕ

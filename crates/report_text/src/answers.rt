@@ -1,6 +1,6 @@
 ghost use Rattle.std.specs.Prelude.{◌≡◌, ◌++◌, IsTrue, OnOk};
 ghost use Rattle.vf_text.specs.Pages.{line};
-ghost use Rattle.job_facts.specs.Answers.{is_answer_to};
+ghost use Rattle.job_report.specs.Answers.{is_answer_to};
 ghost use Rattle.job_report.specs.Facts.{are_answered};
 ghost use Rattle.report_text.specs.Answers.{answer_text, count_text, family_name, probe_text, state_name};
 ghost use Rattle.report_text.specs.Report.{answer_lines};
@@ -9,7 +9,7 @@ ghost use Rattle.report_text.specs.Verdict.{text_of_lines};
 use crate::counted::write_counted;
 use crate::verdict::write_points;
 use edit_plan::Ask;
-use job_facts::{Answer, PointState, Totals};
+use job_counts::{Answer, PointState, Totals};
 use ray_grid::{Family, Ray};
 use vf_io::NoMemory;
 use vf_text::Page;

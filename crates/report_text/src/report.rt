@@ -8,7 +8,7 @@ use crate::answers::write_answers;
 use crate::counted::write_counted;
 use crate::listing::write_head;
 use crate::verdict::{write_total, write_verdict};
-use job_facts::Counts;
+use job_counts::Counts;
 use job_report::{Facts, Found};
 use std::alloc::Global;
 use vf_io::NoMemory;
@@ -25,7 +25,7 @@ const OTHER_LINES: usize = 192;
 /// The report of a job: how many moves there are, a line for each move that is left and for each question with its answer, in
 /// order, the totals, and whether all moves that are left are safe.
 pub fn report_text(alloc: Global, facts: &Facts) -> Result<Vec<u8>, NoMemory>
-    // `Facts::is_answered` tells.
+    // `Facts::is_answered` says so.
     requires { IsTrue (are_answered facts.now.answers) }
     ensures { IfOk result (λ v. v.items ≡ report_of facts.now) }
 {

@@ -6,7 +6,7 @@ use edit_plan::{ScriptFault, ScriptWhy};
 use vf_io::NoMemory;
 use vf_text::Page;
 
-/// Writes the line where a script's fault stands, and what is wrong there.
+/// Writes the line where a script's fault is, and what is wrong there.
 pub(crate) fn write_script_fault(page: &mut Page, fault: &ScriptFault) -> Result<(), NoMemory>
     ensures { OnOk result (page.new ≡ page.old ++ script_fault_text fault.now) }
 {

@@ -3,12 +3,12 @@ ghost use Rattle.report_text.specs.Selftest.{selftest_of};
 
 use crate::counted::write_counted;
 use crate::verdict::{write_total, write_verdict};
-use job_facts::Totals;
+use job_counts::Totals;
 use std::alloc::Global;
 use vf_io::NoMemory;
 use vf_text::Page;
 
-/// The text of a made job's check: the number that it was made from, its totals, and whether it is clean.
+/// The text of a generated job's check: the number that it was generated from, its totals, and whether it is clean.
 pub fn selftest_text(
     alloc: Global,
     number: u32,

@@ -36,7 +36,7 @@ fn write_value(page: &mut Page, value: i64) -> Result<(), NoMemory>
     page.text(Buffer::new().format(value).as_bytes())
 }
 
-/// Writes the key where a fault stands.
+/// Writes the key where a fault is.
 fn write_key(page: &mut Page, key: KeyName) -> Result<(), NoMemory>
     ensures { OnOk result (page.new ≡ page.old ++ key_place key) }
 {

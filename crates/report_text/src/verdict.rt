@@ -3,7 +3,7 @@ ghost use Rattle.vf_text.specs.Pages.{line};
 ghost use Rattle.report_text.specs.Verdict.{points_text, total_text, verdict_text};
 
 use crate::counted::write_counted;
-use job_facts::Totals;
+use job_counts::Totals;
 use vf_io::NoMemory;
 use vf_text::Page;
 

@@ -2,7 +2,7 @@ ghost use Rattle.std.specs.Prelude.{◌≡◌, ◌≤◌, All, IfOk, length};
 ghost use Rattle.edit_plan.specs.Queries.{IsQuery};
 
 use edit_plan::{Ask, Query};
-use job_facts::{Answer, PointState, Totals};
+use job_counts::{Answer, PointState, Totals};
 use ray_grid::{Family, Ray};
 use std::alloc::Global;
 use strip_plan::Plan;
@@ -58,7 +58,7 @@ pub fn queries(alloc: Global, plan: &Plan) -> Result<Vec<Query>, NoMemory>
     Ok(queries)
 }
 
-/// The answers that are due: the first move removes 14 points and the second 16, and none of them both.
+/// The expected answers: the first move removes 14 points and the second 16, and none of them both.
 pub fn answers() -> [Answer; 6] {
     [
         Answer::Probe(PointState::Removed),

@@ -7,7 +7,7 @@ pub fn stock(alloc: Global) -> Result<Bodies, NoMemory> {
     boxed(alloc, [0, 0, 0], [2_500, 2_500, 1_500])
 }
 
-/// A box that reaches so many micrometres below the origin and so many above it.
+/// A box that reaches `below` micrometres below the origin and `above` micrometres above it.
 pub fn boxed(alloc: Global, below: [i64; 3], above: [i64; 3]) -> Result<Bodies, NoMemory> {
     let planes = [
         Plane {

@@ -1,12 +1,10 @@
 ghost use Rattle.std.specs.Prelude.{◌≡◌, ℕ, IfOk, Some, length, slice_get};
-ghost use Rattle.std.specs.Fn.{FnReturnsAt};
-ghost use Rattle.ray_grid.specs.Lattice.{IsRay};
 ghost use Rattle.ray_grid.specs.Strips.{strips_of};
-ghost use Rattle.ray_shapes.specs.Sets.{Gives};
+ghost use Rattle.ray_shapes.specs.Sets.{GivesSolid};
 ghost use Rattle.strip_journal.specs.Strips.{StripOf};
 
 use ray_grid::Ray;
-use ray_shapes::{Bodies, RayShape, Solid, body_spans};
+use ray_shapes::{Bodies, RayShape, Solid, solid_spans};
 use std::alloc::Global;
 use strip_journal::Strip;
 use strip_plan::Plan;
@@ -20,12 +18,8 @@ fn strips_by<A: Fn(&Ray) -> Result<Spans, NoMemory>, B: Fn(&Ray) -> Result<Spans
     stock: &RayShape<A>,
     others: &RayShape<B>,
 ) -> Result<Vec<Strip>, NoMemory>
-    requires stock_grid { stock.now.grid ≡ plan.now.grid }
-    requires others_grid { others.now.grid ≡ plan.now.grid }
-    requires stock_callable { (ray : _) → IsRay stock.now.grid ray.now → A.pre stock.now.source ray }
-    requires others_callable { (ray : _) → IsRay others.now.grid ray.now → B.pre others.now.source ray }
-    requires stock_gives { Gives (FnReturnsAt A.Fn stock.now.source) stock.now.grid stock.now.solid }
-    requires others_gives { Gives (FnReturnsAt B.Fn others.now.source) others.now.grid others.now.solid }
+    requires stock { GivesSolid A.Fn plan.now.grid stock.now }
+    requires others { GivesSolid B.Fn plan.now.grid others.now }
     ensures many { IfOk result (λ strips. length strips.items ≡ length (strips_of plan.now.grid)) }
     ensures plans { IfOk result (λ strips. (k : ℕ) (s : StripOf) → slice_get strips.items k ≡ Some s → s.job.plan ≡ plan.now) }
     ensures numbers { IfOk result (λ strips. (k : ℕ) (s : StripOf) → slice_get strips.items k ≡ Some s → s.number ≡ k) }
@@ -44,13 +38,17 @@ pub fn strips(alloc: Global, plan: &Plan, stock: &Bodies) -> Result<Vec<Strip>, 
     ensures numbers { IfOk result (λ strips. (k : ℕ) (s : StripOf) → slice_get strips.items k ≡ Some s → s.number ≡ k) }
 {
     let grid = plan.grid();
-    let none = Bodies::new(Vec::new(alloc));
-    let nothing = &none;
-    let stock = RayShape::new(*grid, Solid::Bodies(stock.copy()?), move |ray: &Ray| {
-        body_spans(alloc, stock.as_slice(), grid, ray)
-    });
-    let others = RayShape::new(*grid, Solid::Bodies(nothing.copy()?), move |ray: &Ray| {
-        body_spans(alloc, nothing.as_slice(), grid, ray)
-    });
+    let stock = &Solid::Bodies(stock.copy()?);
+    let others = &Solid::Bodies(Bodies::new(Vec::new(alloc)));
+    let stock = RayShape::new(
+        *grid,
+        stock,
+        move |ray: &Ray| solid_spans(alloc, stock, grid, ray),
+    );
+    let others = RayShape::new(
+        *grid,
+        others,
+        move |ray: &Ray| solid_spans(alloc, others, grid, ray),
+    );
     strips_by(alloc, plan, &stock, &others)
 }

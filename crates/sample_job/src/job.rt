@@ -11,7 +11,7 @@ use std::alloc::Global;
 use strip_plan::{Plan, PlanMove};
 use vf_io::NoMemory;
 
-/// A flat cutter of 2 mm that stands upright on one point, and then on another.
+/// A flat cutter of 2 mm that is upright on one point, and then on another.
 fn moves(alloc: Global) -> Result<Vec<PlanMove>, NoMemory>
     ensures { IfOk result (λ moves. length moves.items ≡ 2) }
 {
@@ -20,6 +20,7 @@ fn moves(alloc: Global) -> Result<Vec<PlanMove>, NoMemory>
         r: 0,
         h: 5_000,
         flank: 0,
+        base: 0,
     };
     let first = Sweep {
         from: [0, 0, 1_000],
@@ -39,7 +40,7 @@ fn moves(alloc: Global) -> Result<Vec<PlanMove>, NoMemory>
     Ok(moves)
 }
 
-/// Both moves are applied and dropped, so many times, and then the second alone is applied.
+/// Both moves are applied and dropped, `rounds` times, and then only the second is applied.
 pub fn edits(alloc: Global, rounds: u32) -> Result<Edits, NoMemory>
     ensures many { IfOk result (λ edits. length edits ≡ 4 * rounds + 1) }
     ensures named { IfOk result (λ edits. All (AppliesBelow 2) edits) }

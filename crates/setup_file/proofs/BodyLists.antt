@@ -1,4 +1,4 @@
--- Lists of planes and of bodies: what is judged ahead of their items, and their items.
+-- Lists of planes and of bodies: what is judged before their items, and their items.
 use Rattle.std.proofs.Common.{◌≡◌, ℤ, List, ◌∷◌, map, Option, Some, None, is_some, true, false, Result, Ok, Err, refl, sym, ap, ◌∙◌}
 use Rattle.std.proofs.lemmas.Bool.{false≢true}
 use Rattle.std.specs.Option.{option_map}
@@ -32,7 +32,7 @@ pub planes-miscounted : (key : KeyName) (value : Data) (vs : List Value) (fault 
 planes-miscounted key value vs fault is count =
     planes_of-list key value vs is ∙ ap (λ r. r >>= (λ _. each (plane_of key) (map view vs))) (sym count)
 
--- there are as many as there may be
+-- their number is allowed
 pub planes-counted : (key : KeyName) (value : Data) (vs ws : List Value) (n : ℤ) → Some (items_view vs) ≡ as_array value
     → Ok n ≡ as_many key 1 most_planes (map view vs) → ws ≡ vs → planes_of key value ≡ each (plane_of key) (map view ws)
 planes-counted key value vs ws n is count same =
@@ -75,7 +75,7 @@ pub bodies-miscounted : (list : BodyList) (value : Data) (vs : List Value) (faul
 bodies-miscounted list value vs fault is tabled count =
     bodies-tabled list value vs is tabled ∙ ap (λ r. r >>= (λ _. each (body_of list) (map view vs))) (sym count)
 
--- there are as many as there may be
+-- their number is allowed
 pub bodies-counted : (list : BodyList) (value : Data) (vs ws : List Value) (n : ℤ) → Some (items_view vs) ≡ as_array value
     → is_some (all_of as_table (map view vs)) ≡ true → Ok n ≡ as_many list.key list.least list.most (map view vs) → ws ≡ vs
     → bodies_of list value ≡ each (body_of list) (map view ws)
@@ -83,7 +83,7 @@ bodies-counted list value vs ws n is tabled count same =
     bodies-tabled list value vs is tabled ∙ ap (λ r. r >>= (λ _. each (body_of list) (map view vs))) (sym count)
     ∙ ap (λ xs. each (body_of list) (map view xs)) (sym same)
 
--- reading an item ends with a fault or for want of memory
+-- reading an item ends with a fault or when out of memory
 pub each-ends : {A B : Type 0} (read : A → Result B SetupFault) (due : Result (List B) SetupFault) (rest after : List A) (x : A) (ys : List B) (stop : SetupEnd)
     → due ≡ joined ys (each read rest) → rest ≡ x ∷ after → EndsSetup (read x) stop → EndsSetup due stop
 each-ends read due rest after x ys (Refused fault) so_far cut is = each-stops read due rest after x ys fault so_far cut is

@@ -60,7 +60,7 @@ negated_in z h =
     let at_most : z ≤ℤ pos metre = h.to_most in
     record { from_least = omega (arith, ints); to_most = omega (arith, ints) }
 
--- a component of an axis that points along it, against it, or stands across it
+-- a component of an axis that points along it, against it, or across it
 abbrev IsUnit : ℤ → Type 0
 IsUnit z = IsBetween (neg_ℤ (pos 1)) (pos 1) z
 

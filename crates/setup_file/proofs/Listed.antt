@@ -21,7 +21,7 @@ view_drop vs i v lt is =
     drop-map view i vs ∙ ap (map view) (drop_more vs i v lt) ∙ ap (λ w. view w ∷ map view (drop (i + 1) vs)) (sym is)
     ∙ ap (λ xs. view v ∷ xs) (sym (drop-map view (i + 1) vs))
 
--- what was read so far, ahead of what is read of the rest
+-- what was read so far, before what is read of the rest
 abbrev pub joined : {B : Type 0} → List B → Result (List B) SetupFault → Result (List B) SetupFault
 joined so_far (Ok rest) = Ok (so_far ++ rest)
 joined so_far (Err fault) = Err fault
@@ -53,7 +53,7 @@ pub each-done : {A B : Type 0} (read : A → Result B SetupFault) (due : Result 
 each-done read due all i ys so_far over =
     so_far ∙ ap (joined ys) (at_drop_all (each read) all i over) ∙ ap Ok (append-nil ys)
 
--- what was found so far, ahead of what is found in the rest
+-- what was found so far, before what is found in the rest
 abbrev pub found : {B : Type 0} → List B → Option (List B) → Option (List B)
 found so_far (Some rest) = Some (so_far ++ rest)
 found so_far None = None

@@ -8,7 +8,7 @@ use Rattle.setup_file.specs.Bodies.{plane, plane_by}
 use Rattle.setup_file.specs.Limits.{most_normal, most_right_side}
 use Rattle.setup_file.specs.Reads.{◌>>=◌, only_if, ranged}
 
--- what is judged behind each of the numbers
+-- what is judged after each of the numbers
 abbrev pub with_d : KeyName → List ℤ → ℤ → ℤ → ℤ → ℤ → Result Plane SetupFault
 with_d key numbers a b c d = only_if (not (is_zero numbers)) key (pos 0) >>= (λ _. Ok (plane a b c d))
 

@@ -7,7 +7,7 @@ use Rattle.setup_file.specs.Limits.{most_tool_diameter, most_tool_height, most_t
 use borrow.Author.Differences.{abs_is as size_is}
 
 pub tool_cutter : (d r h : ℤ) → IsBetween (pos 1) (pos most_tool_diameter) d → IsBetween (pos 0) (pos most_tool_radius) r → IsBetween (pos 1) (pos most_tool_height) h
-    → (pos 2 *ℤ r) ≤ℤ d → r ≤ℤ h → IsCutter record { d = unsigned_abs d; r = unsigned_abs r; h = unsigned_abs h; flank = 0 }
+    → (pos 2 *ℤ r) ≤ℤ d → r ≤ℤ h → IsCutter record { d = unsigned_abs d; r = unsigned_abs r; h = unsigned_abs h; flank = 0; base = 0 }
 tool_cutter d r h diameter radius height corner rounded =
     let d_least : pos 1 ≤ℤ d = diameter.from_least in
     let d_most : d ≤ℤ pos most_tool_diameter = diameter.to_most in
@@ -27,4 +27,6 @@ tool_cutter d r h diameter radius height corner rounded =
       angle = refl;
       sharp = inl refl;
       top = omega (arith, ints);
+      hollow = omega (arith, ints);
+      plain = inl refl;
     }

@@ -62,7 +62,7 @@ tables_in-array (datas.boolean b) vs is = cc
 tables_in-array (datas.datetime t) vs is = cc
 tables_in-array (datas.table ms) vs is = cc
 
--- a table other than the whole setup stands at its key
+-- a table other than the whole setup is at its key
 pub tables_named-other : (key : KeyName) (setup : Members) → (key ≡ keys.Setup → ⊥) → tables_named setup key ≡ tables_in (entry_at key setup)
 tables_named-other keys.Setup setup other = absurd (other refl)
 tables_named-other _ setup other = refl

@@ -93,7 +93,7 @@ planes_of key value = do
   _ ← as_many key 1 most_planes values
   each (plane_of key) values
 
--- a body by what stands at `box` and at `planes`, of which there is exactly one
+-- a body by the values at `box` and at `planes`, of which there is exactly one
 abbrev pub body_by : BodyList → Option Data → Option Data → Result (List Plane) SetupFault
 body_by list (Some value) None = box_of list.box_key value
 body_by list None (Some value) = planes_of list.planes_key value

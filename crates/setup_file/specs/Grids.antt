@@ -21,7 +21,7 @@ points_a_node pitch step = unsigned_abs pitch / unsigned_abs step
 abbrev pub divides_pitch : ℤ → ℤ → Bool
 divides_pitch pitch step = unsigned_abs pitch % unsigned_abs step == 0 && nat_le (points_a_node pitch step) most_per_node
 
--- the last point of a ray along an axis that has so many nodes: origin + (count * (pitch / step) - 1) * step
+-- the last point of a ray along an axis that has `count` nodes: origin + (count * (pitch / step) - 1) * step
 abbrev pub last_point : ℤ → ℤ → ℤ → ℤ → ℤ
 last_point origin pitch step count = origin +ℤ pos ((unsigned_abs count * points_a_node pitch step - 1) * unsigned_abs step)
 

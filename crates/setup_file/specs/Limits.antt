@@ -1,4 +1,4 @@
--- The limits of a setup's numbers. Lengths are micrometres. Those of the grid's nodes stand with the grid.
+-- The limits of a setup's numbers. Lengths are micrometres. Those of the grid's nodes are with the grid.
 use Rattle.std.specs.Prelude.{ℕ}
 
 -- how deep the part may be cut, at most, and how far a fixture may have to be kept clear

@@ -1,4 +1,4 @@
--- How what stands at a key is read and judged: each reader gives a value, or its first fault.
+-- How the value at a key is read and judged: each reader gives a value, or its first fault.
 use Rattle.std.specs.Prelude.{◌≡◌, ℕ, ℤ, int_le, ◌==◌, ◌&&◌, Bool, if◌then◌else◌}
 use Rattle.std.specs.Prelude.{List, [], ◌∷◌, length, Option, Some, None, option_and_then, Result, Ok, Err}
 use Rattle.std.specs.Option.{option_map}
@@ -11,7 +11,7 @@ use Rattle.setup_keys.specs.declared.key.KeyName.{KeyName}
 use Rattle.setup_keys.specs.Keys.{name_of}
 
 infixl 10 ◌>>=◌
--- what is read behind something that has no fault
+-- what is read after something that has no fault
 abbrev pub ◌>>=◌ : {A B : Type 0} → Result A SetupFault → (A → Result B SetupFault) → Result B SetupFault
 Ok x >>= next = next x
 Err fault >>= next = Err fault
@@ -29,7 +29,7 @@ abbrev pub of_kind : {A : Type 0} → KeyName → Option A → Result A SetupFau
 of_kind key (Some value) = Ok value
 of_kind key None = Err (SetupKey key)
 
--- a number, where the test holds; else it is told as out of the key's range
+-- a number, where the test holds; else it is reported as out of the key's range
 abbrev pub only_if : Bool → KeyName → ℤ → Result ℤ SetupFault
 only_if holds key number = if holds then Ok number else Err (SetupRange key number)
 
@@ -40,7 +40,7 @@ is_between least most number = int_le least number && int_le number most
 abbrev pub ranged : KeyName → ℤ → ℤ → ℤ → Result ℤ SetupFault
 ranged key least most number = only_if (is_between least most number) key number
 
--- what stands at a key of a table
+-- the value at a key of a table
 abbrev pub entry_at : KeyName → Members → Option Data
 entry_at key table = get_member (name_of key) table
 
@@ -65,7 +65,7 @@ abbrev pub all_of : {A B : Type 0} → (A → Option B) → List A → Option (L
 all_of kind [] = Some []
 all_of kind (x ∷ xs) = option_and_then (λ y. option_map (λ ys. y ∷ ys) (all_of kind xs)) (kind x)
 
--- the whole numbers of a list of so many of them
+-- the whole numbers of a list of `count` of them
 abbrev pub numbers_among : ℕ → List Data → Option (List ℤ)
 numbers_among count values = if length values == count then all_of as_integer values else None
 
@@ -75,7 +75,7 @@ numbers_in count value = option_and_then (numbers_among count) (list_in value)
 abbrev pub numbers_at : ℕ → KeyName → Members → Result (List ℤ) SetupFault
 numbers_at count key table = of_kind key (option_and_then (numbers_in count) (entry_at key table))
 
--- a refusal is the first fault; want of memory is free
+-- a refusal is the first fault; running out of memory needs no condition
 abbrev pub EndsSetup : {A : Type 0} → Result A SetupFault → SetupEnd → Type 0
 EndsSetup due (Refused fault) = due ≡ Err fault
 EndsSetup due NoMemory = Unit {0}

@@ -22,7 +22,7 @@ pub record IsBody (body : List Plane) : Type 0 where
   pub few : length body ≤ most_planes
   pub planes : All IsPlane body
 
--- so many bodies
+-- from `least` to `most` bodies
 pub record AreBodies (least most : ℕ) (bodies : List (List Plane)) : Type 0 where
   pub some : least ≤ length bodies
   pub few : length bodies ≤ most
@@ -36,10 +36,11 @@ pub record IsCheck (check : Check) : Type 0 where
   pub few_slabs : check.slabs ≤ most_check_slabs
   pub shallow : check.depth ≤ most_check_depth
 
--- a valid cutter with an upright flank
+-- a valid cutter with an upright flank, which begins at the tip
 pub record IsTool (tool : CutterSize) : Type 0 where
   pub valid : IsCutter tool
   pub upright : tool.flank ≡ 0
+  pub from_tip : tool.base ≡ 0
 
 -- the settings that a setup has for the check
 abbrev pub settings : Setup → Check

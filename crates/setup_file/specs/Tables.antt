@@ -33,7 +33,7 @@ check_of table = do
   depth ← number_at keys.CheckDepth (pos 0) (pos most_check_depth) table
   Ok (record { tolerance = tolerance; clearance = clearance; slabs = unsigned_abs slabs; depth = unsigned_abs depth })
 
--- the tool, with an upright flank: twice its radius is at most its diameter, and its height at least its radius
+-- the tool, with an upright flank and the base 0: twice its radius is at most its diameter, and its height at least its radius
 unfoldable pub tool_of : Members → Result CutterSize SetupFault
 tool_of table = do
   diameter ← number_at keys.ToolDiameter (pos 1) (pos most_tool_diameter) table
@@ -41,4 +41,4 @@ tool_of table = do
   _ ← only_if (int_le (pos 2 *ℤ radius) diameter) keys.ToolRadius radius
   height ← number_at keys.ToolHeight (pos 1) (pos most_tool_height) table
   _ ← only_if (int_le radius height) keys.ToolHeight height
-  Ok (record { d = unsigned_abs diameter; r = unsigned_abs radius; h = unsigned_abs height; flank = 0 })
+  Ok (record { d = unsigned_abs diameter; r = unsigned_abs radius; h = unsigned_abs height; flank = 0; base = 0 })

@@ -13,7 +13,7 @@ use setup_keys::{SetupEnd, SetupFault};
 use std::alloc::Global;
 use toml::{Table, Value};
 
-/// The bodies of a list of the setup; none where it isn't there and needn't be.
+/// The bodies of a list of the setup; none where it isn't there and isn't required.
 pub(crate) fn bodies_at(alloc: Global, setup: &Table, list: &BodyList) -> Result<Bodies, SetupEnd>
     requires { list.now.required ≡ false → list.now.least ≡ 0 }
     ensures ok { IfOk result (λ bodies. bodies_at list.now (table_view setup.now) ≡ Ok bodies) }

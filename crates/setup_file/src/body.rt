@@ -119,7 +119,7 @@ fn read_planes(alloc: Global, value: &Value, key: KeyName) -> Result<Body, Setup
     Ok(Body::new(planes))
 }
 
-/// The number of items in a list, where it has as many as it may.
+/// The number of items in a list, where it is within the allowed numbers.
 pub(crate) fn as_many(
     values: &Vec<Value>,
     key: KeyName,

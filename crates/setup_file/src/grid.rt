@@ -51,7 +51,7 @@ fn divides_pitch(pitch: i64, step: i64) -> bool
     pitch.unsigned_abs() % step.unsigned_abs() == 0 && points_a_node(pitch, step) <= MOST_PER_NODE
 }
 
-/// The last point of a ray along an axis that has so many nodes.
+/// The last point of a ray along an axis that has `count` nodes.
 fn last_point(origin: i64, pitch: i64, step: i64, count: i64) -> i64
     requires origin { IsBetween (neg_ℤ (pos metre)) (pos metre) origin }
     requires pitch { IsBetween (pos 1) (pos metre) pitch }
@@ -64,7 +64,7 @@ fn last_point(origin: i64, pitch: i64, step: i64, count: i64) -> i64
     origin + ((points - 1) * step.unsigned_abs()) as i64
 }
 
-/// Whether an axis may have so many nodes.
+/// Whether an axis may have `count` nodes.
 fn is_count(origin: i64, pitch: i64, step: i64, count: i64) -> bool
     requires origin { IsBetween (neg_ℤ (pos metre)) (pos metre) origin }
     requires pitch { IsBetween (pos 1) (pos metre) pitch }
@@ -75,7 +75,7 @@ fn is_count(origin: i64, pitch: i64, step: i64, count: i64) -> bool
     1 <= count && count <= MOST_NODES && last_point(origin, pitch, step, count) <= METRE
 }
 
-/// The first number of nodes that its axis may not have is told, where there is one.
+/// The first number of nodes that its axis may not have is reported, where there is one.
 fn all_counts(origin: &[i64; 3], pitch: i64, step: i64, counts: &[i64; 3]) -> Result<(), SetupFault>
     requires origin { AreCoordinates origin.now }
     requires pitch { IsBetween (pos 1) (pos metre) pitch }
@@ -90,7 +90,7 @@ fn all_counts(origin: &[i64; 3], pitch: i64, step: i64, counts: &[i64; 3]) -> Re
     Ok(())
 }
 
-/// The number of nodes along an axis, where it may have so many.
+/// The number of nodes along an axis, where it may have that many.
 fn count_along(
     origin: &[i64; 3],
     pitch: i64,

@@ -7,7 +7,7 @@ ghost use Rattle.setup_file.specs.Reads.{number_at, numbers_at, numbers_in, tabl
 use setup_keys::{KeyName, SetupFault};
 use toml::{Table, Value};
 
-/// What stands at a key of a table.
+/// The value at a key of a table.
 pub(crate) fn entry_at<'a>(table: &'a Table, key: KeyName) -> Option<&'a Value>
     ensures { option_map (λ v. view v.now) result ≡ entry_at key (table_view table.now) }
 {
@@ -31,7 +31,7 @@ pub(crate) fn table_at<'a>(table: &'a Table, key: KeyName) -> Result<&'a Table, 
 /// How far a coordinate may be from 0, in micrometres.
 pub(crate) const METRE: i64 = 1_000_000;
 
-/// The number, where the test holds; else it is told as out of the key's range.
+/// The number, where the test holds; else it is reported as out of the key's range.
 pub(crate) fn only_if(holds: bool, key: KeyName, number: i64) -> Result<i64, SetupFault>
     ensures value { result ≡ only_if holds key number }
     ensures holds { OnOk result (IsTrue holds) }
@@ -107,7 +107,7 @@ pub(crate) fn numbers_at<const N: usize>(
     }
 }
 
-/// The first of the numbers that is out of the range is told, where there is one.
+/// The first of the numbers that is out of the range is reported, where there is one.
 pub(crate) fn all_ranged(
     numbers: &[i64],
     key: KeyName,

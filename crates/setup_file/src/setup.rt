@@ -34,7 +34,7 @@ pub struct Setup {
     pub slabs: u32,
     /// A move is taken in 2 to the power of this many parts: from 0 to 10.
     pub depth: u32,
-    /// The tool of a move that has no cutter of its own, with an upright flank.
+    /// The tool of a move that has no cutter of its own, with an upright flank and the base 0.
     pub tool: Cutter,
 }
 

@@ -23,7 +23,7 @@ pub fn shifted(alloc: Global, bodies: &[Body], by: i32) -> Result<Bodies, NoMemo
     Ok(Bodies::new(raised))
 }
 
-/// The planes of a body so raised.
+/// The planes of a body, raised in this way.
 fn shifted_planes(alloc: Global, planes: &[Plane], by: i32) -> Result<Vec<Plane>, NoMemory>
     requires by { IsBetween (neg_ℤ (pos most_clearance)) (pos most_clearance) by }
     requires planes { All IsPlane planes.now }
@@ -36,7 +36,7 @@ fn shifted_planes(alloc: Global, planes: &[Plane], by: i32) -> Result<Vec<Plane>
     Ok(raised)
 }
 
-/// The plane with its right side raised by so many lengths of its normal.
+/// The plane with its right side raised by `by` lengths of its normal.
 fn shifted_plane(plane: &Plane, by: i32) -> Plane
     requires by { IsBetween (neg_ℤ (pos most_clearance)) (pos most_clearance) by }
     requires plane { IsPlane plane.now }

@@ -17,7 +17,7 @@ const MOST_RADIUS: i64 = 100_000;
 
 const MOST_HEIGHT: i64 = 300_000;
 
-/// The tool of its table, with an upright flank.
+/// The tool of its table, with an upright flank, from the tip up.
 #[tactic(auto, unfolding(crate::specs::Tables::tool_of))]
 pub(crate) fn read_tool(table: &Table) -> Result<Cutter, SetupFault>
     ensures tool { result ≡ tool_of (table_view table.now) }
@@ -31,14 +31,14 @@ pub(crate) fn read_tool(table: &Table) -> Result<Cutter, SetupFault>
     Ok(tool_with(diameter, radius, height))
 }
 
-/// The cutter of these sizes, with an upright flank.
+/// The cutter of these sizes, with an upright flank, from the tip up.
 fn tool_with(diameter: i64, radius: i64, height: i64) -> Cutter
     requires diameter { IsBetween (pos 1) (pos most_tool_diameter) diameter }
     requires radius { IsBetween (pos 0) (pos most_tool_radius) radius }
     requires height { IsBetween (pos 1) (pos most_tool_height) height }
     requires corner { (pos 2 *ℤ radius) ≤ℤ diameter }
     requires rounded { radius ≤ℤ height }
-    ensures sizes { result ≡ record { d = unsigned_abs diameter; r = unsigned_abs radius; h = unsigned_abs height; flank = 0 } }
+    ensures sizes { result ≡ record { d = unsigned_abs diameter; r = unsigned_abs radius; h = unsigned_abs height; flank = 0; base = 0 } }
     ensures valid { IsTool result }
 {
     Cutter {
@@ -46,5 +46,6 @@ fn tool_with(diameter: i64, radius: i64, height: i64) -> Cutter
         r: radius as i32,
         h: height as i32,
         flank: 0,
+        base: 0,
     }
 }

@@ -32,7 +32,7 @@ key_text keys.Fixture = codes "fixture"
 key_text keys.FixtureBox = codes "fixture.box"
 key_text keys.FixturePlanes = codes "fixture.planes"
 
--- what stands behind the point of a text, or the whole text where it has none
+-- what comes after the point of a text, or the whole text where it has none
 abbrev pub behind_point : List ℕ → List ℕ
 behind_point text = if list_any (λ b. b == 46) text then after_first (λ b. b == 46) text else text
 

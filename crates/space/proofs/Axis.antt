@@ -2,7 +2,7 @@
 use Rattle.std.proofs.Common.{◌≡◌, ℕ, zero, suc, ◌+◌, ◌-◌, ◌≤◌, ◌<◌, [], ◌∷◌, ℤ, pos, negsuc, ◌+ℤ◌, ◌*ℤ◌, ◌-ℤ◌, ◌≤ℤ◌, ◌<ℤ◌, arith, refl, subst, ap, ◌∙◌}
 use Rattle.std.proofs.lemmas.Int.{ints}
 use Rattle.space.specs.Vectors.{at, dot}
-use Rattle.space.specs.Motion.{Motion, IsSweep, IsTime, axis_at}
+use Rattle.space.specs.Sweeps.{SweepOf, IsSweep, IsTime, axis_at}
 use Rattle.space.proofs.Naturals.{square_not_negative, dot_natural}
 use Rattle.space.proofs.Solver.{var, add, mul, neg, ring}
 use Rattle.space.proofs.Tests.{not_opposite, not_zero}
@@ -67,7 +67,7 @@ second_out z x h = omega (arith, ints, h)
 first_out : (z : ℤ) (x : ℤ) → x +ℤ pos 0 *ℤ z ≡ pos 0 → x ≡ pos 0
 first_out z x h = omega (arith, ints, h)
 
-no_axis : (m : Motion) (e a : ℕ) → IsSweep m → 0 < e + a
+no_axis : (m : SweepOf) (e a : ℕ) → IsSweep m → 0 < e + a
     → pos e *ℤ at m.axis_from 0 +ℤ pos a *ℤ at m.axis_to 0 ≡ pos 0
     → pos e *ℤ at m.axis_from 1 +ℤ pos a *ℤ at m.axis_to 1 ≡ pos 0
     → pos e *ℤ at m.axis_from 2 +ℤ pos a *ℤ at m.axis_to 2 ≡ pos 0 → ⊥
@@ -93,7 +93,7 @@ no_axis m (suc e) (suc a) v h x y z =
     }
 
 -- At no rational time is the axis of a valid move zero
-pub axis_not_zero : (m : Motion) (a b : ℕ) → IsSweep m → IsTime a b → dot (axis_at m (pos a) (pos b)) (axis_at m (pos a) (pos b)) ≡ pos 0 → ⊥
+pub axis_not_zero : (m : SweepOf) (a b : ℕ) → IsSweep m → IsTime a b → dot (axis_at m (pos a) (pos b)) (axis_at m (pos a) (pos b)) ≡ pos 0 → ⊥
 axis_not_zero m a b v time e =
     let h = time.0 in let k = time.1 in
     let A = axis_at m (pos a) (pos b) in

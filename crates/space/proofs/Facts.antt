@@ -1,5 +1,5 @@
 -- Numbers that fit their types: their bits give them back, and are bounded as they are.
-use Rattle.std.proofs.Common.{◌≡◌, to_z, of_z, ℕ, zero, suc, ◌^◌, ◌≤◌, ◌<◌, List, ℤ, pos, length, unsigned_abs, FitsSigned, arith, subst, sym, ⊎_elim, ◌∙◌}
+use Rattle.std.proofs.Common.{◌≡◌, to_z, of_z, ℕ, zero, suc, ◌^◌, ◌≤◌, ◌<◌, List, ℤ, pos, length, unsigned_abs, FitsSigned, arith, subst, sym, ⊎_elim, ◌∙◌, negsuc, ◌+◌, ◌*◌, ◌-◌, [], ◌∷◌, ◌+ℤ◌, ◌*ℤ◌, ◌-ℤ◌, ◌≤ℤ◌, ◌⊎◌, refl}
 use Rattle.std.proofs.lemmas.Int.{fits_signed_from_abs, to_z-of_z}
 use Rattle.std.proofs.lemmas.Bool.{cases_lt}
 use Rattle.std.proofs.lemmas.List.{get_or_past}
@@ -7,6 +7,9 @@ use Rattle.std.proofs.Math.Pow.{pow_mono}
 use mir.Syntax.{Width, w128}
 use mir.Val.{hbits}
 use Rattle.space.specs.Vectors.{at}
+use mir.Syntax.{w128}
+use borrow.Author.Differences.{abs_is}
+use Rattle.space.proofs.Naturals.{abs_mul}
 
 -- a number fits where its absolute value is bounded
 pub fits128 : (z : ℤ) (n : ℕ) → unsigned_abs z ≤ n → n < 2 ^ 127 → FitsSigned w128 z
@@ -36,3 +39,6 @@ back5 w l few a b c d e = back w l (λ i inside. fits_among w l i few inside a b
 -- the bits of an answer are bounded as what the answer equals
 pub bounded_as : {w : Width} {r z : ℤ} {n : ℕ} → FitsSigned w r → r ≡ z → unsigned_abs z ≤ n → unsigned_abs (to_z w (of_z w r)) ≤ n
 bounded_as {w} {r} {z} {n} fits same small = subst (λ y. unsigned_abs y ≤ n) (sym (to_z-of_z w r fits ∙ same)) small
+
+pub product_fits : (a b : ℤ) (m n : ℕ) → unsigned_abs a ≤ m → unsigned_abs b ≤ n → m * n < 2 ^ 127 → FitsSigned w128 (a *ℤ b)
+product_fits a b m n h k l = fits128 (a *ℤ b) (m * n) (abs_mul a b m n h k) l

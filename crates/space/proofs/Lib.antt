@@ -6,3 +6,6 @@ pub mod Tests
 pub mod Facts
 pub mod Axis
 pub mod ReachLemmas
+pub mod Reread
+pub mod Words
+pub mod ThreeWords

@@ -1,5 +1,5 @@
 pub mod Vectors
 pub mod Ranges
-pub mod Motion
+pub mod Sweeps
 pub mod Reach
 pub mod Flanks

@@ -23,6 +23,10 @@ is_coordinate z = nat_le (unsigned_abs z) metre
 abbrev pub IsWithin : ℕ → List ℤ → Type 0
 IsWithin limit v = (unsigned_abs (at v 0) ≤ limit) × (unsigned_abs (at v 1) ≤ limit) × (unsigned_abs (at v 2) ≤ limit)
 
--- a point that can be asked about, or a tip: coordinates within a metre of the origin
+-- a point of a query, or a tip: coordinates within a metre of the origin
 abbrev pub IsPoint : List ℤ → Type 0
 IsPoint p = IsWithin metre p
+
+-- how far a component may be from zero in the products of vectors: 256 times a way of 1,000 mm, and more
+abbrev pub vector_limit : ℕ
+vector_limit = 300000000

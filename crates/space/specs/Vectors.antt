@@ -1,5 +1,5 @@
 -- Vectors as lists of three components, along x, y and z.
-use Rattle.std.specs.Prelude.{ℕ, List, ℤ, pos, ◌+ℤ◌, ◌*ℤ◌, ◌-ℤ◌, int_lt, Bool, ◌&&◌}
+use Rattle.std.specs.Prelude.{ℕ, List, ℤ, pos, ◌+ℤ◌, ◌*ℤ◌, ◌-ℤ◌, int_lt, Bool, ◌&&◌, [], ◌∷◌}
 use Rattle.std.specs.List.{slice_index_or}
 use Rattle.std.specs.Ordering.{int_eq}
 
@@ -26,3 +26,19 @@ are_opposite f t =
     && (int_eq (at f 2 *ℤ at t 0) (at f 0 *ℤ at t 2)
     && (int_eq (at f 0 *ℤ at t 1) (at f 1 *ℤ at t 0)
     && int_lt (dot f t) (pos 0)))
+
+-- the sum of two vectors
+abbrev pub sum : List ℤ → List ℤ → List ℤ
+sum p q = (at p 0 +ℤ at q 0) ∷ (at p 1 +ℤ at q 1) ∷ (at p 2 +ℤ at q 2) ∷ []
+
+-- the first less the second
+abbrev pub difference : List ℤ → List ℤ → List ℤ
+difference p q = (at p 0 -ℤ at q 0) ∷ (at p 1 -ℤ at q 1) ∷ (at p 2 -ℤ at q 2) ∷ []
+
+-- the cross product of two vectors
+abbrev pub cross : List ℤ → List ℤ → List ℤ
+cross p a =
+    (at p 1 *ℤ at a 2 -ℤ at p 2 *ℤ at a 1)
+    ∷ (at p 2 *ℤ at a 0 -ℤ at p 0 *ℤ at a 2)
+    ∷ (at p 0 *ℤ at a 1 -ℤ at p 1 *ℤ at a 0)
+    ∷ []

@@ -58,7 +58,7 @@ const FLANKS: [Flank; 9] = [
     },
 ];
 
-/// The angle of so many degrees, where it is in the table.
+/// The angle of this many degrees, where it is in the table.
 fn find_in(table: &[Flank], degrees: u32) -> Option<Flank>
     ensures { result ≡ find (λ f. f.degrees == degrees) table.now }
 {
@@ -70,7 +70,7 @@ fn find_in(table: &[Flank], degrees: u32) -> Option<Flank>
     None
 }
 
-/// The angle of so many degrees, where it is read.
+/// The angle of this many degrees, where it is read.
 fn find_flank(degrees: u32) -> Option<Flank>
     ensures { result ≡ find (λ f. f.degrees == degrees) flanks }
 {

@@ -4,8 +4,8 @@ use Rattle.std.proofs.lemmas.Bool.{cases_eq}
 use Rattle.std.proofs.lemmas.List.{get_or-set_other, get_or-set_same, length-set}
 use native.Mathlib.Decide.{dec_le}
 use mathlib.Core.Logic.{dite}
-use Rattle.job_facts.specs.declared.counts.Counts.{Counts}
-use Rattle.job_facts.specs.Counts.{AreWithin, most_count, no_counts, plus}
+use Rattle.job_counts.specs.declared.counts.Counts.{Counts}
+use Rattle.job_counts.specs.Counts.{AreWithin, most_count, no_counts, plus}
 use Rattle.strip_journal.specs.declared.entry.Entry.{Entry}
 use Rattle.strip_journal.specs.declared.journal.Journal.{Journal}
 use Rattle.strip_journal.specs.Entries.{HasNo, counts_of_hits, edit_at, entry_at, possible_ahead, removed_ahead}
@@ -59,7 +59,7 @@ pub of_left : (j : Journal) (place k edit : ℕ) → place < length j.entries.it
     → slice_index j.line k ≡ edit → IsOfLeft j place k
 of_left j place k edit within is left same = record { within = within; left = left; same = same ∙ is }
 
--- what the entry tells
+-- what the entry says
 abbrev pub told : Journal → ℕ → Counts
 told j place =
     counts_of_hits (entry_at j.entries.items place).hits
@@ -71,7 +71,7 @@ pub left_rise : (j : Journal) (place k : ℕ) → IsJournal (job_of j) j → IsO
 left_rise j place k h is =
     let most = left_few j h in ahead_within j k place h (let left = is.left in omega (arith, left, most)) is.within (sym is.same)
 
--- and it tells what the edit found
+-- and it says what the edit found
 left_tells : (j : Journal) (place k : ℕ) (found : Counts) → IsJournal (job_of j) j → IsOfLeft j place k → found ≡ told j place
     → IsFoundBy j k found
 left_tells j place k found h is tells =
@@ -95,7 +95,7 @@ left_added j place k before found sum h is many tells sums =
     subst (λ (counts : Counts). AddsEntry j place before (slice_set before k counts)) (sym sums)
     (entry_added j place k before found h many is.left is.same (left_tells j place k found h is tells))
 
--- ahead of the first entry nothing is added
+-- before the first entry nothing is added
 pub first_added : (j : Journal) (counts : List Counts) → AddsAhead j 0 counts counts
 first_added j counts = record {
   many = refl;
@@ -103,7 +103,7 @@ first_added j counts = record {
   others = λ k few none. refl;
 }
 
--- no entry ahead of a place is of its edit
+-- no entry before a place is of its edit
 none_ahead : (j : Journal) (place i number : ℕ) → IsJournal (job_of j) j → place < length j.entries.items → i < place
     → edit_at j.entries.items i ≡ number → number ≡ edit_at j.entries.items place → ⊥
 none_ahead j place i number h low ahead is same =
@@ -120,7 +120,7 @@ room_still j place before after h low room added = record {
       (room k no_counts old);
 }
 
--- and behind it one entry more is added
+-- and after it one entry more is added
 pub more_added : (j : Journal) (place : ℕ) (before after next : List Counts) → IsJournal (job_of j) j → place < length j.entries.items
     → AddsAhead j place before after → AddsEntry j place after next → AddsAhead j (place + 1) before next
 more_added j place before after next h low added more = record {
@@ -142,7 +142,7 @@ more_added j place before after next h low added more = record {
       ∙ added.others k few (λ i ahead is. none i (omega (arith, ahead)) is);
 }
 
--- an entry ahead of a place is of an edit
+-- an entry before a place is of an edit
 record HasEntry (entries : List Entry) (edit n : ℕ) : Type 0 where
   pub place : ℕ
   pub low : place < n
@@ -171,7 +171,7 @@ entry_or_none entries edit (suc n) =
 plus_none : (counts : Counts) → plus counts no_counts ≡ counts
 plus_none counts = simp add-zero
 
--- behind the last entry all is added
+-- after the last entry all is added
 pub all_added : (j : Journal) (before after : List Counts) → IsJournal (job_of j) j → length before ≡ j.at
     → AddsAhead j (length j.entries.items) before after → AddsLeft j before after
 all_added j before after h many added = record {

@@ -1,4 +1,4 @@
--- The totals that are kept ahead of a place are those of its version.
+-- The totals that are kept before a place are those of its version.
 use Rattle.std.proofs.Common.{◌≡◌, ℕ, zero, suc, ◌+◌, ◌-◌, ◌<◌, ◌≤◌, ◌==◌, Bool, false, List, length, arith, sym, ap, ◌∙◌}
 use Rattle.std.proofs.lemmas.Bool.{cond-false, ne_eqb}
 use native.Mathlib.Decide.{dec_le}
@@ -10,8 +10,8 @@ use Rattle.strip_marks.specs.declared.change.WordChange.{WordChange}
 use Rattle.strip_marks.specs.Marks.{points_at, possible_of, sure_of}
 use Rattle.strip_journal.specs.declared.entry.Entry.{Entry}
 use Rattle.strip_journal.specs.declared.journal.Journal.{Journal}
-use Rattle.strip_journal.specs.Entries.{AreAscending, HasNo, IsPlace, edit_at, entry_at, possible_ahead, removed_ahead}
-use Rattle.strip_journal.specs.Journals.{IsJournal, IsTracked, job_of, possible_at, sure_at}
+use Rattle.strip_journal.specs.Entries.{AreAscending, HasNo, IsFirstEntryFrom, edit_at, entry_at, possible_ahead, removed_ahead}
+use Rattle.strip_journal.specs.Journals.{IsJournal, MatchesEntries, job_of, possible_at, sure_at}
 use Rattle.strip_journal.proofs.KeptParts.{IsHeld, Parts, held_of, parts_of}
 use Rattle.strip_journal.proofs.PointTotals.{nothing_left, nothing_possible, same_possible_totals, same_totals}
 use Rattle.strip_journal.proofs.Tracking.{gap}
@@ -23,14 +23,14 @@ removed_by job strip version = (totals_over job (strip_points job.plan.grid stri
 abbrev pub possible_by : Job → ℕ → ℕ → ℕ
 possible_by job strip version = (totals_over job (strip_points job.plan.grid strip) (left_moves job.plan version)).possible
 
--- at the version ahead of all edits none is
+-- at the version before all edits none is
 removed_first : (job : Job) (strip : ℕ) → removed_by job strip 0 ≡ 0
 removed_first job strip = nothing_left job (strip_points job.plan.grid strip)
 
 possible_first : (job : Job) (strip : ℕ) → possible_by job strip 0 ≡ 0
 possible_first job strip = nothing_possible job (strip_points job.plan.grid strip)
 
--- behind an entry stand its totals
+-- after an entry the totals are its own
 not_first : (k : ℕ) → (suc k == 0) ≡ false
 not_first k = ne_eqb (suc k) 0 (λ e. omega (arith, e))
 
@@ -44,8 +44,8 @@ possible_behind entries k =
     let less : suc k - 1 ≡ k = omega arith in
     cond-false (suc k == 0) 0 (entry_at entries (suc k - 1)).possible (not_first k) ∙ ap (λ i. (entry_at entries i).possible) less
 
--- no entry stands between the edit of the entry ahead of a place and its version
-between : (entries : List Entry) (version p v : ℕ) → AreAscending entries → IsPlace entries version (suc p) → edit_at entries p < v
+-- no entry is between the edit of the entry before a place and its version
+between : (entries : List Entry) (version p v : ℕ) → AreAscending entries → IsFirstEntryFrom entries version (suc p) → edit_at entries p < v
     → v < version → HasNo entries v
 between entries version p v ascend place above below q low is =
     dite (dec_le (suc p) q)
@@ -57,8 +57,8 @@ between entries version p v ascend place above below q low is =
     (λ early.
     let order = ascend.each q p (omega (arith, early)) (omega (arith, place.within)) in omega (arith, order, is, above)))
 
--- no entry stands ahead of the first place
-ahead_of_all : (entries : List Entry) (version v : ℕ) → IsPlace entries version 0 → v < version → HasNo entries v
+-- no entry is before the first place
+ahead_of_all : (entries : List Entry) (version v : ℕ) → IsFirstEntryFrom entries version 0 → v < version → HasNo entries v
 ahead_of_all entries version v place below q low is =
     let far = place.behind q (omega arith) low in omega (arith, far, is, below)
 
@@ -67,10 +67,10 @@ pub record IsTotal (of : ℕ → ℕ → ℕ → Bool) (rays : ℕ) (points : �
   pub first : total 0 ≡ 0
   pub same : (v w : ℕ) → ((n l : ℕ) → n < rays → l < points n → of v n l ≡ of w n l) → total v ≡ total w
 
--- the total at the version of a place is that behind the edit of the entry ahead of it
+-- the total at the version of a place is that after the edit of the entry before it
 total_ahead : (of : ℕ → ℕ → ℕ → Bool) (pick : WordChange → ℕ) (rays : ℕ) (points : ℕ → ℕ) (total : ℕ → ℕ) (changes : List WordChange)
-    (entries : List Entry) (done version p : ℕ) → IsTotal of rays points total → IsTracked of pick rays points changes entries done
-    → AreAscending entries → IsPlace entries version (suc p) → version ≤ done → total (edit_at entries p + 1) ≡ total version
+    (entries : List Entry) (done version p : ℕ) → IsTotal of rays points total → MatchesEntries of pick rays points changes entries done
+    → AreAscending entries → IsFirstEntryFrom entries version (suc p) → version ≤ done → total (edit_at entries p + 1) ≡ total version
 total_ahead of pick rays points total changes entries done version p is tracked ascend place within =
     let above = place.ahead p (omega arith) in
     is.same (edit_at entries p + 1) version
@@ -78,10 +78,10 @@ total_ahead of pick rays points total changes entries done version p is tracked 
     gap of pick rays points changes entries done (edit_at entries p + 1) version n l tracked (omega (arith, above)) within
     (λ v from below. between entries version p v ascend place (omega (arith, from)) below) ray point)
 
--- and nothing where none is ahead of it
+-- and nothing where none is before it
 total_first : (of : ℕ → ℕ → ℕ → Bool) (pick : WordChange → ℕ) (rays : ℕ) (points : ℕ → ℕ) (total : ℕ → ℕ) (changes : List WordChange)
-    (entries : List Entry) (done version : ℕ) → IsTotal of rays points total → IsTracked of pick rays points changes entries done
-    → IsPlace entries version 0 → version ≤ done → 0 ≡ total version
+    (entries : List Entry) (done version : ℕ) → IsTotal of rays points total → MatchesEntries of pick rays points changes entries done
+    → IsFirstEntryFrom entries version 0 → version ≤ done → 0 ≡ total version
 total_first of pick rays points total changes entries done version is tracked place within =
     sym is.first
     ∙ is.same 0 version
@@ -104,8 +104,8 @@ possible_total job strip rays many = record {
   same = λ v w each. same_possible_totals job strip v w (λ n l ray point. each n l (omega (arith, ray, many)) point);
 }
 
--- what is kept ahead of a place is the total at its version
-pub removed_ahead_is : (job : Job) (p : Parts) (version place : ℕ) → IsHeld job p → IsPlace p.entries version place → version ≤ p.done
+-- what is kept before a place is the total at its version
+pub removed_ahead_is : (job : Job) (p : Parts) (version place : ℕ) → IsHeld job p → IsFirstEntryFrom p.entries version place → version ≤ p.done
     → removed_ahead p.entries place ≡ removed_by job p.number version
 removed_ahead_is job p version zero held place within =
     total_first (sure_at job p.number) sure_of (length p.rays) (points_at job.plan.grid p.number) (removed_by job p.number) p.changes
@@ -117,7 +117,7 @@ removed_ahead_is job p version (suc k) held place within =
     p.entries p.done version k (sure_total job p.number (length p.rays) held.newest.rays.many) held.tracked_sure
     held.kept.ascend place within
 
-pub possible_ahead_is : (job : Job) (p : Parts) (version place : ℕ) → IsHeld job p → IsPlace p.entries version place → version ≤ p.done
+pub possible_ahead_is : (job : Job) (p : Parts) (version place : ℕ) → IsHeld job p → IsFirstEntryFrom p.entries version place → version ≤ p.done
     → possible_ahead p.entries place ≡ possible_by job p.number version
 possible_ahead_is job p version zero held place within =
     total_first (possible_at job p.number) possible_of (length p.rays) (points_at job.plan.grid p.number) (possible_by job p.number)
@@ -131,14 +131,14 @@ possible_ahead_is job p version (suc k) held place within =
     held.kept.ascend place within
 
 -- the same of a journal
-pub totals_ahead_are : (j : Journal) (version place : ℕ) → IsJournal (job_of j) j → IsPlace j.entries.items version place
+pub totals_ahead_are : (j : Journal) (version place : ℕ) → IsJournal (job_of j) j → IsFirstEntryFrom j.entries.items version place
     → version ≤ j.done
     → removed_ahead j.entries.items place
     ≡ (totals_over (job_of j) (strip_points (job_of j).plan.grid j.number) (left_moves (job_of j).plan version)).removed
 totals_ahead_are j version place h is within =
     removed_ahead_is (job_of j) (parts_of j) version place (held_of (job_of j) j h) is within
 
-pub possible_totals_ahead_are : (j : Journal) (version place : ℕ) → IsJournal (job_of j) j → IsPlace j.entries.items version place
+pub possible_totals_ahead_are : (j : Journal) (version place : ℕ) → IsJournal (job_of j) j → IsFirstEntryFrom j.entries.items version place
     → version ≤ j.done
     → possible_ahead j.entries.items place
     ≡ (totals_over (job_of j) (strip_points (job_of j).plan.grid j.number) (left_moves (job_of j).plan version)).possible

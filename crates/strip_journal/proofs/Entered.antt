@@ -1,7 +1,7 @@
 -- A journal after a move was applied is that of its strip after one edit more.
 use Rattle.std.proofs.Common.{◌≡◌, ℕ, zero, suc, ◌+◌, ◌^◌, ◌<◌, false, not, ◌&&◌, List, [], ◌∷◌, ◌++◌, length, take, Some, slice_get, arith, refl, ap, ap₂, ◌∙◌}
 use Rattle.edit_plan.specs.declared.edit.Edit.TheVariants.{Apply}
-use Rattle.job_facts.specs.declared.counts.Counts.{Counts}
+use Rattle.job_counts.specs.declared.counts.Counts.{Counts}
 use Rattle.job_model.specs.Tasks.{Job, JobMove}
 use Rattle.strip_plan.specs.Plans.{HasNumber}
 use Rattle.strip_marks.specs.declared.change.WordChange.{WordChange}

@@ -5,11 +5,11 @@ use Rattle.std.proofs.lemmas.List.{nil_from_length}
 use Rattle.std.proofs.lemmas.List.Elements.{All-append}
 use Rattle.std.proofs.lemmas.Option.{same_Some, slice_get_within}
 use Rattle.edit_plan.specs.declared.edit.Edit.TheVariants.{Apply}
-use Rattle.edit_lines.specs.Lines.{Line, applied_by, line_at, move_of}
-use Rattle.edit_lines.proofs.LinesOrder.{at_within, numbers_below}
-use Rattle.edit_lines.proofs.LinesSteps.{line_applied}
-use Rattle.job_facts.specs.declared.counts.Counts.{Counts}
-use Rattle.job_facts.specs.Counts.{no_counts}
+use Rattle.edit_history.specs.Histories.{History, applied_by, history_at, move_of}
+use Rattle.edit_history.proofs.HistoryOrder.{at_within, numbers_below}
+use Rattle.edit_history.proofs.HistorySteps.{history_applied}
+use Rattle.job_counts.specs.declared.counts.Counts.{Counts}
+use Rattle.job_counts.specs.Counts.{no_counts}
 use Rattle.job_model.specs.Points.{left_moves, strip_points, totals_over}
 use Rattle.job_model.specs.Tasks.{Job, JobMove}
 use Rattle.ray_words.specs.Rays.{KeptSets}
@@ -17,8 +17,8 @@ use Rattle.strip_plan.specs.Plans.{HasNumber}
 use Rattle.strip_marks.specs.declared.change.WordChange.{WordChange}
 use Rattle.strip_marks.specs.Marks.{AreInOrder, IsChangeOn, among, points_at, possible_of, possible_there, sure_of, sure_there}
 use Rattle.strip_journal.specs.declared.entry.Entry.{Entry}
-use Rattle.strip_journal.specs.Entries.{AreEntries, IsPlace, changes_of, entry_at, hits_of, possible_ahead, removed_ahead}
-use Rattle.strip_journal.specs.Journals.{AreFound, HaveTotals, IsTracked, found_at, possible_at, sure_at}
+use Rattle.strip_journal.specs.Entries.{AreEntries, IsFirstEntryFrom, changes_of, entry_at, hits_of, possible_ahead, removed_ahead}
+use Rattle.strip_journal.specs.Journals.{AreFound, HaveTotals, MatchesEntries, found_at, possible_at, sure_at}
 use Rattle.strip_journal.specs.Steps.{AreRaysTurned, does_nothing, noted}
 use Rattle.strip_journal.proofs.Ahead.{possible_ahead_is, possible_by, possible_total, removed_ahead_is, removed_by, sure_total}
 use Rattle.strip_journal.proofs.EntryAdded.{kept_noted, kept_unnoted, sorted_noted, sorted_unnoted, totals_noted}
@@ -43,7 +43,7 @@ new_entry p changes counts = record {
   possible = possible_ahead p.entries (length p.entries) + counts.possible;
 }
 
--- what is held after it was entered and stands in the line
+-- what is held after it was entered and is in the line
 abbrev pub entered_parts : Parts → List KeptSets → List WordChange → Counts → Parts
 entered_parts p after changes counts = record {
   number = p.number;
@@ -66,13 +66,13 @@ pub record IsNextMove (job : Job) (p : Parts) (number : ℕ) (move : JobMove) (c
   pub found : counts ≡ found_at job p.number p.done move
   pub few : length p.changes + length changes < 2 ^ 32
 
--- what is held of the edits, of so many rays
+-- what is held of the edits, of `rays` rays
 pub record HoldsEdits (job : Job) (number rays : ℕ) (changes : List WordChange) (line : List ℕ) (done : ℕ) (entries : List Entry) : Type 0
   where
     pub kept : AreEntries entries (length changes) done
     pub sorted : (i : ℕ) → i < length entries → AreInOrder (changes_of changes (entry_at entries i))
-    pub tracked_sure : IsTracked (sure_at job number) sure_of rays (points_at job.plan.grid number) changes entries done
-    pub tracked_possible : IsTracked (possible_at job number) possible_of rays (points_at job.plan.grid number) changes entries done
+    pub tracked_sure : MatchesEntries (sure_at job number) sure_of rays (points_at job.plan.grid number) changes entries done
+    pub tracked_possible : MatchesEntries (possible_at job number) possible_of rays (points_at job.plan.grid number) changes entries done
     pub totals : HaveTotals job number entries
     pub found : AreFound job number line entries
 
@@ -93,15 +93,15 @@ possible_step job strip v number move applies named =
     ap (λ (moves : List JobMove). (totals_over job points moves).possible) (moves_more job.plan v number move applies named)
     ∙ possible_more job points (left_moves job.plan v) move
 
--- all entries stand ahead of the edit that comes next
-pub at_end : (entries : List Entry) (changes done : ℕ) → AreEntries entries changes done → IsPlace entries done (length entries)
+-- all entries are before the edit that comes next
+pub at_end : (entries : List Entry) (changes done : ℕ) → AreEntries entries changes done → IsFirstEntryFrom entries done (length entries)
 at_end entries changes done kept = record {
   within = omega arith;
   ahead = kept.early;
   behind = λ i from low. absurd (omega (arith, from, low));
 }
 
--- the totals of the new entry are those behind its edit
+-- the totals of the new entry are those after its edit
 removed_is : (job : Job) (p : Parts) (number : ℕ) (move : JobMove) (changes : List WordChange) (counts : Counts) → IsHeld job p
     → IsNextMove job p number move changes counts
     → (new_entry p changes counts).removed ≡ removed_by job p.number (p.done + 1)
@@ -140,11 +140,11 @@ possible_news job p number move changes counts next =
 -- the line as it is kept is that of the edits
 line_within : (job : Job) (p : Parts) → IsHeld job p → p.at ≤ length p.line
 line_within job p h =
-    subst (λ (l : Line). l.at ≤ length l.numbers) (sym h.line) (at_within job.plan.edits p.done)
+    subst (λ (l : History). l.at ≤ length l.numbers) (sym h.line) (at_within job.plan.edits p.done)
 
 line_below : (job : Job) (p : Parts) → IsHeld job p → (k : ℕ) → k < length p.line → slice_index p.line k < p.done
 line_below job p h =
-    subst (λ (l : Line). (k : ℕ) → k < length l.numbers → slice_index l.numbers k < p.done) (sym h.line)
+    subst (λ (l : History). (k : ℕ) → k < length l.numbers → slice_index l.numbers k < p.done) (sym h.line)
     (numbers_below job.plan.edits p.done)
 
 -- the move of the next edit is the one with its number
@@ -154,7 +154,7 @@ move_is job v number move other applies named is =
     let same : move_of job.plan.edits v ≡ number = ap applied_by applies in
     same_Some other move (sym is ∙ ap (λ k. slice_get job.plan.moves k) same ∙ named)
 
--- so what it finds is what the counts tell
+-- so what it finds is what the counts say
 move_finds : (job : Job) (p : Parts) (number : ℕ) (move other : JobMove) (changes : List WordChange) (counts : Counts)
     → IsNextMove job p number move changes counts → HasNumber job.plan (move_of job.plan.edits p.done) other
     → counts ≡ found_at job p.number p.done other
@@ -323,15 +323,15 @@ entered_edits job p number move changes counts h next =
     (λ nothing. entered_unnoted job p number move changes counts h next (nothing_done changes counts nothing))
     (λ something. entered_noted job p number move changes counts h next)
 
--- the line with an edit that stands behind what is left
-abbrev stood : ℕ → Line → Line
+-- the line with an edit that comes after what is left
+abbrev stood : ℕ → History → History
 stood v l = record { numbers = take l.at l.numbers ++ v ∷ []; at = l.at + 1 }
 
 -- the line of the edits with this one
 entered_line : (job : Job) (p : Parts) (number : ℕ) → IsHeld job p → slice_get job.plan.edits p.done ≡ Some (Apply number)
-    → ◌≡◌ {A = Line} (record { numbers = take p.at p.line ++ p.done ∷ []; at = p.at + 1 }) (line_at job.plan.edits (p.done + 1))
+    → ◌≡◌ {A = History} (record { numbers = take p.at p.line ++ p.done ∷ []; at = p.at + 1 }) (history_at job.plan.edits (p.done + 1))
 entered_line job p number h applies =
-    ap (stood p.done) h.line ∙ sym (line_applied job.plan.edits p.done number applies)
+    ap (stood p.done) h.line ∙ sym (history_applied job.plan.edits p.done number applies)
 
 -- what is held after a move was entered is that of the strip
 pub entered_held : (job : Job) (p : Parts) (after : List KeptSets) (number : ℕ) (move : JobMove) (changes : List WordChange)

@@ -1,11 +1,11 @@
--- What a move that is applied finds, and the totals behind it, fit; there is a place for its edit; and what `IsAt` says of the journal.
+-- What a move that is applied finds, and the totals after it, fit; there is a place for its edit; and what `IsAt` says of the journal.
 use Rattle.std.proofs.Common.{◌≡◌, ℕ, ◌+◌, ◌-◌, ◌^◌, ◌<◌, ◌≤◌, ◌&&◌, List, Some, length, slice_get, arith, sym, ap, ◌∙◌, subst}
 use Rattle.std.proofs.lemmas.List.Sums.{count_by-le-length}
-use Rattle.edit_lines.specs.Lines.{Line}
-use Rattle.edit_lines.proofs.LinesOrder.{at_within, line_short}
+use Rattle.edit_history.specs.Histories.{History}
+use Rattle.edit_history.proofs.HistoryOrder.{at_within, history_short}
 use Rattle.edit_plan.specs.declared.edit.Edit.TheVariants.{Apply}
-use Rattle.job_facts.specs.declared.counts.Counts.{Counts}
-use Rattle.job_facts.specs.Counts.{AreWithin}
+use Rattle.job_counts.specs.declared.counts.Counts.{Counts}
+use Rattle.job_counts.specs.Counts.{AreWithin}
 use Rattle.job_model.specs.Points.{is_stock, left_moves, some_possible, some_sure, strip_points}
 use Rattle.job_model.specs.Tasks.{Job, JobMove}
 use Rattle.strip_plan.specs.Plans.{HasNumber}
@@ -81,10 +81,10 @@ marked_fits j m number changes counts h applies low edits marked =
 pub stands_so : (j : Journal) → IsJournal (job_of j) j → j.done < length (job_of j).plan.edits → CanStand j
 stands_so j h low =
     let edits = (job_of j).plan.edits in
-    let short : length j.line ≤ j.done = subst (λ (l : Line). length l.numbers ≤ j.done) (sym h.line) (line_short edits j.done) in
+    let short : length j.line ≤ j.done = subst (λ (l : History). length l.numbers ≤ j.done) (sym h.line) (history_short edits j.done) in
     let few = h.few in
     record {
-      left = subst (λ (l : Line). l.at ≤ length l.numbers) (sym h.line) (at_within edits j.done);
+      left = subst (λ (l : History). l.at ≤ length l.numbers) (sym h.line) (at_within edits j.done);
       few = omega (arith, short, few, low);
       next = omega (arith, few, low);
     }

@@ -24,13 +24,13 @@ each_entry P entries e old new i low =
     let before : i < length entries = omega (arith, early) in
     subst P (sym (entry_still entries e i before)) (old i before))
 
--- an entry that stands and whose changes are among so many
+-- an entry of an edit that is done, whose changes are among the first `many`
 pub record IsEntry (many done : ℕ) (e : Entry) : Type 0 where
   pub early : e.edit < done
   pub order : e.from ≤ e.to
   pub within : e.to ≤ many
 
--- the entries stand after one edit more, among more changes
+-- the entries stay so after one edit more, among more changes
 pub kept_unnoted : (entries : List Entry) (changes more done : ℕ) → changes ≤ more → AreEntries entries changes done
     → AreEntries entries more (done + 1)
 kept_unnoted entries changes more done order kept = record {

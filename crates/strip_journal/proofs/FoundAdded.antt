@@ -2,9 +2,9 @@
 use Rattle.std.proofs.Common.{◌≡◌, ℕ, ◌<◌, ◌≤◌, false, List, [], ◌∷◌, ◌++◌, length, take, slice_index, arith, sym, subst}
 use native.Mathlib.Decide.{dec_le}
 use mathlib.Core.Logic.{dite}
-use Rattle.edit_lines.specs.Lines.{move_of}
-use Rattle.edit_lines.proofs.LinesOrder.{added_pushed, kept_pushed, length_pushed}
-use Rattle.job_facts.specs.Counts.{no_counts}
+use Rattle.edit_history.specs.Histories.{move_of}
+use Rattle.edit_history.proofs.HistoryOrder.{added_pushed, kept_pushed, length_pushed}
+use Rattle.job_counts.specs.Counts.{no_counts}
 use Rattle.job_model.specs.Tasks.{Job, JobMove}
 use Rattle.strip_plan.specs.Plans.{HasNumber}
 use Rattle.strip_journal.specs.declared.entry.Entry.{Entry}
@@ -44,7 +44,7 @@ found_from job strip line entries each = record {
   none = λ k move low none named. (each k low).none move none named;
 }
 
--- an entry of another edit tells nothing of this one
+-- an entry of another edit says nothing of this one
 tells_not : (job : Job) (strip u : ℕ) (e : Entry) → (e.edit ≡ u → ⊥) → Tells job strip u e
 tells_not job strip u e other = record { applies = λ is. absurd (other is); hits = λ move is named. absurd (other is) }
 

@@ -5,10 +5,10 @@ use Rattle.std.proofs.lemmas.List.{drop_all}
 use Rattle.std.proofs.lemmas.Option.{slice_get_cases}
 use Rattle.edit_plan.specs.declared.edit.Edit.TheVariants.{Apply}
 use Rattle.edit_plan.specs.Edits.{left_at}
-use Rattle.edit_lines.specs.Lines.{Line, move_of}
-use Rattle.edit_lines.proofs.LinesChain.{left_applied, line_applies}
-use Rattle.job_facts.specs.declared.counts.Counts.{Counts}
-use Rattle.job_facts.specs.Counts.{no_counts}
+use Rattle.edit_history.specs.Histories.{History, move_of}
+use Rattle.edit_history.proofs.HistoryChain.{history_applies, left_applied}
+use Rattle.job_counts.specs.declared.counts.Counts.{Counts}
+use Rattle.job_counts.specs.Counts.{no_counts}
 use Rattle.job_model.specs.Points.{left_moves, moves_of, strip_points, totals_over}
 use Rattle.job_model.specs.Tasks.{Job, JobMove, PlanOf}
 use Rattle.strip_plan.specs.Plans.{HasNumber}
@@ -24,22 +24,22 @@ use Rattle.strip_journal.proofs.PointTotals.{possible_more, removed_more}
 use Rattle.strip_journal.proofs.Turned.{place_there}
 
 -- each edit of the line applied a move
-pub line_applied : (job : Job) (p : Parts) (k : ℕ) → IsHeld job p → k < length p.line
+pub history_applied : (job : Job) (p : Parts) (k : ℕ) → IsHeld job p → k < length p.line
     → slice_get job.plan.edits (slice_index p.line k) ≡ Some (Apply (move_of job.plan.edits (slice_index p.line k)))
-line_applied job p k h low =
+history_applied job p k h low =
     subst
-    (λ (line : Line). (i : ℕ) → i < length line.numbers
+    (λ (line : History). (i : ℕ) → i < length line.numbers
     → slice_get job.plan.edits (slice_index line.numbers i) ≡ Some (Apply (move_of job.plan.edits (slice_index line.numbers i))))
-    (sym h.line) (line_applies job.plan.edits p.done) k low
+    (sym h.line) (history_applies job.plan.edits p.done) k low
 
--- the totals behind it are those ahead of it and what its move found
+-- the totals after it are those before it and what its move found
 removed_found : (job : Job) (p : Parts) (k : ℕ) (move : JobMove) → IsHeld job p → k < length p.line
     → HasNumber job.plan (move_of job.plan.edits (slice_index p.line k)) move
     → removed_by job p.number (slice_index p.line k + 1)
     ≡ removed_by job p.number (slice_index p.line k) + (found_at job p.number (slice_index p.line k) move).removed
 removed_found job p k move h low number =
     ap (λ moves. (totals_over job (strip_points job.plan.grid p.number) moves).removed)
-    (moves_more job.plan (slice_index p.line k) _ move (line_applied job p k h low) number)
+    (moves_more job.plan (slice_index p.line k) _ move (history_applied job p k h low) number)
     ∙ removed_more job (strip_points job.plan.grid p.number) (left_moves job.plan (slice_index p.line k)) move
 
 possible_found : (job : Job) (p : Parts) (k : ℕ) (move : JobMove) → IsHeld job p → k < length p.line
@@ -48,10 +48,10 @@ possible_found : (job : Job) (p : Parts) (k : ℕ) (move : JobMove) → IsHeld j
     ≡ possible_by job p.number (slice_index p.line k) + (found_at job p.number (slice_index p.line k) move).possible
 possible_found job p k move h low number =
     ap (λ moves. (totals_over job (strip_points job.plan.grid p.number) moves).possible)
-    (moves_more job.plan (slice_index p.line k) _ move (line_applied job p k h low) number)
+    (moves_more job.plan (slice_index p.line k) _ move (history_applied job p k h low) number)
     ∙ possible_more job (strip_points job.plan.grid p.number) (left_moves job.plan (slice_index p.line k)) move
 
--- the totals that are kept ahead of its entry, and in it
+-- the totals that are kept before its entry, and in it
 pub record HasEntryTotals (job : Job) (p : Parts) (u place : ℕ) : Type 0 where
   pub removed_before : removed_ahead p.entries place ≡ removed_by job p.number u
   pub removed_after : (entry_at p.entries place).removed ≡ removed_by job p.number (u + 1)
@@ -132,13 +132,13 @@ totals_rise job p k h low =
     let possible = possible_found job p k there.0 h low there.2 in
     let more : TotalsRise job p.number u = record { removed = omega (arith, removed); possible = omega (arith, possible) } in more)
     (λ (past : (length job.plan.moves ≤ number) × (slice_get job.plan.moves number ≡ None)).
-    let same = moves_still job.plan u number (line_applied job p k h low) past.0 in
+    let same = moves_still job.plan u number (history_applied job p k h low) past.0 in
     let removed = ap (λ moves. (totals_over job (strip_points job.plan.grid p.number) moves).removed) same in
     let possible = ap (λ moves. (totals_over job (strip_points job.plan.grid p.number) moves).possible) same in
     let more : TotalsRise job p.number u = record { removed = omega (arith, removed); possible = omega (arith, possible) } in more)
     (slice_get_cases job.plan.moves number).1
 
--- so what is kept ahead of the entry of an edit of the line is no more than what is kept in it
+-- so what is kept before the entry of an edit of the line is no more than what is kept in it
 pub record AheadWithin (entries : List Entry) (place : ℕ) : Type 0 where
   pub removed : removed_ahead entries place ≤ (entry_at entries place).removed
   pub possible : possible_ahead entries place ≤ (entry_at entries place).possible

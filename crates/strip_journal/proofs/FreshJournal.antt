@@ -9,13 +9,13 @@ use Rattle.ray_grid.specs.Grids.{GridSize}
 use Rattle.ray_grid.specs.declared.ray.Family.TheVariants.{X}
 use Rattle.ray_grid.specs.declared.ray.Ray.{Ray}
 use Rattle.ray_grid.specs.Lattice.{points_of}
-use Rattle.ray_grid.specs.Points.{LatticePoint, points_on}
+use Rattle.ray_grid.specs.Points.{LatticePoint, point_in, points_on}
 use Rattle.ray_grid.specs.Ranges.{IsGrid}
 use Rattle.ray_grid.specs.Strips.{strip_at, strips_of}
 use Rattle.ray_shapes.specs.declared.solid.Solid.{Solid}
 use Rattle.edit_plan.specs.Edits.{AppliesBelow}
 use Rattle.edit_plan.specs.Limits.{most_edits}
-use Rattle.job_model.specs.Points.{is_stock, left_moves, point_in, strip_points, totals_over}
+use Rattle.job_model.specs.Points.{is_stock, left_moves, strip_points, totals_over}
 use Rattle.job_model.specs.Tasks.{IsPlan, Job, PlanOf}
 use Rattle.job_model.proofs.Sums.{count_append, count_map}
 use Rattle.ray_words.specs.Rays.{KeptSets}
@@ -142,8 +142,8 @@ first_held job number kept valid grid strip few named fresh = record {
 }
 
 -- the job of a journal by what it is made of
-job_made : (j : Journal) (plan : PlanOf) (stock part fixture : Solid) → j.plan.value ≡ plan → j.stock.value ≡ stock
-    → j.part.value ≡ part → j.fixture.value ≡ fixture → job_of j ≡ record { plan = plan; stock = stock; part = part; fixture = fixture }
+job_made : (j : Journal) (plan : PlanOf) (stock part fixture : Solid) → j.plan.value ≡ plan → j.stock.value.value ≡ stock
+    → j.part.value.value ≡ part → j.fixture.value.value ≡ fixture → job_of j ≡ record { plan = plan; stock = stock; part = part; fixture = fixture }
 job_made j plan stock part fixture p s q f = λ i. record { plan = p i; stock = s i; part = q i; fixture = f i }
 
 -- a journal that keeps nothing of edits
@@ -175,8 +175,8 @@ first_on grid other strip stock part fixture rays same fresh =
     subst (λ (g : GridSize). AreFreshRays g strip (length (strip_at g strip)) stock part fixture rays) same fresh
 
 -- so one with fresh rays is a journal of its job
-pub first_journal : (j : Journal) (plan : PlanOf) (stock part fixture : Solid) → j.plan.value ≡ plan → j.stock.value ≡ stock
-    → j.part.value ≡ part → j.fixture.value ≡ fixture → IsPlan plan → IsGrid plan.grid → j.number < length (strips_of plan.grid)
+pub first_journal : (j : Journal) (plan : PlanOf) (stock part fixture : Solid) → j.plan.value ≡ plan → j.stock.value.value ≡ stock
+    → j.part.value.value ≡ part → j.fixture.value.value ≡ fixture → IsPlan plan → IsGrid plan.grid → j.number < length (strips_of plan.grid)
     → length plan.edits ≤ most_edits
     → All (AppliesBelow (length plan.moves)) plan.edits
     → AreFreshRays plan.grid j.number (length (strip_at plan.grid j.number)) stock part fixture j.rays

@@ -10,7 +10,7 @@ use mathlib.Core.Logic.{dite}
 use Rattle.strip_journal.specs.declared.entries.KeptEntry.{KeptEntry}
 use Rattle.strip_journal.specs.declared.entry.Entry.{Entry}
 use Rattle.strip_journal.specs.declared.entry.Hits.{Hits}
-use Rattle.strip_journal.specs.Entries.{AreAscending, IsPlace, edit_at, entry_at}
+use Rattle.strip_journal.specs.Entries.{AreAscending, IsFirstEntryFrom, edit_at, entry_at}
 use Rattle.strip_journal.specs.Kept.{NameHits, StillNames, no_kept, whole_entries, whole_entry}
 
 -- the entry at a place is the kept one with its hits
@@ -80,7 +80,7 @@ kept_parted hits kept version ascend =
 -- where they are split is the place of the version
 pub kept_place : (hits : List Hits) (kept : List KeptEntry) (version place : ℕ) → place ≤ length kept
     → IsPartitionPoint (λ entry. ltb entry.edit version ≡ true) (λ entry. ltb entry.edit version ≡ false) kept place
-    → IsPlace (whole_entries hits kept) version place
+    → IsFirstEntryFrom (whole_entries hits kept) version place
 kept_place hits kept version place within point =
     let size = length-map kept (whole_entry hits) in
     record {

@@ -5,7 +5,7 @@ use Rattle.ray_grid.specs.Ranges.{IsGrid}
 use Rattle.ray_grid.specs.Strips.{strips_of}
 use Rattle.edit_plan.specs.Edits.{AppliesBelow}
 use Rattle.edit_plan.specs.Limits.{most_edits}
-use Rattle.edit_lines.specs.Lines.{Line, line_at}
+use Rattle.edit_history.specs.Histories.{History, history_at}
 use Rattle.job_model.specs.Points.{left_moves, strip_points, totals_over}
 use Rattle.job_model.specs.Tasks.{IsPlan, Job}
 use Rattle.ray_words.specs.Rays.{KeptSets}
@@ -14,7 +14,7 @@ use Rattle.strip_marks.specs.Marks.{AreInOrder, AreRays, IsChangeOn, points_at, 
 use Rattle.strip_journal.specs.declared.entry.Entry.{Entry}
 use Rattle.strip_journal.specs.declared.journal.Journal.{Journal}
 use Rattle.strip_journal.specs.Entries.{AreEntries, changes_of, entry_at}
-use Rattle.strip_journal.specs.Journals.{AreFound, HasBodies, HaveTotals, IsJournal, IsTracked, job_of, possible_at, sure_at}
+use Rattle.strip_journal.specs.Journals.{AreFound, HasBodies, HaveTotals, IsJournal, MatchesEntries, job_of, possible_at, sure_at}
 
 -- what a journal holds
 pub record Parts : Type 0 where
@@ -56,15 +56,15 @@ pub record IsHeld (job : Job) (p : Parts) : Type 0 where
   pub few : length job.plan.edits ≤ most_edits
   pub named : All (AppliesBelow (length job.plan.moves)) job.plan.edits
   pub within : p.done ≤ length job.plan.edits
-  pub line : ◌≡◌ {A = Line} (record { numbers = p.line; at = p.at }) (line_at job.plan.edits p.done)
+  pub line : ◌≡◌ {A = History} (record { numbers = p.line; at = p.at }) (history_at job.plan.edits p.done)
   pub newest : AreSetsAt job p.number p.done p.rays
   pub of : p.of ≡ (totals_over job (strip_points job.plan.grid p.number) (left_moves job.plan 0)).of
   pub kept : AreEntries p.entries (length p.changes) p.done
   pub sorted : (i : ℕ) → i < length p.entries → AreInOrder (changes_of p.changes (entry_at p.entries i))
   pub on : All (IsChangeOn p.rays) p.changes
   pub few_changes : length p.changes < 2 ^ 32
-  pub tracked_sure : IsTracked (sure_at job p.number) sure_of (length p.rays) (points_at job.plan.grid p.number) p.changes p.entries p.done
-  pub tracked_possible : IsTracked (possible_at job p.number) possible_of (length p.rays) (points_at job.plan.grid p.number) p.changes
+  pub tracked_sure : MatchesEntries (sure_at job p.number) sure_of (length p.rays) (points_at job.plan.grid p.number) p.changes p.entries p.done
+  pub tracked_possible : MatchesEntries (possible_at job p.number) possible_of (length p.rays) (points_at job.plan.grid p.number) p.changes
       p.entries p.done
   pub totals : HaveTotals job p.number p.entries
   pub found : AreFound job p.number p.line p.entries

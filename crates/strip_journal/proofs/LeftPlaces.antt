@@ -7,29 +7,29 @@ use mathlib.Core.Logic.{dite}
 use Rattle.edit_plan.specs.declared.edit.Edit.{Edit}
 use Rattle.edit_plan.specs.declared.edit.Edit.TheVariants.{Apply, Undo}
 use Rattle.edit_plan.specs.Edits.{AppliesBelow}
-use Rattle.edit_lines.specs.Lines.{Line, move_of}
-use Rattle.edit_lines.proofs.LinesOrder.{at_within, numbers_ascend}
-use Rattle.job_facts.specs.declared.counts.Counts.{Counts}
-use Rattle.job_facts.specs.Counts.{AreWithin}
+use Rattle.edit_history.specs.Histories.{History, move_of}
+use Rattle.edit_history.proofs.HistoryOrder.{at_within, numbers_ascend}
+use Rattle.job_counts.specs.declared.counts.Counts.{Counts}
+use Rattle.job_counts.specs.Counts.{AreWithin}
 use Rattle.job_model.specs.Tasks.{JobMove}
 use Rattle.strip_plan.specs.Plans.{HasNumber}
 use Rattle.strip_journal.specs.declared.journal.Journal.{Journal}
 use Rattle.strip_journal.specs.Found.{IsFoundBy}
 use Rattle.strip_journal.specs.Journals.{IsJournal, job_of}
-use Rattle.strip_journal.proofs.FoundIs.{line_applied}
+use Rattle.strip_journal.proofs.FoundIs.{history_applied}
 use Rattle.strip_journal.proofs.KeptParts.{held_of, parts_of}
 use Rattle.strip_journal.proofs.StripSizes.{found_few}
 
 -- no more are left than the line has
 pub left_few : (j : Journal) → IsJournal (job_of j) j → j.at ≤ length j.line
-left_few j h = subst (λ (line : Line). line.at ≤ length line.numbers) (sym h.line) (at_within j.plan.value.edits j.done)
+left_few j h = subst (λ (line : History). line.at ≤ length line.numbers) (sym h.line) (at_within j.plan.value.edits j.done)
 
 -- those of the line do
 pub line_ascends : (j : Journal) → IsJournal (job_of j) j → Ascends j.line
 line_ascends j h =
-    subst (λ (line : Line). Ascends line.numbers) (sym h.line) (numbers_ascend j.plan.value.edits j.done)
+    subst (λ (line : History). Ascends line.numbers) (sym h.line) (numbers_ascend j.plan.value.edits j.done)
 
--- so an edit stands at one place of the line
+-- so an edit is at one place of the line
 pub line_once : (j : Journal) (k m : ℕ) → IsJournal (job_of j) j → k < length j.line → m < length j.line
     → slice_index j.line k ≡ slice_index j.line m → k ≡ m
 line_once j k m h low few same =
@@ -50,7 +50,7 @@ line_move j k h low =
     let edits = j.plan.value.edits in
     let u = slice_index j.line k in
     let number = move_of edits u in
-    let applied = line_applied (job_of j) (parts_of j) k (held_of (job_of j) j h) low in
+    let applied = history_applied (job_of j) (parts_of j) k (held_of (job_of j) j h) low in
     let among = slice_get_within edits u (Apply number) applied in
     let below : number < length j.plan.value.moves =
     subst (λ (edit : Edit). AppliesBelow (length j.plan.value.moves) edit) (get_or_from_slice_get edits u (Apply number) Undo applied)

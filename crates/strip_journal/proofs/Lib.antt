@@ -1,4 +1,4 @@
-pub mod EditLines
+pub mod EditHistories
 pub mod KeptParts
 pub mod KeptSame
 pub mod Noting

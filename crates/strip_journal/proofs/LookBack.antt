@@ -4,14 +4,14 @@ use Rattle.std.proofs.lemmas.Bool.{cond-false, cond-true, le-ltb, lt-ltb}
 use native.Mathlib.Decide.{dec_le}
 use mathlib.Core.Logic.{dite}
 use Rattle.vf_spans.specs.Members.{has}
-use Rattle.job_facts.specs.declared.totals.PointState.TheVariants.{Absent, Kept, Possible, Removed}
+use Rattle.job_counts.specs.declared.totals.PointState.TheVariants.{Absent, Kept, Possible, Removed}
 use Rattle.job_model.specs.Points.{left_moves, state_after}
 use Rattle.strip_marks.specs.declared.change.WordChange.{WordChange}
 use Rattle.strip_marks.specs.Marks.{among, point_at, points_at, possible_of, sets_of, sure_of}
 use Rattle.strip_journal.specs.declared.entry.Entry.{Entry}
 use Rattle.strip_journal.specs.declared.journal.Journal.{Journal}
 use Rattle.strip_journal.specs.Entries.{AreAscending, AreEntries, changes_of, edit_at, entry_at, was}
-use Rattle.strip_journal.specs.Journals.{IsJournal, IsTracked, job_of, possible_at, sure_at}
+use Rattle.strip_journal.specs.Journals.{IsJournal, MatchesEntries, job_of, possible_at, sure_at}
 use Rattle.strip_journal.specs.Looking.{IsLookingBack, version_at}
 use Rattle.strip_journal.proofs.Tracking.{gap}
 
@@ -32,7 +32,7 @@ version_reached entries many done place h =
     let here = version_here entries done place low in
     let early = h.early place low in omega (arith, here, early))
 
--- each entry from a place on has an edit at its version or behind it
+-- each entry from a place on has an edit at its version or after it
 pub version_behind : (entries : List Entry) (done place i : ℕ) → AreAscending entries → place ≤ i → i < length entries
     → version_at entries done place ≤ edit_at entries i
 version_behind entries done place i ascend from few =
@@ -65,16 +65,16 @@ cost_from entries many done (suc k) place h is =
     let step = look_cost_step entries many done place h (omega (arith, is)) in
     let rest = cost_from entries many done k (place + 1) h (omega (arith, is)) in omega (arith, step, rest)
 
--- so as many entries as stand behind a place, so many edits at least were done since its version
+-- since the version of a place at least as many edits were done as entries come after it
 pub look_cost : (entries : List Entry) (many done place version : ℕ) → AreEntries entries many done → place ≤ length entries
     → version ≤ version_at entries done place
     → (length entries - place) + version ≤ done
 look_cost entries many done place version h within above =
     let cost = cost_from entries many done (length entries - place) place h (omega (arith, within)) in omega (arith, cost, above)
 
--- between a version and that of a place nothing changes, if the entries ahead of the place are those of earlier edits
+-- between a version and that of a place nothing changes, if the entries before the place are those of earlier edits
 pub look_end : (of : ℕ → ℕ → ℕ → Bool) (pick : WordChange → ℕ) (rays : ℕ) (points : ℕ → ℕ) (changes : List WordChange)
-    (entries : List Entry) (many done version place n l : ℕ) → IsTracked of pick rays points changes entries done
+    (entries : List Entry) (many done version place n l : ℕ) → MatchesEntries of pick rays points changes entries done
     → AreEntries entries many done → ((i : ℕ) → i < place → edit_at entries i < version) → version ≤ version_at entries done place
     → n < rays → l < points n → of version n l ≡ of (version_at entries done place) n l
 look_end of pick rays points changes entries many done version place n l tracked h ahead above ray point =
@@ -93,7 +93,7 @@ look_start of entries done n l = ap (λ v. of v n l) (sym (version_last entries 
 
 -- a point is in the set at the version of a place by whether it is there at that of the next one, and by the changes of the entry
 pub look_step : (of : ℕ → ℕ → ℕ → Bool) (pick : WordChange → ℕ) (rays : ℕ) (points : ℕ → ℕ) (changes : List WordChange)
-    (entries : List Entry) (many done place n l : ℕ) → IsTracked of pick rays points changes entries done
+    (entries : List Entry) (many done place n l : ℕ) → MatchesEntries of pick rays points changes entries done
     → AreEntries entries many done → place < length entries → n < rays → l < points n
     → of (version_at entries done place) n l
     ≡ was (entry_at entries place).is_undo (among pick (changes_of changes (entry_at entries place)) n l)
@@ -150,7 +150,7 @@ looking_step j version n l place marks h ray point low from looking =
           h.tracked_possible h.kept low ray point);
     }
 
--- where the entry ahead of a place is of an edit ahead of a version, all ahead of the place are
+-- where the entry before a place is of an edit before a version, all before the place are
 pub all_ahead : (entries : List Entry) (version place i : ℕ) → AreAscending entries → place ≤ length entries
     → (0 < place → edit_at entries (place - 1) < version) → i < place → edit_at entries i < version
 all_ahead entries version place i ascend within last low =
@@ -167,7 +167,7 @@ pub record IsLookedBack (j : Journal) (version n l : ℕ) (marks : Bool × Bool)
   pub sure : marks.0 ≡ sure_at (job_of j) j.number version n l
   pub possible : marks.1 ≡ possible_at (job_of j) j.number version n l
 
--- it ends where no entry ahead is of the version or behind it
+-- it ends where no earlier entry is of the version or after it
 pub looked_back : (j : Journal) (version n l place : ℕ) (marks : Bool × Bool) → IsJournal (job_of j) j → n < length j.rays
     → l < points_at (job_of j).plan.grid j.number n → (0 < place → edit_at j.entries.items (place - 1) < version)
     → IsLookingBack j version n l place marks → IsLookedBack j version n l marks

@@ -1,8 +1,8 @@
 -- Looking back by what is read of the rays and of the entries.
 use Rattle.std.proofs.Common.{◌≡◌, ℕ, ◌+◌, ◌-◌, ◌<◌, ◌≤◌, Bool, not, if◌then◌else◌, length, arith, sym, ap, ◌∙◌, subst}
 use Rattle.vf_spans.specs.Members.{has}
-use Rattle.job_facts.specs.declared.totals.PointState.{PointState}
-use Rattle.job_facts.specs.declared.totals.PointState.TheVariants.{Absent, Kept, Possible, Removed}
+use Rattle.job_counts.specs.declared.totals.PointState.{PointState}
+use Rattle.job_counts.specs.declared.totals.PointState.TheVariants.{Absent, Kept, Possible, Removed}
 use Rattle.job_model.specs.Points.{left_moves, state_after}
 use Rattle.ray_words.specs.Rays.{KeptSets}
 use Rattle.ray_words.specs.Rows.{kept_at}

@@ -1,9 +1,9 @@
--- An Apply of a plan that the journal is of, told of the plan that is handed in.
+-- An Apply of a plan that the journal is of, for the plan that is handed in.
 use Rattle.std.proofs.Common.{◌≡◌, ℕ, ◌+◌, ◌^◌, ◌<◌, List, Some, length, slice_get, arith, sym, ap, subst}
 use Rattle.std.specs.Prelude.{All}
 use Rattle.std.proofs.lemmas.Option.{slice_get_within}
 use Rattle.edit_plan.specs.declared.edit.Edit.TheVariants.{Apply}
-use Rattle.job_facts.specs.declared.counts.Counts.{Counts}
+use Rattle.job_counts.specs.declared.counts.Counts.{Counts}
 use Rattle.job_model.specs.Tasks.{JobMove, PlanOf}
 use Rattle.strip_plan.specs.Plans.{HasNumber}
 use Rattle.strip_marks.specs.declared.change.WordChange.{WordChange}
@@ -48,7 +48,7 @@ own_marking plan j m number changes counts is =
     let own = own_by (job_of j).plan plan j m number changes counts (sym is.plan_is) is.applies is.low is.marked in
     record { applies = own.0; low = own.1; marked = own.2 }
 
--- what `take_over` asks
+-- what `take_over` requires
 pub marking_fits : (plan : PlanOf) (j m : Journal) (number : ℕ) (changes : List WordChange) (counts : Counts)
     → IsMarking plan j m number changes counts → FitsEntry m counts
 marking_fits plan j m number changes counts is =
@@ -66,7 +66,7 @@ marking_stands plan j m number changes counts is =
     let own = own_marking plan j m number changes counts is in
     stands_same j m is.edits (stands_so j is.journal (slice_get_within (job_of j).plan.edits j.done (Apply number) own.applies))
 
--- and the journal behind it
+-- and the journal after it
 pub marking_at : (plan : PlanOf) (j m l : Journal) (number : ℕ) (changes : List WordChange) (counts : Counts)
     → IsMarking plan j m number changes counts → length m.changes.items + length changes < 2 ^ 32 → IsApplied m l changes counts
     → IsAt j l (j.done + 1)

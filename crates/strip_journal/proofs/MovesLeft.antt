@@ -10,8 +10,8 @@ use Rattle.cutter_marks.proofs.Decided.{sure_possible}
 use Rattle.ray_grid.specs.Points.{LatticePoint}
 use Rattle.edit_plan.specs.declared.edit.Edit.TheVariants.{Apply}
 use Rattle.edit_plan.specs.Edits.{left_at}
-use Rattle.edit_lines.proofs.LinesChain.{left_applied}
-use Rattle.job_model.specs.Points.{is_sure, left_moves, may_meet, moves_of, some_possible, some_sure}
+use Rattle.edit_history.proofs.HistoryChain.{left_applied}
+use Rattle.job_model.specs.Points.{is_possible, is_sure, left_moves, moves_of, some_possible, some_sure}
 use Rattle.job_model.specs.Tasks.{IsJobMove, IsPlan, Job, JobMove, PlanOf}
 use Rattle.job_model.proofs.Lists.{moves_valid, some_of}
 use Rattle.strip_plan.specs.Plans.{HasNumber}
@@ -20,9 +20,9 @@ use Rattle.strip_journal.specs.Journals.{possible_at, sure_at}
 
 -- a valid move is possible where it is sure
 valid_sure_possible : (plan : PlanOf) (move : JobMove) (point : LatticePoint) → IsPlan plan → IsJobMove move
-    → is_sure plan move point ≡ true → may_meet plan move point ≡ true
+    → is_sure plan move point ≡ true → is_possible plan move point ≡ true
 valid_sure_possible plan move point valid is sure =
-    sure_possible move.cutter plan.slabs move.motion point.position (2 ^ plan.depth) is.cutter valid.some (pow_pos plan.depth)
+    sure_possible move.cutter plan.slabs move.sweep point.position (2 ^ plan.depth) is.cutter valid.some (pow_pos plan.depth)
     is.sweep sure
 
 -- the move with a number is a valid one
@@ -33,7 +33,7 @@ numbered_valid plan number move valid named =
 
 -- and so possible where it is sure
 pub move_sure_possible : (plan : PlanOf) (number : ℕ) (move : JobMove) (point : LatticePoint) → IsPlan plan
-    → HasNumber plan number move → is_sure plan move point ≡ true → may_meet plan move point ≡ true
+    → HasNumber plan number move → is_sure plan move point ≡ true → is_possible plan move point ≡ true
 move_sure_possible plan number move point valid named sure =
     valid_sure_possible plan move point valid (numbered_valid plan number move valid named) sure
 
@@ -45,10 +45,10 @@ sure_is_possible job strip v n l valid sure =
     let left = left_moves job.plan v in
     let found = some_of (λ move. is_sure job.plan move point) left sure in
     let is = All-contains IsJobMove left found.0 (moves_valid job.plan (left_at job.plan.edits v) valid.moves) found.1 in
-    let there : may_meet job.plan (get_or left found.1.0 found.0) point ≡ true =
-    ap (λ (move : JobMove). may_meet job.plan move point) found.1.2
+    let there : is_possible job.plan (get_or left found.1.0 found.0) point ≡ true =
+    ap (λ (move : JobMove). is_possible job.plan move point) found.1.2
     ∙ valid_sure_possible job.plan found.0 point valid is found.2 in
-    list_any_at (λ move. may_meet job.plan move point) left found.1.0 found.0 found.1.1 there
+    list_any_at (λ move. is_possible job.plan move point) left found.1.0 found.0 found.1.1 there
 
 -- the move with a number, as a list
 one_move : (moves : List JobMove) (number : ℕ) (move : JobMove) → slice_get moves number ≡ Some move
@@ -77,7 +77,7 @@ pub any_more : (test : JobMove → Bool) (moves : List JobMove) (move : JobMove)
 any_more test moves move =
     list_any-append test moves (move ∷ []) ∙ ap (λ b. list_any test moves || b) (or_false (test move))
 
--- behind it the points are sure that were sure ahead of it or of which it is sure, and possible likewise
+-- after it the points are sure that were sure before it or of which it is sure, and possible likewise
 pub sure_more : (job : Job) (strip v n l number : ℕ) (move : JobMove) → slice_get job.plan.edits v ≡ Some (Apply number)
     → HasNumber job.plan number move
     → sure_at job strip (v + 1) n l ≡ (sure_at job strip v n l || sure_there job.plan move strip n l)
@@ -92,7 +92,7 @@ pub possible_more_at : (job : Job) (strip v n l number : ℕ) (move : JobMove) �
 possible_more_at job strip v n l number move applies named =
     let point = point_at job.plan.grid strip n l in
     ap (λ (moves : List JobMove). some_possible job.plan moves point) (moves_more job.plan v number move applies named)
-    ∙ any_more (λ m. may_meet job.plan m point) (left_moves job.plan v) move
+    ∙ any_more (λ m. is_possible job.plan m point) (left_moves job.plan v) move
 
 -- where the same numbers are left the same moves are
 pub same_moves : (plan : PlanOf) (v w : ℕ) → left_at plan.edits v ≡ left_at plan.edits w → left_moves plan v ≡ left_moves plan w

@@ -1,4 +1,4 @@
--- Numbers whose lowest digits are none: the trailing zeros of words, and masks that count from a bit.
+-- Numbers whose lowest digits are 0: the trailing zeros of words, and masks that count from a bit.
 use Rattle.std.proofs.Common.{◌≡◌, ◌∙◌, ℕ, ◌+◌, ◌-◌, ◌*◌, ◌/◌, ◌%◌, ◌^◌, ◌<◌, ◌≤◌, ⊎_elim, suc, zero, arith, ap, ap₂, sym}
 use Rattle.strip_marks.specs.declared.change.WordChange.{WordChange}
 use Rattle.strip_journal.specs.Packed.{IsClose}

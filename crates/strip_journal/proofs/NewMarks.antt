@@ -1,4 +1,4 @@
--- What a move marks and was not in a set leads from the version ahead of its edit to the one behind it.
+-- What a move marks and was not in a set leads from the version before its edit to the one after it.
 use Rattle.std.proofs.Common.{◌≡◌, ℕ, ◌+◌, ◌<◌, true, false, Bool, not, ◌&&◌, ◌||◌, List, Some, slice_get, refl, sym, ap, ap₂, ◌∙◌, subst}
 use Rattle.edit_plan.specs.declared.edit.Edit.TheVariants.{Apply}
 use Rattle.dexel_rays.proofs.Asked.{new_is_all}
@@ -7,19 +7,19 @@ use Rattle.job_model.specs.Tasks.{Job, JobMove}
 use Rattle.strip_plan.specs.Plans.{HasNumber}
 use Rattle.strip_marks.specs.declared.change.WordChange.{WordChange}
 use Rattle.strip_marks.specs.Marks.{among, points_at, possible_of, possible_there, sure_of, sure_there}
-use Rattle.strip_journal.specs.Entries.{IsTurned}
+use Rattle.strip_journal.specs.Entries.{IsToggled}
 use Rattle.strip_journal.specs.Journals.{possible_at, sure_at}
 use Rattle.strip_journal.proofs.MovesLeft.{possible_more_at, sure_more}
 use Rattle.strip_journal.proofs.SetsTurned.{Leads}
 
--- the changes are what is marked and was not in a set at a version; the set behind it has both
+-- the changes are what is marked and was not in a set at a version; the set after it has both
 pub record AreNew (of : ℕ → ℕ → ℕ → Bool) (pick : WordChange → ℕ) (rays : ℕ) (points : ℕ → ℕ) (changes : List WordChange)
     (mark : ℕ → ℕ → Bool) (version : ℕ) : Type 0 where
   pub new : (n l : ℕ) → n < rays → l < points n → among pick changes n l ≡ (mark n l && not (of version n l))
   pub all : (n l : ℕ) → n < rays → l < points n → of (version + 1) n l ≡ (of version n l || mark n l)
 
--- what is new leads forth, and back
-turned_by_new : (before after mark new : Bool) → new ≡ (mark && not before) → after ≡ (before || mark) → IsTurned false before after new
+-- what is new leads forward, and back
+turned_by_new : (before after mark new : Bool) → new ≡ (mark && not before) → after ≡ (before || mark) → IsToggled false before after new
 turned_by_new before after mark new is all = record {
   back = sym (ap₂ (λ a n. a && not n) all is ∙ back_again mark before);
   forth = all ∙ sym (ap (λ n. before || n) is ∙ new_is_all before mark);
@@ -27,7 +27,7 @@ turned_by_new before after mark new is all = record {
 
 new_turns : (of : ℕ → ℕ → ℕ → Bool) (pick : WordChange → ℕ) (rays : ℕ) (points : ℕ → ℕ) (changes : List WordChange)
     (mark : ℕ → ℕ → Bool) (version n l : ℕ) → AreNew of pick rays points changes mark version → n < rays → l < points n
-    → IsTurned false (of version n l) (of (version + 1) n l) (among pick changes n l)
+    → IsToggled false (of version n l) (of (version + 1) n l) (among pick changes n l)
 new_turns of pick rays points changes mark version n l are ray point =
     turned_by_new (of version n l) (of (version + 1) n l) (mark n l) (among pick changes n l) (are.new n l ray point)
     (are.all n l ray point)
@@ -35,9 +35,9 @@ new_turns of pick rays points changes mark version n l are ray point =
 -- the changes by another name
 pub new_turns_as : (of : ℕ → ℕ → ℕ → Bool) (pick : WordChange → ℕ) (rays : ℕ) (points : ℕ → ℕ) (its changes : List WordChange)
     (mark : ℕ → ℕ → Bool) (version n l : ℕ) → its ≡ changes → AreNew of pick rays points changes mark version → n < rays → l < points n
-    → IsTurned false (of version n l) (of (version + 1) n l) (among pick its n l)
+    → IsToggled false (of version n l) (of (version + 1) n l) (among pick its n l)
 new_turns_as of pick rays points its changes mark version n l is are ray point =
-    subst (λ (c : List WordChange). IsTurned false (of version n l) (of (version + 1) n l) (among pick c n l)) (sym is)
+    subst (λ (c : List WordChange). IsToggled false (of version n l) (of (version + 1) n l) (among pick c n l)) (sym is)
     (new_turns of pick rays points changes mark version n l are ray point)
 
 pub new_leads : (of : ℕ → ℕ → ℕ → Bool) (pick : WordChange → ℕ) (rays : ℕ) (points : ℕ → ℕ) (changes : List WordChange)

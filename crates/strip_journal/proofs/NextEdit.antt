@@ -1,23 +1,23 @@
 -- What a journal holds after one edit more that applies no move: with no entry of it, and with one.
 use Rattle.std.proofs.Common.{◌≡◌, ℕ, ◌+◌, ◌<◌, ◌≤◌, true, List, [], ◌∷◌, ◌++◌, length, slice_index, arith, sym, ap, ◌∙◌, subst}
-use Rattle.edit_lines.specs.Lines.{Line, line_at}
-use Rattle.edit_lines.proofs.LinesOrder.{numbers_below}
+use Rattle.edit_history.specs.Histories.{History, history_at}
+use Rattle.edit_history.proofs.HistoryOrder.{numbers_below}
 use Rattle.job_model.specs.Points.{left_moves, strip_points, totals_over}
 use Rattle.job_model.specs.Tasks.{Job}
 use Rattle.ray_words.specs.Rays.{KeptSets}
 use Rattle.strip_marks.specs.Marks.{AreInOrder, among, points_at, possible_of, sure_of}
 use Rattle.strip_journal.specs.declared.entry.Entry.{Entry}
-use Rattle.strip_journal.specs.Entries.{AreEntries, IsTurned, changes_of}
-use Rattle.strip_journal.specs.Journals.{IsTracked, possible_at, sure_at}
+use Rattle.strip_journal.specs.Entries.{AreEntries, IsToggled, changes_of}
+use Rattle.strip_journal.specs.Journals.{MatchesEntries, possible_at, sure_at}
 use Rattle.strip_journal.specs.Steps.{AreRaysTurned}
 use Rattle.strip_journal.proofs.KeptParts.{AreSetsAt, IsHeld, Parts}
 use Rattle.strip_journal.proofs.Pushed.{each_pushed, entries_pushed, found_pushed, totals_pushed, tracked_pushed, tracked_still}
 use Rattle.strip_journal.proofs.RaysTurned.{changes_turned, marked_turned}
 
--- the edit is one of the job's, and leaves the line, but for where it stands
+-- the edit is one of the job's, and leaves the line, except for the place in it
 pub record ComesNext (job : Job) (p : Parts) (at : ℕ) : Type 0 where
   pub within : p.done < length job.plan.edits
-  pub line : ◌≡◌ {A = Line} (record { numbers = p.line; at = at }) (line_at job.plan.edits (p.done + 1))
+  pub line : ◌≡◌ {A = History} (record { numbers = p.line; at = at }) (history_at job.plan.edits (p.done + 1))
 
 -- it changes nothing on the strip
 pub record IsStill (job : Job) (p : Parts) : Type 0 where
@@ -26,17 +26,17 @@ pub record IsStill (job : Job) (p : Parts) : Type 0 where
   pub possible : (n l : ℕ) → n < length p.rays → l < points_at job.plan.grid p.number n
       → possible_at job p.number p.done n l ≡ possible_at job p.number (p.done + 1) n l
 
--- its entry has what it changes on the strip, and the totals behind it
+-- its entry has what it changes on the strip, and the totals after it
 pub record IsTurnOf (job : Job) (p : Parts) (e : Entry) : Type 0 where
   pub edit : e.edit ≡ p.done
   pub order : e.from ≤ e.to
   pub few : e.to ≤ length p.changes
   pub sorted : AreInOrder (changes_of p.changes e)
   pub sure : (n l : ℕ) → n < length p.rays → l < points_at job.plan.grid p.number n
-      → IsTurned e.is_undo (sure_at job p.number p.done n l) (sure_at job p.number (p.done + 1) n l)
+      → IsToggled e.is_undo (sure_at job p.number p.done n l) (sure_at job p.number (p.done + 1) n l)
       (among sure_of (changes_of p.changes e) n l)
   pub possible : (n l : ℕ) → n < length p.rays → l < points_at job.plan.grid p.number n
-      → IsTurned e.is_undo (possible_at job p.number p.done n l) (possible_at job p.number (p.done + 1) n l)
+      → IsToggled e.is_undo (possible_at job p.number p.done n l) (possible_at job p.number (p.done + 1) n l)
       (among possible_of (changes_of p.changes e) n l)
   pub removed : e.removed ≡ (totals_over job (strip_points job.plan.grid p.number) (left_moves job.plan (p.done + 1))).removed
   pub possible_total : e.possible ≡ (totals_over job (strip_points job.plan.grid p.number) (left_moves job.plan (p.done + 1))).possible
@@ -53,7 +53,7 @@ entries_later entries changes done h = record {
 -- each edit of the line came before those to come
 pub line_early : (job : Job) (p : Parts) → IsHeld job p → (k : ℕ) → k < length p.line → slice_index p.line k < p.done
 line_early job p h =
-    subst (λ (line : Line). (k : ℕ) → k < length line.numbers → slice_index line.numbers k < p.done) (sym h.line)
+    subst (λ (line : History). (k : ℕ) → k < length line.numbers → slice_index line.numbers k < p.done) (sym h.line)
     (numbers_below job.plan.edits p.done)
 
 -- the sets are those of the next version where it changes nothing
@@ -115,13 +115,13 @@ turned_held job p at after e h next rays more turn =
       few_changes = h.few_changes;
       tracked_sure =
           subst
-          (λ (r : ℕ). IsTracked (sure_at job p.number) sure_of r (points_at job.plan.grid p.number) p.changes (p.entries ++ e ∷ [])
+          (λ (r : ℕ). MatchesEntries (sure_at job p.number) sure_of r (points_at job.plan.grid p.number) p.changes (p.entries ++ e ∷ [])
           (p.done + 1))
           (sym rays.many)
           (tracked_pushed (sure_at job p.number) sure_of _ _ p.changes p.entries p.done e h.kept h.tracked_sure turn.edit turn.sure);
       tracked_possible =
           subst
-          (λ (r : ℕ). IsTracked (possible_at job p.number) possible_of r (points_at job.plan.grid p.number) p.changes
+          (λ (r : ℕ). MatchesEntries (possible_at job p.number) possible_of r (points_at job.plan.grid p.number) p.changes
           (p.entries ++ e ∷ []) (p.done + 1))
           (sym rays.many)
           (tracked_pushed (possible_at job p.number) possible_of _ _ p.changes p.entries p.done e h.kept h.tracked_possible turn.edit

@@ -9,7 +9,7 @@ use Rattle.strip_journal.specs.Entries.{AreEntries, HasNo, changes_of, entry_at,
 pub entry_still : (entries : List Entry) (e : Entry) (i : ℕ) → i < length entries → entry_at (entries ++ e ∷ []) i ≡ entry_at entries i
 entry_still entries e i low = get_or_append_left entries (e ∷ []) no_entry i low
 
--- the new one stands behind them
+-- the new one comes after them
 pub entry_new : (entries : List Entry) (e : Entry) (i : ℕ) → length entries ≡ i → entry_at (entries ++ e ∷ []) i ≡ e
 entry_new entries e i is = get_or_push entries e no_entry i is
 
@@ -24,14 +24,14 @@ not_noted entries e v is none =
     none (length entries) (omega (arith, length_push entries e))
     (ap (λ (x : Entry). x.edit) (entry_new entries e (length entries) refl) ∙ is)
 
--- what stands in a list stands in a longer one
+-- what is in a list is in a longer one
 pub range_still : {X : Type 0} (xs ys : List X) (from to : ℕ) → from ≤ to → to ≤ length xs
     → slice_range (xs ++ ys) from to ≡ slice_range xs from to
 range_still xs ys from to order within =
     ap (λ l. take (to - from) l) (drop-append-le from xs ys (omega (arith, order, within)))
     ∙ take-append-le (to - from) (drop from xs) ys (omega (arith, order, within, length-drop from xs))
 
--- and what is added stands behind it
+-- and what is added comes after it
 pub range_new : {X : Type 0} (xs ys : List X) → slice_range (xs ++ ys) (length xs) (length xs + length ys) ≡ ys
 range_new xs ys =
     ap (λ l. take (length xs + length ys - length xs) l) (drop_at xs ys (length xs) refl)

@@ -9,7 +9,7 @@ use Rattle.std.proofs.Math.ListN.{drop, get_or-append, take}
 use Rattle.std.proofs.Math.Seq.{get_or-append_seam}
 use Rattle.strip_marks.specs.declared.change.WordChange.{WordChange}
 use Rattle.strip_journal.specs.declared.packed.PackedChange.{PackedChange}
-use Rattle.strip_journal.specs.Packed.{ArePacked, IsHeld, no_change, spread, unpacked, whole_mark}
+use Rattle.strip_journal.specs.Packed.{ArePacked, IsHeld, as_word_change, no_change, unpacked, whole_mark}
 
 -- a choice with another value where the first is taken
 chosen : {X : Type 0} (first : Bool) (a b c : X) → (first ≡ true → a ≡ b) → (if first then a else c) ≡ (if first then b else c)
@@ -23,7 +23,7 @@ marked first is = grind (arith, nat_tests)
 unpacked_more : (whole : List WordChange) (change : WordChange) (p : PackedChange) → IsHeld (length whole) p
     → unpacked (whole ++ change ∷ []) p ≡ unpacked whole p
 unpacked_more whole change p held =
-    chosen (p.first == whole_mark) _ _ (spread p)
+    chosen (p.first == whole_mark) _ _ (as_word_change p)
     (λ is. get_or-append whole (change ∷ []) no_change p.ray (held.low (marked p.first is)))
 
 -- and so do all
@@ -34,7 +34,7 @@ all_more whole change (p ∷ packed) held =
     ap₂ (λ (x : WordChange) (xs : List WordChange). x ∷ xs) (unpacked_more whole change p (held 0 p (omega arith)))
     (all_more whole change packed (λ k d low. held (suc k) d (omega (arith, low))))
 
--- a change that is kept whole stands behind the others
+-- a change that is kept whole comes after the others
 pub kept_whole : (whole : List WordChange) (change : WordChange) (packed : List PackedChange) → All (IsHeld (length whole)) packed
     → map (unpacked (whole ++ change ∷ [])) (packed ++ record { ray = length whole; first = whole_mark; sure = 0; possible = 0 } ∷ [])
     ≡ map (unpacked whole) packed ++ change ∷ []
@@ -45,12 +45,12 @@ kept_whole whole change packed held =
 
 -- and so does one that is packed
 pub kept_packed : (whole : List WordChange) (packed : List PackedChange) (p : PackedChange) (change : WordChange) → p.first < whole_mark
-    → spread p ≡ change → map (unpacked whole) (packed ++ p ∷ []) ≡ map (unpacked whole) packed ++ change ∷ []
+    → as_word_change p ≡ change → map (unpacked whole) (packed ++ p ∷ []) ≡ map (unpacked whole) packed ++ change ∷ []
 kept_packed whole packed p change low is =
     let unmarked : (p.first == whole_mark) ≡ false = ne_eqb p.first whole_mark (λ e. omega (arith, e, low)) in
     map-append (unpacked whole) packed (p ∷ [])
     ∙ ap (λ (x : WordChange). map (unpacked whole) packed ++ x ∷ [])
-    (ap (λ (first : Bool). if first then slice_index_or whole p.ray no_change else spread p) unmarked ∙ is)
+    (ap (λ (first : Bool). if first then slice_index_or whole p.ray no_change else as_word_change p) unmarked ∙ is)
 
 -- all are held, with one more that holds
 held_more : (n : ℕ) (packed : List PackedChange) (p : PackedChange) → All (IsHeld n) packed → IsHeld n p → All (IsHeld n) (packed ++ p ∷ [])
@@ -74,7 +74,7 @@ whole_more whole packed p change place are =
           (record { low = λ e. omega (arith, more, place) });
     }
 
--- changes that stand together
+-- changes that follow each other
 pub part_of : (whole : List WordChange) (packed : List PackedChange) (from to : ℕ)
     → slice_range (map (unpacked whole) packed) from to ≡ map (unpacked whole) (slice_range packed from to)
 part_of whole packed from to =

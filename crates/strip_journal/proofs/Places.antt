@@ -3,10 +3,10 @@ use Rattle.std.proofs.Common.{◌≡◌, ℕ, ◌<◌, List, length, arith, ap, 
 use native.Mathlib.Decide.{dec_le}
 use mathlib.Core.Logic.{dite}
 use Rattle.strip_journal.specs.declared.entry.Entry.{Entry}
-use Rattle.strip_journal.specs.Entries.{AreAscending, HasNo, IsPlace, edit_at}
+use Rattle.strip_journal.specs.Entries.{AreAscending, HasNo, IsFirstEntryFrom, edit_at}
 
 -- an edit that isn't that of the entry at its place has no entry
-pub entry_missing : (entries : List Entry) (edit place : ℕ) → AreAscending entries → IsPlace entries edit place
+pub entry_missing : (entries : List Entry) (edit place : ℕ) → AreAscending entries → IsFirstEntryFrom entries edit place
     → (place < length entries → edit_at entries place ≡ edit → ⊥) → HasNo entries edit
 entry_missing entries edit place ascend is other q few same =
     dite (dec_le place q)

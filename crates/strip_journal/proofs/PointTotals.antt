@@ -7,12 +7,12 @@ use Rattle.ray_grid.specs.Grids.{GridSize}
 use Rattle.ray_grid.specs.declared.ray.Family.TheVariants.{X}
 use Rattle.ray_grid.specs.declared.ray.Ray.{Ray}
 use Rattle.ray_grid.specs.Lattice.{points_of}
-use Rattle.ray_grid.specs.Points.{LatticePoint, points_on}
+use Rattle.ray_grid.specs.Points.{LatticePoint, point_in, points_on}
 use Rattle.ray_grid.specs.Strips.{strip_at}
 use Rattle.dexel_rays.proofs.Laws.{and_false, none_counted}
 use Rattle.dexel_rays.proofs.WordOnes.{below_same}
 use Rattle.job_model.specs.Findings.{found_over}
-use Rattle.job_model.specs.Points.{is_stock, is_sure, left_moves, may_meet, point_in, some_possible, some_sure, strip_points, totals_over}
+use Rattle.job_model.specs.Points.{is_possible, is_stock, is_sure, left_moves, some_possible, some_sure, strip_points, totals_over}
 use Rattle.job_model.specs.Tasks.{Job, JobMove}
 use Rattle.job_model.proofs.Sums.{count_append, count_map}
 use Rattle.strip_marks.specs.Marks.{point_at, points_at}
@@ -40,7 +40,7 @@ split_new true false true = refl
 split_new true false false = refl
 split_new false before new = refl
 
--- a count with one move more is the count ahead of it and what is new by it
+-- a count with one move more is the count before it and what is new by it
 count_more : (stock test all before : LatticePoint → Bool) → ((p : LatticePoint) → all p ≡ (before p || test p))
     → (points : List LatticePoint)
     → count_by (λ p. stock p && all p) points
@@ -61,8 +61,8 @@ pub possible_more : (job : Job) (points : List LatticePoint) (ahead : List JobMo
     → (totals_over job points (ahead ++ move ∷ [])).possible
     ≡ (totals_over job points ahead).possible + (found_over job points ahead move).possible
 possible_more job points ahead move =
-    count_more (is_stock job) (may_meet job.plan move) (some_possible job.plan (ahead ++ move ∷ [])) (some_possible job.plan ahead)
-    (λ p. any_more (λ m. may_meet job.plan m p) ahead move) points
+    count_more (is_stock job) (is_possible job.plan move) (some_possible job.plan (ahead ++ move ∷ [])) (some_possible job.plan ahead)
+    (λ p. any_more (λ m. is_possible job.plan m p) ahead move) points
 
 -- two tests together count no more than the first
 one_less : (a b : Bool) → one_if (a && b) ≤ one_if a
@@ -123,7 +123,7 @@ same_on_strip grid strip stock p q same =
     record { family = X; i = 0; j = 0 }
     (λ n l lt at. ap (λ b. stock (point_at grid strip n l) && b) (same n l lt at))
 
--- where the same points are sure at two versions, as many are removed; and as many are possible where the same are
+-- where the same points are sure at two versions, the same number is removed; and the same number is possible where the same are
 pub same_totals : (job : Job) (strip v w : ℕ)
     → ((n l : ℕ) → n < length (strip_at job.plan.grid strip) → l < points_at job.plan.grid strip n
     → sure_at job strip v n l ≡ sure_at job strip w n l)

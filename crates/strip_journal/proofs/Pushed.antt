@@ -1,4 +1,4 @@
--- Entries with one more behind them, of the edit that came next.
+-- Entries with one more after them, of the edit that came next.
 use Rattle.std.proofs.Common.{◌≡◌, ℕ, ◌+◌, ◌<◌, ◌≤◌, Bool, false, List, [], ◌∷◌, ◌++◌, length, slice_index, arith, sym, ap, subst}
 use Rattle.std.proofs.lemmas.List.{append-nil, length_push}
 use native.Mathlib.Decide.{dec_le}
@@ -8,8 +8,8 @@ use Rattle.job_model.specs.Tasks.{Job}
 use Rattle.strip_marks.specs.declared.change.WordChange.{WordChange}
 use Rattle.strip_marks.specs.Marks.{among}
 use Rattle.strip_journal.specs.declared.entry.Entry.{Entry}
-use Rattle.strip_journal.specs.Entries.{AreAscending, AreEntries, IsTurned, changes_of, edit_at, entry_at, hits_of}
-use Rattle.strip_journal.specs.Journals.{AreFound, HaveTotals, IsTracked, found_at}
+use Rattle.strip_journal.specs.Entries.{AreAscending, AreEntries, IsToggled, changes_of, edit_at, entry_at, hits_of}
+use Rattle.strip_journal.specs.Journals.{AreFound, HaveTotals, MatchesEntries, found_at}
 use Rattle.strip_journal.proofs.Noting.{entry_new, entry_still, none_before}
 use Rattle.strip_journal.proofs.Tracking.{tracked_noted, tracked_unnoted}
 
@@ -57,26 +57,26 @@ entries_pushed entries changes done e h is order within = record {
 -- a set is tracked on by an entry of the next edit whose changes are there
 pub tracked_pushed : (of : ℕ → ℕ → ℕ → Bool) (pick : WordChange → ℕ) (rays : ℕ) (points : ℕ → ℕ) (changes : List WordChange)
     (entries : List Entry) (done : ℕ) (e : Entry) → AreEntries entries (length changes) done
-    → IsTracked of pick rays points changes entries done → e.edit ≡ done
+    → MatchesEntries of pick rays points changes entries done → e.edit ≡ done
     → ((n l : ℕ) → n < rays → l < points n
-    → IsTurned e.is_undo (of done n l) (of (done + 1) n l) (among pick (changes_of changes e) n l))
-    → IsTracked of pick rays points changes (entries ++ e ∷ []) (done + 1)
+    → IsToggled e.is_undo (of done n l) (of (done + 1) n l) (among pick (changes_of changes e) n l))
+    → MatchesEntries of pick rays points changes (entries ++ e ∷ []) (done + 1)
 tracked_pushed of pick rays points changes entries done e kept old is =
     subst
     (λ (c : List WordChange). ((n l : ℕ) → n < rays → l < points n
-    → IsTurned e.is_undo (of done n l) (of (done + 1) n l) (among pick (changes_of c e) n l))
-    → IsTracked of pick rays points c (entries ++ e ∷ []) (done + 1))
+    → IsToggled e.is_undo (of done n l) (of (done + 1) n l) (among pick (changes_of c e) n l))
+    → MatchesEntries of pick rays points c (entries ++ e ∷ []) (done + 1))
     (append-nil changes)
     (tracked_noted of pick rays points changes [] entries done e kept old is)
 
 -- and without one by an edit that changes nothing
 pub tracked_still : (of : ℕ → ℕ → ℕ → Bool) (pick : WordChange → ℕ) (rays : ℕ) (points : ℕ → ℕ) (changes : List WordChange)
     (entries : List Entry) (done : ℕ) → AreEntries entries (length changes) done
-    → IsTracked of pick rays points changes entries done
+    → MatchesEntries of pick rays points changes entries done
     → ((n l : ℕ) → n < rays → l < points n → of done n l ≡ of (done + 1) n l)
-    → IsTracked of pick rays points changes entries (done + 1)
+    → MatchesEntries of pick rays points changes entries (done + 1)
 tracked_still of pick rays points changes entries done kept old same =
-    subst (λ (c : List WordChange). IsTracked of pick rays points c entries (done + 1)) (append-nil changes)
+    subst (λ (c : List WordChange). MatchesEntries of pick rays points c entries (done + 1)) (append-nil changes)
     (tracked_unnoted of pick rays points changes [] entries done kept old same)
 
 -- the totals of each entry
@@ -95,7 +95,7 @@ totals_pushed job strip entries e h removed possible = record {
       entries e h.possible possible;
 }
 
--- an entry of an edit behind those of the line leaves what they found
+-- an entry of an edit after those of the line leaves what they found
 pub found_pushed : (job : Job) (strip : ℕ) (line : List ℕ) (entries : List Entry) (e : Entry) → AreFound job strip line entries
     → ((k : ℕ) → k < length line → slice_index line k < e.edit)
     → AreFound job strip line (entries ++ e ∷ [])

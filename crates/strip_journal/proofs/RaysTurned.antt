@@ -11,7 +11,7 @@ use Rattle.ray_words.specs.Rows.{kept_at}
 use Rattle.job_model.specs.Tasks.{Job}
 use Rattle.strip_marks.specs.declared.change.WordChange.{WordChange}
 use Rattle.strip_marks.specs.Marks.{IsChangeOn, among, points_at, possible_of, sets_of, sure_of}
-use Rattle.strip_journal.specs.Entries.{IsTurned, was}
+use Rattle.strip_journal.specs.Entries.{IsToggled, was}
 use Rattle.strip_journal.specs.Journals.{HasBodies, possible_at, sure_at}
 use Rattle.strip_journal.specs.Steps.{AreRaysTurned, IsRayTurned}
 use Rattle.strip_journal.proofs.KeptParts.{AreSetsAt}
@@ -71,9 +71,9 @@ pub marked_turned : (job : Job) (strip done next : ℕ) (before after : List Kep
     → AreSetsAt job strip done before → AreRaysTurned before after changes is_undo
     → ((n l : ℕ) → sure_at job strip next n l ≡ true → possible_at job strip next n l ≡ true)
     → ((n l : ℕ) → n < length before → l < points_at job.plan.grid strip n
-    → IsTurned is_undo (sure_at job strip done n l) (sure_at job strip next n l) (among sure_of changes n l))
+    → IsToggled is_undo (sure_at job strip done n l) (sure_at job strip next n l) (among sure_of changes n l))
     → ((n l : ℕ) → n < length before → l < points_at job.plan.grid strip n
-    → IsTurned is_undo (possible_at job strip done n l) (possible_at job strip next n l) (among possible_of changes n l))
+    → IsToggled is_undo (possible_at job strip done n l) (possible_at job strip next n l) (among possible_of changes n l))
     → AreSetsAt job strip next after
 marked_turned job strip done next before after changes is_undo h t more turn_sure turn_possible =
     let bounds : (n : ℕ) → n < length before → HaveBound (points_at job.plan.grid strip n) (sets_of after n) =

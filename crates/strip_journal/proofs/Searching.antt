@@ -19,15 +19,15 @@ use Rattle.strip_journal.specs.Looking.{at_word}
 abbrev pub no_change : WordChange
 no_change = record { ray = 0; word = 0; sure = 0; possible = 0 }
 
--- what stands ahead of a change that stands ahead of a word does so too
+-- what comes before a change that comes before a word does so too
 ahead_ahead : (a b c : WordChange) → IsTrue (is_ahead a b) → is_ahead b c ≡ true → is_ahead a c ≡ true
 ahead_ahead a b c first then = grind (arith, nat_tests)
 
--- what stands ahead of another is at another word
+-- what comes before another is at another word
 ahead_differs : (a b : WordChange) → IsTrue (is_ahead a b) → a.ray ≡ b.ray → a.word ≡ b.word → ⊥
 ahead_differs a b ahead ray word = grind (arith, nat_tests)
 
--- so is what stands ahead of a word, and what stands behind a change that doesn't
+-- so is what comes before a word, and what comes after a change that doesn't
 word_differs : (a : WordChange) (n word : ℕ) → is_ahead a (at_word n word) ≡ true → a.ray ≡ n → a.word ≡ word → ⊥
 word_differs a n word ahead ray same = grind (arith, nat_tests)
 
@@ -103,7 +103,7 @@ among_at pick changes n l p order low ray word =
     ahead_differs (get_or changes i no_change) (get_or changes p no_change) (order.each i p no_change (omega (arith, sooner)) low)
     (ray_too ∙ sym ray) (word_too ∙ sym word))))
 
--- where no change at its word stands at the place of the word, it is among none
+-- where no change at its word is at the place of the word, it is among none
 pub among_none : (pick : WordChange → ℕ) (changes : List WordChange) (n l p : ℕ) → AreInOrder changes
     → IsPartitionPoint (λ change. is_ahead change (at_word n (l / 64)) ≡ true)
     (λ change. is_ahead change (at_word n (l / 64)) ≡ false) changes p

@@ -1,4 +1,4 @@
--- A strip may go to another thread. What it keeps for contracts alone has no byte, and says the same to every thread.
+-- A strip may go to another thread. What it keeps only for contracts has no byte, and says the same to every thread.
 use denote.Param.Send.{IsSend, sendable}
 use Rattle.std.proofs.Crossing.{crosses}
 use Rattle.ray_words.proofs.word_ray.WordRay.TheSendSync as ray

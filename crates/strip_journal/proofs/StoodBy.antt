@@ -3,7 +3,7 @@ use Rattle.std.proofs.Common.{◌≡◌, ◌∙◌, ℕ, zero, suc, ◌+◌, ◌
 use Rattle.std.specs.List.{range_with_len}
 use Rattle.std.proofs.lemmas.List.{append_assoc, length-append, length-take-le, take_all}
 use Rattle.job_model.specs.Tasks.{PlanOf}
-use Rattle.strip_plan.specs.Passing.{ArePassed, IsPassed}
+use Rattle.strip_plan.specs.Untouched.{ArePassed, IsPassed}
 use Rattle.strip_journal.specs.declared.journal.Journal.{Journal}
 use Rattle.strip_journal.specs.Journals.{IsAt, IsJournal, job_of}
 use Rattle.strip_journal.specs.Steps.{IsStood, IsStoodBy}
@@ -47,7 +47,7 @@ others_stood j l count left by =
       done = let done = by.done in omega (arith, done);
     }
 
--- the journal behind all of them, one at least
+-- the journal after all of them, one at least
 stood_by_at : (count : ℕ) (plan : PlanOf) (j l : Journal) → IsJournal (job_of j) j → j.plan.value ≡ plan
     → ArePassed plan j.number j.done (suc count) → IsStoodBy j l (suc count) → IsAt j l (j.done + suc count)
 stood_by_at zero plan j l h plan_is passed by =
@@ -65,7 +65,7 @@ stood_by_at (suc count) plan j l h plan_is passed by =
     let all = stood_by_at count plan (one_more j) l one.journal plan_is behind (others_stood j l (suc count) left by) in
     record { journal = all.journal; job = all.job; number = all.number; done_is = by.done }
 
--- the journal behind a run
+-- the journal after a run
 pub passed_at : (count : ℕ) (plan : PlanOf) (j l : Journal) → IsJournal (job_of j) j → j.plan.value ≡ plan → 0 < count
     → ArePassed plan j.number j.done count → IsStoodBy j l count → IsAt j l (j.done + count)
 passed_at zero plan j l h plan_is some passed by = absurd (omega (arith, some))

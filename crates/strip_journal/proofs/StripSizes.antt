@@ -11,15 +11,15 @@ use Rattle.ray_grid.specs.declared.ray.Family.{Family}
 use Rattle.ray_grid.specs.declared.ray.Family.TheVariants.{X, Y, Z}
 use Rattle.ray_grid.specs.declared.ray.Ray.{Ray}
 use Rattle.ray_grid.specs.Lattice.{nodes_of, points_of}
-use Rattle.ray_grid.specs.Points.{points_on}
+use Rattle.ray_grid.specs.Points.{point_in, points_on}
 use Rattle.ray_grid.specs.Ranges.{IsGrid}
 use Rattle.ray_grid.specs.Strips.{strip_at, strip_of, strips_of}
 use Rattle.ray_grid.proofs.Rows.{length-strip, row_x, row_y, row_z}
 use Rattle.ray_grid.proofs.Sizes.{axis_of, few_places}
-use Rattle.job_facts.specs.Counts.{AreWithin}
+use Rattle.job_counts.specs.Counts.{AreWithin}
 use Rattle.dexel_rays.proofs.Found.{findings_within}
 use Rattle.job_model.specs.Findings.{seen}
-use Rattle.job_model.specs.Points.{left_moves, point_in, strip_points}
+use Rattle.job_model.specs.Points.{left_moves, strip_points}
 use Rattle.job_model.specs.Tasks.{Job, JobMove}
 use Rattle.strip_marks.specs.Marks.{points_at, ray_of}
 use Rattle.strip_journal.specs.Journals.{found_at}

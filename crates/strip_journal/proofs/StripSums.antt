@@ -6,8 +6,8 @@ use Rattle.std.proofs.lemmas.List.FromFn.{fill_by_all}
 use Rattle.ray_grid.specs.declared.ray.Family.TheVariants.{X}
 use Rattle.ray_grid.specs.declared.ray.Ray.{Ray}
 use Rattle.ray_grid.specs.Strips.{strip_at, strips_of}
-use Rattle.job_facts.specs.declared.counts.Counts.{Counts}
-use Rattle.job_facts.specs.Counts.{no_counts}
+use Rattle.job_counts.specs.declared.counts.Counts.{Counts}
+use Rattle.job_counts.specs.Counts.{no_counts}
 use Rattle.dexel_rays.specs.Findings.{met}
 use Rattle.dexel_rays.proofs.WordLaws.{same_findings}
 use Rattle.job_model.specs.Findings.{seen}
@@ -19,7 +19,7 @@ use Rattle.strip_marks.specs.Marks.{point_at, points_at, possible_there, ray_fou
 use Rattle.strip_journal.specs.declared.journal.Journal.{Journal}
 use Rattle.strip_journal.specs.Journals.{AreRaysAt, found_at}
 
--- what the sets of a ray tell of a point is what is so there by the moves that are left
+-- what the sets of a ray say of a point is what is true there by the moves that are left
 pub seen_same : (job : Job) (strip done : ℕ) (j : Journal) (move : JobMove) (n l : ℕ) → AreRaysAt job strip done j
     → n < length j.rays → l < points_at job.plan.grid strip n
     → seen_on (sets_of j.rays n) (sure_there job.plan move strip n) (possible_there job.plan move strip n) move.rapid l

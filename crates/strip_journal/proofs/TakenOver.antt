@@ -1,9 +1,9 @@
--- A move is taken over: there is room for it, its edit stands, and what it changes is entered.
+-- A move is taken over: there is room for it, its edit is in the line, and what it changes is entered.
 use Rattle.std.proofs.Common.{◌≡◌, ◌∙◌, ℕ, ◌+◌, ◌^◌, ◌<◌, ◌≤◌, Bool, false, List, [], ◌∷◌, ◌++◌, length, take, ap, subst, sym}
 use Rattle.std.specs.Prelude.{Result, Ok, Err, OnErr}
 use Rattle.vf_io.specs.declared.answers.NoMemory.{NoMemory}
 use Rattle.edit_plan.specs.Limits.{most_edits}
-use Rattle.job_facts.specs.declared.counts.Counts.{Counts}
+use Rattle.job_counts.specs.declared.counts.Counts.{Counts}
 use Rattle.ray_words.specs.Rays.{KeptSets}
 use Rattle.strip_marks.specs.declared.change.WordChange.{WordChange}
 use Rattle.strip_journal.specs.declared.entry.Entry.{Entry}

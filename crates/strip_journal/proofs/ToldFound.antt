@@ -1,14 +1,14 @@
--- What a strip tells of the moves that are left is what its journal has at the places of its line.
+-- What a strip returns of the moves that are left is what its journal has at the places of its line.
 use Rattle.std.proofs.Common.{◌≡◌, ℕ, ◌<◌, ◌≤◌, List, length, map, take, get_or, slice_get, slice_index, Some, arith, sym, ap, ◌∙◌, subst}
 use Rattle.std.proofs.lemmas.List.{get_or-map, get_or-take, length-map, length-take-le, take-map, take-take}
 use Rattle.std.proofs.lemmas.Option.{slice_get-get_or}
 use Rattle.edit_plan.specs.declared.edit.Edit.{Edit}
 use Rattle.edit_plan.specs.Edits.{left_at}
-use Rattle.edit_lines.specs.Lines.{Line, line_at, move_of}
-use Rattle.edit_lines.proofs.LinesChain.{left_before}
-use Rattle.edit_lines.proofs.LinesLists.{left_is_line}
-use Rattle.edit_lines.proofs.LinesOrder.{at_within}
-use Rattle.job_facts.specs.declared.counts.Counts.{Counts}
+use Rattle.edit_history.specs.Histories.{History, history_at, move_of}
+use Rattle.edit_history.proofs.HistoryChain.{left_before}
+use Rattle.edit_history.proofs.HistoryLists.{left_is_history}
+use Rattle.edit_history.proofs.HistoryOrder.{at_within}
+use Rattle.job_counts.specs.declared.counts.Counts.{Counts}
 use Rattle.job_model.specs.Findings.{found_over}
 use Rattle.job_model.specs.Points.{left_moves, moves_of, strip_points}
 use Rattle.job_model.specs.Tasks.{JobMove}
@@ -23,37 +23,37 @@ abbrev pub strip_of : Journal → StripOf
 strip_of j = record { job = job_of j; number = j.number; done = j.done }
 
 -- as many moves are left as the line says
-left_many : (edits : List Edit) (v : ℕ) → length (left_at edits v) ≡ (line_at edits v).at
+left_many : (edits : List Edit) (v : ℕ) → length (left_at edits v) ≡ (history_at edits v).at
 left_many edits v =
-    let line = line_at edits v in
-    ap length (left_is_line edits v)
+    let line = history_at edits v in
+    ap length (left_is_history edits v)
     ∙ length-map (take line.at line.numbers) (move_of edits)
     ∙ length-take-le line.at line.numbers (at_within edits v)
 
 pub left_told : (j : Journal) (s : StripOf) → IsJournal (job_of j) j → strip_of j ≡ s → j.at ≡ length (left_at s.job.plan.edits s.done)
 left_told j s h is =
-    ap (λ (line : Line). line.at) h.line
+    ap (λ (line : History). line.at) h.line
     ∙ sym (left_many (job_of j).plan.edits j.done)
     ∙ ap (λ (t : StripOf). length (left_at t.job.plan.edits t.done)) is
 
--- the k-th of the moves that are left is that of the k-th edit of a line, and ahead of that edit those ahead of it were left
+-- the k-th of the moves that are left is that of the k-th edit of a line, and before that edit those before it were left
 pub record IsLeftAs (edits : List Edit) (done : ℕ) (numbers : List ℕ) (k : ℕ) : Type 0 where
   pub there : slice_get (left_at edits done) k ≡ Some (move_of edits (slice_index numbers k))
   pub ahead : left_at edits (slice_index numbers k) ≡ take k (left_at edits done)
 
-left_as : (edits : List Edit) (v k : ℕ) → k < (line_at edits v).at → IsLeftAs edits v (line_at edits v).numbers k
+left_as : (edits : List Edit) (v k : ℕ) → k < (history_at edits v).at → IsLeftAs edits v (history_at edits v).numbers k
 left_as edits v k low =
-    let line = line_at edits v in
+    let line = history_at edits v in
     let kept : List ℕ = take line.at line.numbers in
     let many = left_many edits v in
     let within = at_within edits v in
     let size = length-take-le line.at line.numbers within in
     let item : get_or (left_at edits v) k 0 ≡ move_of edits (slice_index line.numbers k) =
-    ap (λ (l : List ℕ). get_or l k 0) (left_is_line edits v)
+    ap (λ (l : List ℕ). get_or l k 0) (left_is_history edits v)
     ∙ get_or-map (move_of edits) kept k 0 0 (omega (arith, size, low))
     ∙ ap (move_of edits) (get_or-take line.at line.numbers k 0 low) in
     let part : take k (left_at edits v) ≡ map (move_of edits) (take k line.numbers) =
-    ap (take k) (left_is_line edits v)
+    ap (take k) (left_is_history edits v)
     ∙ take-map (move_of edits) k kept
     ∙ ap (map (move_of edits)) (take-take k line.at line.numbers (omega (arith, low))) in
     record {
@@ -65,9 +65,9 @@ left_as edits v k low =
 pub left_as_kept : (j : Journal) (k : ℕ) → IsJournal (job_of j) j → k < j.at → IsLeftAs (job_of j).plan.edits j.done j.line k
 left_as_kept j k h low =
     let edits = (job_of j).plan.edits in
-    subst (λ (line : Line). k < line.at → IsLeftAs edits j.done line.numbers k) (sym h.line) (left_as edits j.done k) low
+    subst (λ (line : History). k < line.at → IsLeftAs edits j.done line.numbers k) (sym h.line) (left_as edits j.done k) low
 
--- what a move finds by the moves left ahead of an edit, and by those left ahead of it now
+-- what a move finds by the moves left before an edit, and by those left before it now
 abbrev found_with : Journal → List JobMove → JobMove → Counts
 found_with j moves move = found_over (job_of j) (strip_points (job_of j).plan.grid j.number) moves move
 
@@ -103,7 +103,7 @@ pub stands_told : (j : Journal) (s : StripOf) (k : ℕ) → IsJournal (job_of j)
 stands_told j s k h is low =
     let many = left_told j s h is in
     let within : j.at ≤ length j.line =
-    subst (λ (line : Line). line.at ≤ length line.numbers) (sym h.line) (at_within (job_of j).plan.edits j.done) in
+    subst (λ (line : History). line.at ≤ length line.numbers) (sym h.line) (at_within (job_of j).plan.edits j.done) in
     omega (arith, many, within, low)
 
 pub found_told : (j : Journal) (s : StripOf) (k : ℕ) (counts : Counts) → IsJournal (job_of j) j → strip_of j ≡ s

@@ -23,11 +23,11 @@ pub run_told : (j : Journal) (s : StripOf) (plan : PlanOf) (most : ℕ) → stri
     → j.done + most ≤ length plan.edits
 run_told j s plan most is low = subst (λ (t : StripOf). t.done + most ≤ length plan.edits) (sym is) low
 
--- the strip of a journal that stands after so many edits
+-- the strip of a journal after `done` edits
 seen_at : (j k : Journal) (done : ℕ) → IsAt j k done → strip_of k ≡ record { job = job_of j; number = j.number; done = done }
 seen_at j k done at = λ i. record { job = at.job i; number = at.number i; done = at.done_is i }
 
--- after so many edits, after one, and after want of memory
+-- after `count` edits, after one, and when out of memory
 pub passed_told : (j k : Journal) (s : StripOf) (count : ℕ) → strip_of j ≡ s → IsAt j k (j.done + count)
     → strip_of k ≡ record { job = s.job; number = s.number; done = s.done + count }
 passed_told j k s count is at =

@@ -1,11 +1,12 @@
--- What a strip tells of its points is what its journal tells.
+-- What a strip returns of its points is what its journal returns.
 use Rattle.std.proofs.Common.{◌≡◌, ℕ, ◌+◌, ◌-◌, ◌<◌, ◌≤◌, length, slice_get, Some, sym, ap, ◌∙◌, subst}
 use Rattle.ray_grid.specs.declared.ray.Ray.{Ray}
 use Rattle.ray_grid.specs.Lattice.{points_of}
 use Rattle.ray_grid.specs.Strips.{strip_at}
-use Rattle.job_facts.specs.declared.totals.PointState.{PointState}
-use Rattle.job_facts.specs.declared.totals.Totals.{Totals}
-use Rattle.job_model.specs.Points.{left_moves, point_in, state_after, strip_points, totals_over}
+use Rattle.job_counts.specs.declared.totals.PointState.{PointState}
+use Rattle.job_counts.specs.declared.totals.Totals.{Totals}
+use Rattle.ray_grid.specs.Points.{point_in}
+use Rattle.job_model.specs.Points.{left_moves, state_after, strip_points, totals_over}
 use Rattle.strip_marks.specs.Marks.{point_at, points_at, ray_of}
 use Rattle.strip_marks.proofs.OnStrips.{ray_stands, ray_there}
 use Rattle.strip_journal.specs.declared.journal.Journal.{Journal}

@@ -6,21 +6,21 @@ use mathlib.Core.Logic.{dite}
 use Rattle.strip_marks.specs.declared.change.WordChange.{WordChange}
 use Rattle.strip_marks.specs.Marks.{among}
 use Rattle.strip_journal.specs.declared.entry.Entry.{Entry}
-use Rattle.strip_journal.specs.Entries.{AreEntries, HasNo, IsTurned, changes_of, entry_at}
-use Rattle.strip_journal.specs.Journals.{IsTracked}
+use Rattle.strip_journal.specs.Entries.{AreEntries, HasNo, IsToggled, changes_of, entry_at}
+use Rattle.strip_journal.specs.Journals.{MatchesEntries}
 use Rattle.strip_journal.proofs.Noting.{changes_still, entry_new, entry_still, none_before, not_noted}
 
--- of as many rays
+-- of the same number of rays
 pub tracked_rays : (of : ℕ → ℕ → ℕ → Bool) (pick : WordChange → ℕ) (rays others : ℕ) (points : ℕ → ℕ) (changes : List WordChange)
-    (entries : List Entry) (done : ℕ) → others ≡ rays → IsTracked of pick rays points changes entries done
-    → IsTracked of pick others points changes entries done
+    (entries : List Entry) (done : ℕ) → others ≡ rays → MatchesEntries of pick rays points changes entries done
+    → MatchesEntries of pick others points changes entries done
 tracked_rays of pick rays others points changes entries done many tracked =
-    subst (λ (r : ℕ). IsTracked of pick r points changes entries done) (sym many) tracked
+    subst (λ (r : ℕ). MatchesEntries of pick r points changes entries done) (sym many) tracked
 
--- an entry leads from the version ahead of its edit to the one behind it, at a point
+-- an entry leads from the version before its edit to the one after it, at a point
 abbrev pub Turns : (ℕ → ℕ → ℕ → Bool) → (WordChange → ℕ) → List WordChange → Entry → ℕ → ℕ → Type 0
 Turns of pick changes e n l =
-    IsTurned e.is_undo (of e.edit n l) (of (e.edit + 1) n l) (among pick (changes_of changes e) n l)
+    IsToggled e.is_undo (of e.edit n l) (of (e.edit + 1) n l) (among pick (changes_of changes e) n l)
 
 -- the entries that were there do so still
 turned_still : (of : ℕ → ℕ → ℕ → Bool) (pick : WordChange → ℕ) (changes more : List WordChange) (entries : List Entry) (done i n l : ℕ)
@@ -28,23 +28,23 @@ turned_still : (of : ℕ → ℕ → ℕ → Bool) (pick : WordChange → ℕ) (
     → Turns of pick (changes ++ more) (entry_at entries i) n l
 turned_still of pick changes more entries done i n l kept low old =
     let e = entry_at entries i in
-    subst (λ (c : List WordChange). IsTurned e.is_undo (of e.edit n l) (of (e.edit + 1) n l) (among pick c n l))
+    subst (λ (c : List WordChange). IsToggled e.is_undo (of e.edit n l) (of (e.edit + 1) n l) (among pick c n l))
     (sym (changes_still changes more entries done i kept low)) old
 
 -- one edit more, with an entry, whose changes may be new ones
 pub tracked_noted : (of : ℕ → ℕ → ℕ → Bool) (pick : WordChange → ℕ) (rays : ℕ) (points : ℕ → ℕ) (changes more : List WordChange)
     (entries : List Entry) (done : ℕ) (e : Entry) → AreEntries entries (length changes) done
-    → IsTracked of pick rays points changes entries done → e.edit ≡ done
+    → MatchesEntries of pick rays points changes entries done → e.edit ≡ done
     → ((n l : ℕ) → n < rays → l < points n
-    → IsTurned e.is_undo (of done n l) (of (done + 1) n l) (among pick (changes_of (changes ++ more) e) n l))
-    → IsTracked of pick rays points (changes ++ more) (entries ++ e ∷ []) (done + 1)
+    → IsToggled e.is_undo (of done n l) (of (done + 1) n l) (among pick (changes_of (changes ++ more) e) n l))
+    → MatchesEntries of pick rays points (changes ++ more) (entries ++ e ∷ []) (done + 1)
 tracked_noted of pick rays points changes more entries done e kept old is new = record {
   turned = λ i n l low ray point.
       dite (dec_le (length entries) i)
       (λ last.
       let here : length entries ≡ i = omega (arith, last, low, length_push entries e) in
       subst (λ (x : Entry). Turns of pick (changes ++ more) x n l) (sym (entry_new entries e i here))
-      (subst (λ (v : ℕ). IsTurned e.is_undo (of v n l) (of (v + 1) n l) (among pick (changes_of (changes ++ more) e) n l)) (sym is)
+      (subst (λ (v : ℕ). IsToggled e.is_undo (of v n l) (of (v + 1) n l) (among pick (changes_of (changes ++ more) e) n l)) (sym is)
       (new n l ray point)))
       (λ early.
       let before : i < length entries = omega (arith, early) in
@@ -59,8 +59,8 @@ tracked_noted of pick rays points changes more entries done e kept old is new = 
 -- one edit more, without an entry, that changes nothing
 pub tracked_unnoted : (of : ℕ → ℕ → ℕ → Bool) (pick : WordChange → ℕ) (rays : ℕ) (points : ℕ → ℕ) (changes more : List WordChange)
     (entries : List Entry) (done : ℕ) → AreEntries entries (length changes) done
-    → IsTracked of pick rays points changes entries done → ((n l : ℕ) → n < rays → l < points n → of done n l ≡ of (done + 1) n l)
-    → IsTracked of pick rays points (changes ++ more) entries (done + 1)
+    → MatchesEntries of pick rays points changes entries done → ((n l : ℕ) → n < rays → l < points n → of done n l ≡ of (done + 1) n l)
+    → MatchesEntries of pick rays points (changes ++ more) entries (done + 1)
 tracked_unnoted of pick rays points changes more entries done kept old same = record {
   turned = λ i n l low ray point. turned_still of pick changes more entries done i n l kept low (old.turned i n l low ray point);
   steady = λ v n l low none ray point.
@@ -72,7 +72,7 @@ tracked_unnoted of pick rays points changes more entries done kept old same = re
 
 -- versions between which no edit has an entry have the same sets
 pub gap : (of : ℕ → ℕ → ℕ → Bool) (pick : WordChange → ℕ) (rays : ℕ) (points : ℕ → ℕ) (changes : List WordChange) (entries : List Entry)
-    (done a b n l : ℕ) → IsTracked of pick rays points changes entries done → a ≤ b → b ≤ done
+    (done a b n l : ℕ) → MatchesEntries of pick rays points changes entries done → a ≤ b → b ≤ done
     → ((v : ℕ) → a ≤ v → v < b → HasNo entries v) → n < rays → l < points n → of a n l ≡ of b n l
 gap of pick rays points changes entries done a zero n l tracked order within none ray point =
     let same : a ≡ 0 = omega (arith, order) in ap (λ v. of v n l) same

@@ -5,15 +5,15 @@ use Rattle.std.proofs.lemmas.Bool.{cases_eq}
 use Rattle.std.proofs.lemmas.Option.{slice_get_within}
 use Rattle.edit_plan.specs.declared.edit.Edit.TheVariants.{Redo, Undo}
 use Rattle.edit_plan.specs.Edits.{left_at}
-use Rattle.edit_lines.specs.Lines.{Line, line_at}
-use Rattle.edit_lines.proofs.LinesOrder.{at_within}
-use Rattle.edit_lines.proofs.LinesSteps.{left_at_last, left_at_next, left_redone, left_undone, line_redone, line_undone}
+use Rattle.edit_history.specs.Histories.{History, history_at}
+use Rattle.edit_history.proofs.HistoryOrder.{at_within}
+use Rattle.edit_history.proofs.HistorySteps.{history_redone, history_undone, left_at_last, left_at_next, left_redone, left_undone}
 use Rattle.job_model.specs.Points.{strip_points, totals_over}
 use Rattle.job_model.specs.Tasks.{Job}
 use Rattle.strip_marks.specs.Marks.{among, possible_of, sure_of}
 use Rattle.strip_journal.specs.declared.entry.Entry.{Entry}
 use Rattle.strip_journal.specs.declared.journal.Journal.{Journal}
-use Rattle.strip_journal.specs.Entries.{AreEntries, HasNo, IsPlace, IsTurned, changes_of, edit_at, entry_at, no_hits, possible_ahead, removed_ahead}
+use Rattle.strip_journal.specs.Entries.{AreEntries, HasNo, IsFirstEntryFrom, IsToggled, changes_of, edit_at, entry_at, no_hits, possible_ahead, removed_ahead}
 use Rattle.strip_journal.specs.Journals.{IsJournal, job_of, possible_at, sure_at}
 use Rattle.strip_journal.specs.Steps.{HasSameEdits, IsMovedTo, IsTurnedBy, IsTurnedFrom}
 use Rattle.strip_journal.proofs.Ahead.{possible_ahead_is, removed_ahead_is}
@@ -29,7 +29,7 @@ abbrev pub version_to : Bool → ℕ → ℕ
 version_to is_undo u = if is_undo then u else u + 1
 
 -- The edit that comes next takes back edit number u of the line, or gives it again: the moves that are left are those of the one
--- version, and behind it those of the other.
+-- version, and after it those of the other.
 pub record IsTurning (job : Job) (p : Parts) (is_undo : Bool) (u at : ℕ) : Type 0 where
   pub next : ComesNext job p at
   pub place : ℕ
@@ -47,19 +47,19 @@ undoing job p h e some within =
       next = record {
         within = slice_get_within edits p.done Undo e;
         line =
-            ap (λ (line : Line). let moved : Line = record { numbers = line.numbers; at = line.at - 1 } in moved) h.line
-            ∙ sym (line_undone edits p.done e);
+            ap (λ (line : History). let moved : History = record { numbers = line.numbers; at = line.at - 1 } in moved) h.line
+            ∙ sym (history_undone edits p.done e);
       };
       place = p.at - 1;
       among_line = omega (arith, some, within);
       is = refl;
       from =
           subst
-          (λ (line : Line). 0 < line.at → left_at edits p.done ≡ left_at edits (slice_index line.numbers (line.at - 1) + 1))
+          (λ (line : History). 0 < line.at → left_at edits p.done ≡ left_at edits (slice_index line.numbers (line.at - 1) + 1))
           (sym h.line) (left_at_last edits p.done) some;
       to =
           subst
-          (λ (line : Line). 0 < line.at → left_at edits (p.done + 1) ≡ left_at edits (slice_index line.numbers (line.at - 1)))
+          (λ (line : History). 0 < line.at → left_at edits (p.done + 1) ≡ left_at edits (slice_index line.numbers (line.at - 1)))
           (sym h.line) (left_undone edits p.done e) some;
     }
 
@@ -73,19 +73,19 @@ redoing job p h e some =
         within = slice_get_within edits p.done Redo e;
         line =
             subst
-            (λ (line : Line). line.at < length line.numbers
-            → ◌≡◌ {A = Line} (record { numbers = line.numbers; at = line.at + 1 }) (line_at edits (p.done + 1)))
-            (sym h.line) (λ more. sym (line_redone edits p.done e more)) some;
+            (λ (line : History). line.at < length line.numbers
+            → ◌≡◌ {A = History} (record { numbers = line.numbers; at = line.at + 1 }) (history_at edits (p.done + 1)))
+            (sym h.line) (λ more. sym (history_redone edits p.done e more)) some;
       };
       place = p.at;
       among_line = some;
       is = refl;
       from =
-          subst (λ (line : Line). line.at < length line.numbers → left_at edits p.done ≡ left_at edits (slice_index line.numbers line.at))
+          subst (λ (line : History). line.at < length line.numbers → left_at edits p.done ≡ left_at edits (slice_index line.numbers line.at))
           (sym h.line) (left_at_next edits p.done) some;
       to =
           subst
-          (λ (line : Line). line.at < length line.numbers
+          (λ (line : History). line.at < length line.numbers
           → left_at edits (p.done + 1) ≡ left_at edits (slice_index line.numbers line.at + 1))
           (sym h.line) (left_redone edits p.done e) some;
     }
@@ -97,10 +97,10 @@ still_between : (is_undo : Bool) (f : ℕ → Bool) (u done : ℕ) → f u ≡ f
 still_between true f u done same from to = from ∙ sym same ∙ sym to
 still_between false f u done same from to = from ∙ same ∙ sym to
 
--- where an edit leads from the version ahead of it to the one behind it, an Undo of it leads back, and a Redo there again
-turned_again : (is_undo : Bool) (f : ℕ → Bool) (u done : ℕ) (changed : Bool) → IsTurned false (f u) (f (u + 1)) changed
+-- where an edit leads from the version before it to the one after it, an Undo of it leads back, and a Redo there again
+turned_again : (is_undo : Bool) (f : ℕ → Bool) (u done : ℕ) (changed : Bool) → IsToggled false (f u) (f (u + 1)) changed
     → f done ≡ f (version_from is_undo u) → f (done + 1) ≡ f (version_to is_undo u)
-    → IsTurned is_undo (f done) (f (done + 1)) changed
+    → IsToggled is_undo (f done) (f (done + 1)) changed
 turned_again true f u done changed turned from to = rw (from, to) (record { back = turned.forth; forth = turned.back })
 turned_again false f u done changed turned from to = rw (from, to) turned
 
@@ -131,7 +131,7 @@ abbrev pub place_to : Bool → ℕ → ℕ
 place_to is_undo place = if is_undo then place else place + 1
 
 pub place_there : (entries : List Entry) (changes done : ℕ) (is_undo : Bool) (u place : ℕ) → AreEntries entries changes done
-    → place < length entries → edit_at entries place ≡ u → IsPlace entries (version_to is_undo u) (place_to is_undo place)
+    → place < length entries → edit_at entries place ≡ u → IsFirstEntryFrom entries (version_to is_undo u) (place_to is_undo place)
 place_there entries changes done true u place h low is = record {
   within = omega (arith, low);
   ahead = λ i before. let old = h.ascend.each i place before low in omega (arith, old, is);
@@ -174,7 +174,7 @@ chosen : {X : Type 0} → (is_undo : Bool) (f : ℕ → X) (a b : ℕ) → (if i
 chosen true f a b = refl
 chosen false f a b = refl
 
--- the entry has what the edit changes, and the totals behind it
+-- the entry has what the edit changes, and the totals after it
 pub turn_of : (job : Job) (p : Parts) (is_undo : Bool) (u at place : ℕ) → IsHeld job p → IsTurning job p is_undo u at
     → place < length p.entries → edit_at p.entries place ≡ u → IsTurnOf job p (turned_of p place is_undo)
 turn_of job p is_undo u at place h turning low is =
@@ -212,13 +212,13 @@ turn_of job p is_undo u at place h turning low is =
           (sym (same_moves job.plan (p.done + 1) (version_to is_undo u) turning.to));
     }
 
--- an entry of an edit among the first so many
+-- an entry of an edit among the first `many`
 pub record IsAmong (entries : List Entry) (edit many : ℕ) : Type 0 where
   pub place : ℕ
   pub low : place < many
   pub is : edit_at entries place ≡ edit
 
--- the first so many entries have one of an edit, or they don't
+-- the first `many` entries have one of an edit, or they don't
 pub look_for : (entries : List Entry) (edit many : ℕ)
     → IsAmong entries edit many ⊎ ((place : ℕ) → place < many → edit_at entries place ≡ edit → ⊥)
 look_for entries edit zero = inr (λ place low is. absurd (omega (arith, low)))
@@ -237,7 +237,7 @@ look_for entries edit (suc many) =
 
 -- what is left of the line is within it
 pub left_within : (job : Job) (p : Parts) → IsHeld job p → p.at ≤ length p.line
-left_within job p h = subst (λ (line : Line). line.at ≤ length line.numbers) (sym h.line) (at_within job.plan.edits p.done)
+left_within job p h = subst (λ (line : History). line.at ≤ length line.numbers) (sym h.line) (at_within job.plan.edits p.done)
 
 -- the journal after an edit whose entry another has
 turned_by : (j k l : Journal) (is_undo : Bool) (u at place : ℕ) → IsJournal (job_of j) j

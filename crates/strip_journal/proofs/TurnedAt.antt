@@ -16,7 +16,7 @@ turned_strip j k u is_undo turned =
     (λ (none : HasNo j.entries.items u). (turned.none none).0.strip)
     (look_for j.entries.items u (length j.entries.items))
 
--- a journal of the same strip that stands elsewhere in the line
+-- a journal of the same strip that is elsewhere in the line
 pub moved_at : (j k l : Journal) (at done : ℕ) → IsSameStrip j k → IsMovedTo k l at done → IsJournal (job_of l) l → IsAt j l done
 moved_at j k l at done strip moved journal = record {
   journal = journal;

@@ -4,8 +4,8 @@ use Rattle.std.proofs.lemmas.List.{append-nil}
 use Rattle.std.proofs.lemmas.Option.{slice_get_within}
 use Rattle.ray_grid.specs.Strips.{strip_at, strips_of}
 use Rattle.edit_plan.specs.declared.edit.Edit.TheVariants.{Apply}
-use Rattle.job_facts.specs.declared.counts.Counts.{Counts}
-use Rattle.job_facts.specs.Counts.{no_counts}
+use Rattle.job_counts.specs.declared.counts.Counts.{Counts}
+use Rattle.job_counts.specs.Counts.{no_counts}
 use Rattle.job_model.specs.Tasks.{IsPlan, JobMove, PlanOf}
 use Rattle.ray_words.specs.Rays.{KeptSets}
 use Rattle.strip_plan.specs.Plans.{HasNumber}
@@ -43,7 +43,7 @@ none_turned before after same =
       };
     })
 
--- an edit that stands, and changes and finds nothing, is applied
+-- an edit that is added to those left, and changes and finds nothing, is applied
 stood_applied : (j l : Journal) → IsStood j l → IsApplied j l [] no_counts
 stood_applied j l stood = record {
   strip = stood.strip;
@@ -55,7 +55,7 @@ stood_applied j l stood = record {
   done = stood.done;
 }
 
--- so is one with a move that is seen to do nothing
+-- so is one with a move that is found to do nothing
 pub idle_applied : (j l : Journal) (changes : List WordChange) (counts : Counts) → does_nothing changes counts ≡ true → IsStood j l
     → IsApplied j l changes counts
 idle_applied j l changes counts is stood =
@@ -100,7 +100,7 @@ unentered_marking plan j number lo hi h plan_is applies low empty within window 
           (let many = own.many in omega (arith, within, many)) (window move named) refl refl;
     }
 
--- the journal behind such an edit
+-- the journal after such an edit
 pub unentered_at : (plan : PlanOf) (j l : Journal) (number lo hi : ℕ) → IsJournal (job_of j) j → j.plan.value ≡ plan
     → slice_get plan.edits j.done ≡ Some (Apply number) → number < length plan.moves → lo ≡ hi
     → hi ≤ length (strip_at plan.grid j.number)

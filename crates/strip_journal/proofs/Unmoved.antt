@@ -3,8 +3,8 @@ use Rattle.std.proofs.Common.{◌≡◌, ◌+◌, ◌<◌, ◌≤◌, length, sl
 use Rattle.std.proofs.lemmas.Option.{slice_get_within}
 use Rattle.edit_plan.specs.declared.edit.Edit.TheVariants.{Redo, Undo}
 use Rattle.edit_plan.specs.Edits.{left_at}
-use Rattle.edit_lines.specs.Lines.{Line, line_at}
-use Rattle.edit_lines.proofs.LinesSteps.{left_redo_none, left_undo_none, line_redo_none, line_undo_none}
+use Rattle.edit_history.specs.Histories.{History, history_at}
+use Rattle.edit_history.proofs.HistorySteps.{history_redo_none, history_undo_none, left_redo_none, left_undo_none}
 use Rattle.job_model.specs.Tasks.{Job}
 use Rattle.strip_journal.specs.declared.journal.Journal.{Journal}
 use Rattle.strip_journal.specs.Journals.{IsJournal, job_of}
@@ -15,7 +15,7 @@ use Rattle.strip_journal.proofs.NextEdit.{still_held}
 
 -- an edit that leaves the line and the moves that are left
 unmoved_held : (job : Job) (p : Parts) → IsHeld job p → p.done < length job.plan.edits
-    → line_at job.plan.edits (p.done + 1) ≡ line_at job.plan.edits p.done
+    → history_at job.plan.edits (p.done + 1) ≡ history_at job.plan.edits p.done
     → left_at job.plan.edits (p.done + 1) ≡ left_at job.plan.edits p.done
     → IsHeld job (record p { done = p.done + 1 })
 unmoved_held job p h within line left =
@@ -26,7 +26,7 @@ unmoved_held job p h within line left =
     })
 
 unmoved_journal : (j l : Journal) → IsJournal (job_of j) j → j.done < length (job_of j).plan.edits
-    → line_at (job_of j).plan.edits (j.done + 1) ≡ line_at (job_of j).plan.edits j.done
+    → history_at (job_of j).plan.edits (j.done + 1) ≡ history_at (job_of j).plan.edits j.done
     → left_at (job_of j).plan.edits (j.done + 1) ≡ left_at (job_of j).plan.edits j.done
     → IsMovedTo j l j.at (j.done + 1) → IsJournal (job_of l) l
 unmoved_journal j l h within line left moved =
@@ -49,14 +49,14 @@ pub undo_none_journal : (j l : Journal) → IsJournal (job_of j) j → slice_get
     → IsMovedTo j l j.at (j.done + 1) → IsJournal (job_of l) l
 undo_none_journal j l h e none moved =
     let edits = (job_of j).plan.edits in
-    let at : (line_at edits j.done).at ≡ 0 = ap (λ (line : Line). line.at) (sym h.line) ∙ none in
-    unmoved_journal j l h (slice_get_within edits j.done Undo e) (line_undo_none edits j.done e at) (left_undo_none edits j.done e at) moved
+    let at : (history_at edits j.done).at ≡ 0 = ap (λ (line : History). line.at) (sym h.line) ∙ none in
+    unmoved_journal j l h (slice_get_within edits j.done Undo e) (history_undo_none edits j.done e at) (left_undo_none edits j.done e at) moved
 
 -- and after a Redo where none is dropped
 pub redo_none_journal : (j l : Journal) → IsJournal (job_of j) j → slice_get (job_of j).plan.edits j.done ≡ Some Redo
     → length j.line ≤ j.at → IsMovedTo j l j.at (j.done + 1) → IsJournal (job_of l) l
 redo_none_journal j l h e none moved =
     let edits = (job_of j).plan.edits in
-    let at : length (line_at edits j.done).numbers ≤ (line_at edits j.done).at =
-    subst (λ (line : Line). length line.numbers ≤ line.at) h.line none in
-    unmoved_journal j l h (slice_get_within edits j.done Redo e) (line_redo_none edits j.done e at) (left_redo_none edits j.done e at) moved
+    let at : length (history_at edits j.done).numbers ≤ (history_at edits j.done).at =
+    subst (λ (line : History). length line.numbers ≤ line.at) h.line none in
+    unmoved_journal j l h (slice_get_within edits j.done Redo e) (history_redo_none edits j.done e at) (left_redo_none edits j.done e at) moved

@@ -1,6 +1,6 @@
 -- What is kept of the edits that had an effect on a strip.
 use Rattle.std.specs.Prelude.{◌≡◌, ℕ, ◌-◌, ◌<◌, ◌≤◌, false, Bool, not, ◌&&◌, ◌||◌, ◌==◌, if◌then◌else◌, List, length, slice_index_or, slice_range}
-use Rattle.job_facts.specs.declared.counts.Counts.{Counts}
+use Rattle.job_counts.specs.declared.counts.Counts.{Counts}
 use Rattle.strip_marks.specs.declared.change.WordChange.{WordChange}
 use Rattle.strip_journal.specs.declared.entry.Entry.{Entry}
 use Rattle.strip_journal.specs.declared.entry.Hits.{Hits}
@@ -8,7 +8,7 @@ use Rattle.strip_journal.specs.declared.entry.Hits.{Hits}
 abbrev pub no_hits : Hits
 no_hits = record { part_sure = 0; part_possible = 0; fix_sure = 0; fix_possible = 0; rapid_sure = 0; rapid_possible = 0 }
 
--- the counts of a move but for new stock
+-- the counts of a move except for new stock
 abbrev pub hits_of : Counts → Hits
 hits_of counts = record {
   part_sure = counts.part_sure;
@@ -59,7 +59,7 @@ entry_at entries place = slice_index_or entries place no_entry
 abbrev pub edit_at : List Entry → ℕ → ℕ
 edit_at entries place = (entry_at entries place).edit
 
--- the totals ahead of the entry at a place: those of the entry before it
+-- the totals before the entry at a place: those of the entry before it
 abbrev pub removed_ahead : List Entry → ℕ → ℕ
 removed_ahead entries place = if place == 0 then 0 else (entry_at entries (place - 1)).removed
 
@@ -70,17 +70,17 @@ possible_ahead entries place = if place == 0 then 0 else (entry_at entries (plac
 abbrev pub HasNo : List Entry → ℕ → Type 0
 HasNo entries edit = (place : ℕ) → place < length entries → edit_at entries place ≡ edit → ⊥
 
--- the entries stand in order of their edits
+-- the entries are in order of their edits
 pub record AreAscending (entries : List Entry) : Type 0 where
   pub each : (i k : ℕ) → i < k → k < length entries → edit_at entries i < edit_at entries k
 
--- the place of the first entry of an edit at or behind a version
-pub record IsPlace (entries : List Entry) (version place : ℕ) : Type 0 where
+-- the place of the first entry of an edit at or after a version
+pub record IsFirstEntryFrom (entries : List Entry) (version place : ℕ) : Type 0 where
   pub within : place ≤ length entries
   pub ahead : (i : ℕ) → i < place → edit_at entries i < version
   pub behind : (i : ℕ) → place ≤ i → i < length entries → version ≤ edit_at entries i
 
--- they are in order, all their edits are done, and their changes are among so many
+-- they are in order, all their edits are done, and their changes are among the first `changes`
 pub record AreEntries (entries : List Entry) (changes done : ℕ) : Type 0 where
   pub ascend : AreAscending entries
   pub early : (i : ℕ) → i < length entries → edit_at entries i < done
@@ -96,6 +96,6 @@ abbrev pub was : Bool → Bool → Bool → Bool
 was is_undo changed after = if is_undo then (after || changed) else (after && not changed)
 
 -- an edit leads from before to after there, and back
-pub record IsTurned (is_undo before after changed : Bool) : Type 0 where
+pub record IsToggled (is_undo before after changed : Bool) : Type 0 where
   pub back : before ≡ was is_undo changed after
   pub forth : after ≡ was (not is_undo) changed before

@@ -1,8 +1,8 @@
 -- What is added to counts that are kept for the moves that are left.
 use Rattle.std.specs.Prelude.{◌≡◌, ℕ, ◌<◌, List, length, slice_index, slice_index_or}
-use Rattle.edit_lines.specs.Lines.{move_of}
-use Rattle.job_facts.specs.declared.counts.Counts.{Counts}
-use Rattle.job_facts.specs.Counts.{AreWithin, no_counts, plus}
+use Rattle.edit_history.specs.Histories.{move_of}
+use Rattle.job_counts.specs.declared.counts.Counts.{Counts}
+use Rattle.job_counts.specs.Counts.{AreWithin, no_counts, plus}
 use Rattle.job_model.specs.Tasks.{JobMove}
 use Rattle.strip_plan.specs.Plans.{HasNumber}
 use Rattle.strip_journal.specs.declared.journal.Journal.{Journal}
@@ -37,7 +37,7 @@ pub record AddsLeft (j : Journal) (before after : List Counts) : Type 0 where
   pub many : length after ≡ length before
   pub each : (k : ℕ) (found : Counts) → k < length before → IsFoundBy j k found → count_at after k ≡ plus (count_at before k) found
 
--- of each move whose edit is that of an entry ahead of a place the count is what it was and what the move found; the others are as they
+-- of each move whose edit is that of an entry before a place the count is what it was and what the move found; the others are as they
 -- were
 pub record AddsAhead (j : Journal) (place : ℕ) (before after : List Counts) : Type 0 where
   pub many : length after ≡ length before

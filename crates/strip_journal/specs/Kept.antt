@@ -35,7 +35,7 @@ NameHits hits kept = (i : ℕ) → i < length kept → (slice_index_or kept i no
 abbrev pub hits_room : ℕ → List Hits → ℕ
 hits_room spare hits = min spare (2 ^ 32 - 1 - length hits)
 
--- each number of a list tells the same hits in another
+-- each number of a list means the same hits in another
 pub record StillNames (before after : List Hits) : Type 0 where
   pub many : length before ≤ length after
   pub same : (number : ℕ) → number ≤ length before → hits_at after number ≡ hits_at before number

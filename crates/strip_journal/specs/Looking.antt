@@ -10,7 +10,7 @@ use Rattle.strip_journal.specs.Journals.{job_of, possible_at, sure_at}
 abbrev pub at_word : ℕ → ℕ → WordChange
 at_word n word = record { ray = n; word = word; sure = 0; possible = 0 }
 
--- the version up to which nothing changes behind the entry before a place: that of the entry there, and past the last the newest
+-- the version up to which nothing changes after the entry before a place: that of the entry there, and past the last the newest
 abbrev pub version_at : List Entry → ℕ → ℕ → ℕ
 version_at entries done place = if nat_lt place (length entries) then edit_at entries place else done
 

@@ -17,8 +17,8 @@ abbrev pub no_change : WordChange
 no_change = record { ray = 0; word = 0; sure = 0; possible = 0 }
 
 -- a change by its masks, which count from a point of the word
-abbrev pub spread : PackedChange → WordChange
-spread p = record {
+abbrev pub as_word_change : PackedChange → WordChange
+as_word_change p = record {
   ray = p.ray;
   word = p.first / 64;
   sure = p.sure * 2 ^ (p.first % 64) % 2 ^ 64;
@@ -31,11 +31,11 @@ pub record IsClose (change : WordChange) : Type 0 where
   pub first : packed.first < whole_mark
   pub sure : packed.sure < 2 ^ 32
   pub possible : packed.possible < 2 ^ 32
-  pub is : spread packed ≡ change
+  pub is : as_word_change packed ≡ change
 
 -- a change by its masks, or, where it is marked, the one that is kept whole
 abbrev pub unpacked : List WordChange → PackedChange → WordChange
-unpacked whole p = if p.first == whole_mark then slice_index_or whole p.ray no_change else spread p
+unpacked whole p = if p.first == whole_mark then slice_index_or whole p.ray no_change else as_word_change p
 
 -- where it is marked, one is kept whole
 pub record IsHeld (whole : ℕ) (p : PackedChange) : Type 0 where

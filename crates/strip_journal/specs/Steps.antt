@@ -3,8 +3,8 @@ use Rattle.std.specs.Prelude.{◌≡◌, ℕ, ◌+◌, ◌-◌, ◌^◌, ◌<◌
 use Rattle.std.specs.List.{range_with_len}
 use Rattle.vf_spans.specs.Members.{has}
 use Rattle.edit_plan.specs.Limits.{most_edits}
-use Rattle.job_facts.specs.declared.counts.Counts.{Counts}
-use Rattle.job_facts.specs.Counts.{AreWithin}
+use Rattle.job_counts.specs.declared.counts.Counts.{Counts}
+use Rattle.job_counts.specs.Counts.{AreWithin}
 use Rattle.ray_words.specs.Rays.{KeptSets}
 use Rattle.ray_words.specs.Rows.{kept_at}
 use Rattle.strip_marks.specs.declared.change.WordChange.{WordChange}
@@ -74,7 +74,7 @@ pub record HasSameEdits (j k : Journal) : Type 0 where
   pub at : k.at ≡ j.at
   pub done : k.done ≡ j.done
 
--- there is room for so many changes and for an entry with these hits; a place among the changes has 32 bits
+-- there is room for `changes` changes and for an entry with these hits; a place among the changes has 32 bits
 pub record HasRoom (j : Journal) (changes : ℕ) (hits : Hits) : Type 0 where
   pub changes_fit : changes ≤ j.changes.room
   pub few : length j.changes.items + changes < 2 ^ 32
@@ -102,7 +102,7 @@ pub record IsStood (j k : Journal) : Type 0 where
   pub at : k.at ≡ j.at + 1
   pub done : k.done ≡ j.done + 1
 
--- a journal after so many edits from this one on were added to those that are left
+-- a journal after `count` edits from this one on were added to those that are left
 pub record IsStoodBy (j k : Journal) (count : ℕ) : Type 0 where
   pub strip : IsSameStrip j k
   pub rays : k.rays ≡ j.rays
@@ -142,7 +142,7 @@ turned_entry j place is_undo = record {
   possible = if is_undo then possible_ahead j.entries.items place else possible_ahead j.entries.items (place + 1);
 }
 
--- a journal after the changes of the entry at a place were taken back, or given again, but for the line and the number of edits done
+-- a journal after the changes of the entry at a place were taken back, or given again, except for the line and the number of edits done
 pub record IsTurnedBy (j k : Journal) (place : ℕ) (is_undo : Bool) : Type 0 where
   pub strip : IsSameStrip j k
   pub rays : AreRaysTurned j.rays k.rays (changes_of j.changes.items (entry_at j.entries.items place)) is_undo
@@ -156,7 +156,7 @@ pub record IsTurnedFrom (j k : Journal) (source : ℕ) (is_undo : Bool) : Type 0
   pub by : (place : ℕ) → place < length j.entries.items → edit_at j.entries.items place ≡ source → IsTurnedBy j k place is_undo
   pub none : HasNo j.entries.items source → HasSameEdits j k × (k.rays ≡ j.rays)
 
--- a journal that stands at another place of its line, after so many edits
+-- a journal that is at another place of its line, after `done` edits
 pub record IsMovedTo (j k : Journal) (at done : ℕ) : Type 0 where
   pub strip : IsSameStrip j k
   pub rays : k.rays ≡ j.rays

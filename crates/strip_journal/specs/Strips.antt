@@ -1,8 +1,8 @@
--- A strip as its callers see it, and what it tells.
+-- A strip as its callers see it, and what it returns.
 use Rattle.std.specs.Prelude.{◌≡◌, ℕ, ◌-◌, ◌<◌, ◌^◌, List, Some, length, slice_get, slice_index_or, take}
 use Rattle.edit_plan.specs.Edits.{left_at}
-use Rattle.job_facts.specs.declared.counts.Counts.{Counts}
-use Rattle.job_facts.specs.Counts.{no_counts, plus}
+use Rattle.job_counts.specs.declared.counts.Counts.{Counts}
+use Rattle.job_counts.specs.Counts.{no_counts, plus}
 use Rattle.job_model.specs.Findings.{found_over}
 use Rattle.job_model.specs.Points.{moves_of, strip_points}
 use Rattle.job_model.specs.Tasks.{Job, JobMove}
@@ -15,13 +15,13 @@ pub record StripOf : Type 0 where
   pub number : ℕ
   pub done : ℕ
 
--- the counts are what the j-th of the moves that are left finds on the strip, with those that are left ahead of it
+-- the counts are what the j-th of the moves that are left finds on the strip, with those that are left before it
 pub record IsFoundAt (s : StripOf) (j : ℕ) (counts : Counts) : Type 0 where
   pub is : (number : ℕ) (move : JobMove) → slice_get (left_at s.job.plan.edits s.done) j ≡ Some number → HasNumber s.job.plan number move
       → counts
       ≡ found_over s.job (strip_points s.job.plan.grid s.number) (moves_of s.job.plan (take j (left_at s.job.plan.edits s.done))) move
 
--- so large a count leaves room for what a strip has
+-- a count of this size leaves room for what a strip has
 abbrev pub most_before : ℕ
 most_before = 2 ^ 64 - 2 ^ 32
 

@@ -1,6 +1,6 @@
 ghost use Rattle.std.specs.Prelude.{◌≡◌, ℕ, ◌+◌, ◌-◌, ◌^◌, ◌<◌, ◌≤◌, false, true, Some, All, IfOk, OnOk, OnErr, length, slice_get};
 ghost use Rattle.edit_plan.specs.declared.edit.Edit.TheVariants.{Apply};
-ghost use Rattle.job_facts.specs.Counts.{AreWithin};
+ghost use Rattle.job_counts.specs.Counts.{AreWithin};
 ghost use Rattle.job_model.specs.Tasks.{JobMove};
 ghost use Rattle.strip_plan.specs.Plans.{HasNumber};
 ghost use Rattle.strip_marks.specs.Marks.{HaveSameSets, IsChangeOn, IsMarkedStrip};
@@ -13,7 +13,7 @@ use crate::entry::{Entry, Hits};
 use crate::journal::Journal;
 use crate::rays::give_all;
 use std::mem;
-use strip_marks::{Marked, mark_strip};
+use strip_marks::{MoveChanges, mark_strip};
 use strip_plan::Plan;
 use vf_io::NoMemory;
 
@@ -21,7 +21,7 @@ use vf_io::NoMemory;
 const MOST_CHANGES: usize = u32::MAX as usize;
 
 /// Whether a move changes nothing and finds nothing.
-fn does_nothing(marked: &Marked) -> bool
+fn does_nothing(marked: &MoveChanges) -> bool
     requires { AreWithin (2 ^ 32 - 1) marked.now.counts }
     ensures { result ≡ does_nothing marked.now.changes.items marked.now.counts }
 {
@@ -29,7 +29,7 @@ fn does_nothing(marked: &Marked) -> bool
 }
 
 impl Journal {
-    /// Room for so many changes and for an entry with these hits.
+    /// Room for `changes` changes and for an entry with these hits.
     fn make_room(&mut self, changes: usize, hits: &Hits) -> Result<(), NoMemory>
         ensures edits { HasSameEdits self.old self.new }
         ensures rays { self.new.rays ≡ self.old.rays }
@@ -44,7 +44,7 @@ impl Journal {
     }
 
     /// Adds this edit to those that are left, in place of those that are dropped.
-    fn stand(&mut self) -> Result<(), NoMemory>
+    fn push_edit(&mut self) -> Result<(), NoMemory>
         requires { CanStand self.old }
         ensures ok { OnOk result (IsStood self.old self.new) }
         ensures room { (changes : ℕ) (hits : Hits) → HasRoom self.old changes hits → HasRoom self.new changes hits }
@@ -58,14 +58,14 @@ impl Journal {
     }
 
     /// Takes over what a move changes or finds, with the entry of its edit. It takes no memory.
-    fn enter(&mut self, edit: u32, marked: Marked)
+    fn enter(&mut self, edit: u32, marked: MoveChanges)
         requires room { HasRoom self.old (length marked.changes.items) (hits_of marked.counts) }
         requires on { All (IsChangeOn self.old.rays) marked.changes.items }
         requires fits { FitsEntry self.old marked.counts }
         requires some { does_nothing marked.changes.items marked.counts ≡ false }
         ensures { IsEntered self.old self.new edit marked.changes.items marked.counts }
     {
-        let Marked {
+        let MoveChanges {
             mut changes,
             counts,
         } = marked;
@@ -89,7 +89,7 @@ impl Journal {
     }
 
     /// Takes over what a move changes or finds, if it does, and adds its edit to those that are left. What may fail comes first.
-    fn take_over(&mut self, marked: Marked) -> Result<(), NoMemory>
+    fn take_over(&mut self, marked: MoveChanges) -> Result<(), NoMemory>
         requires few { length self.old.changes.items < 2 ^ 32 }
         requires on { All (IsChangeOn self.old.rays) marked.changes.items }
         requires fits { FitsEntry self.old marked.counts }
@@ -101,17 +101,17 @@ impl Journal {
     {
         if does_nothing(&marked) {
             self.room = marked.changes;
-            return self.stand();
+            return self.push_edit();
         }
         self.make_room(marked.changes.len(), &Hits::of_counts(&marked.counts))?;
         let edit = self.done;
-        self.stand()?;
+        self.push_edit()?;
         self.enter(edit, marked);
         Ok(())
     }
 
     /// What a move of the plan changes, and what it finds. The sets and the edits stay.
-    fn mark(&mut self, plan: &Plan, number: u32) -> Result<Marked, NoMemory>
+    fn mark(&mut self, plan: &Plan, number: u32) -> Result<MoveChanges, NoMemory>
         requires journal { IsJournal (job_of self.old) self.old }
         requires plan { self.old.plan.value ≡ plan.now }
         requires number { number < length plan.now.moves }

@@ -12,7 +12,7 @@ use std::marker::Model;
 use strip_marks::WordChange;
 use vf_io::NoMemory;
 
-/// A list of changes, most of which are kept in sixteen bytes. It is seen as the list, and for how many more there is room.
+/// A list of changes, most of which are kept in sixteen bytes. Its value is the list, and for how many more there is room.
 #[derive(Drop)]
 pub struct Changes {
     packed: Vec<PackedChange>,
@@ -45,13 +45,14 @@ impl Changes {
         }
     }
 
+    /// How many changes there are.
     pub fn len(&self) -> usize
         ensures { result ≡ length self.now.items }
     {
         self.packed.len()
     }
 
-    /// Room for so many changes more, whether they are packed or kept whole.
+    /// Room for `more` changes more, whether they are packed or kept whole.
     pub fn reserve(&mut self, more: usize) -> Result<(), NoMemory>
         ensures items { self.new.items ≡ self.old.items }
         ensures room { OnOk result (more ≤ self.new.room) }
@@ -61,7 +62,7 @@ impl Changes {
         Ok(())
     }
 
-    /// Adds a change behind the others. It takes no memory.
+    /// Adds a change after the others. It takes no memory.
     fn push(&mut self, change: &WordChange)
         requires room { 0 < self.old.room }
         requires few { length self.old.items + 1 < 2 ^ 32 }
@@ -81,7 +82,7 @@ impl Changes {
         }
     }
 
-    /// Adds changes behind the others. It takes no memory.
+    /// Adds changes after the others. It takes no memory.
     pub fn append(&mut self, more: &[WordChange])
         requires room { length more.now ≤ self.old.room }
         requires few { length self.old.items + length more.now < 2 ^ 32 }
@@ -105,14 +106,14 @@ impl Changes {
     }
 }
 
-/// Whether a change stands ahead of a word of ray n.
+/// Whether a change comes before a word of ray n.
 fn stands_ahead(change: &WordChange, n: u32, word: u32) -> bool
     ensures { result ≡ is_ahead change.now (at_word n word) }
 {
     change.ray < n || (change.ray == n && change.word < word)
 }
 
-/// Changes that stand together in a list. They are seen as the list of them.
+/// Changes that follow each other in a list. Their value is the list of them.
 #[derive(Drop)]
 pub struct ChangesPart<'a> {
     packed: &'a [PackedChange],
@@ -130,6 +131,7 @@ impl<'a> Model for ChangesPart<'a> {
 }
 
 impl<'a> ChangesPart<'a> {
+    /// How many changes there are.
     pub fn len(&self) -> usize
         ensures { result ≡ length self.now }
     {
@@ -145,7 +147,7 @@ impl<'a> ChangesPart<'a> {
         packed[k].unpack(self.whole)
     }
 
-    /// The place of the first of them at or behind a word of ray n.
+    /// The place of the first of them at or after a word of ray n.
     pub fn place_of(&self, n: u32, word: u32) -> usize
         requires { AreInOrder self.now }
         ensures within { result ≤ length self.now }

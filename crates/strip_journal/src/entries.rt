@@ -1,5 +1,5 @@
 ghost use Rattle.std.specs.Prelude.{◌≡◌, ℕ, ◌+◌, ◌-◌, ◌<◌, ◌≤◌, ◌^◌, ◌++◌, ◌∷◌, [], false, OnOk, length, vec_capacity, vec_len};
-ghost use Rattle.strip_journal.specs.Entries.{AreAscending, HasRoomFor, IsPlace, are_none, edit_at, entry_at};
+ghost use Rattle.strip_journal.specs.Entries.{AreAscending, HasRoomFor, IsFirstEntryFrom, are_none, edit_at, entry_at};
 ghost use Rattle.strip_journal.specs.Kept.{StillNames, hits_at, hits_room};
 
 use crate::entry::{Entry, Hits};
@@ -23,7 +23,7 @@ struct KeptEntry {
     is_undo: bool,
 }
 
-/// The entries of a strip. They are seen as a list of whole ones, and for how many more there is room. Few have hits, so these stand
+/// The entries of a strip. Their value is a list of whole ones, and for how many more there is room. Few have hits, so these are
 /// in a list of their own, and a kept entry is short.
 #[derive(Drop)]
 pub struct Entries {
@@ -72,7 +72,7 @@ fn reserve_hits(list: &mut Vec<Hits>, hits: &Hits) -> Result<(), NoMemory>
     reserve_more(list, 1)
 }
 
-/// Keeps hits, if they are some, and tells their number. It takes no memory.
+/// Keeps hits, if they are some, and returns their number. It takes no memory.
 fn keep_hits(list: &mut Vec<Hits>, hits: Hits) -> u32
     requires { are_none hits ≡ false → 0 < hits_room (vec_capacity list.old - vec_len list.old) list.old.items }
     ensures named { hits_at list.new.items result ≡ hits }
@@ -97,6 +97,7 @@ impl Entries {
         }
     }
 
+    /// How many entries there are.
     pub fn len(&self) -> usize
         ensures { result ≡ length self.now.items }
     {
@@ -128,17 +129,17 @@ impl Entries {
         }
     }
 
-    /// The place of the first entry of an edit at or behind a version.
+    /// The place of the first entry of an edit at or after a version.
     pub fn place_of(&self, version: u32) -> usize
         requires { AreAscending self.now.items }
-        ensures { IsPlace self.now.items version result }
+        ensures { IsFirstEntryFrom self.now.items version result }
     {
         self.kept
             .as_slice()
             .partition_point(|entry| entry.edit < version)
     }
 
-    /// Room for an entry more that has these hits. The entries stay, whatever it tells.
+    /// Room for an entry more that has these hits. The entries stay, whatever it returns.
     pub fn reserve(&mut self, hits: &Hits) -> Result<(), NoMemory>
         ensures items { self.new.items ≡ self.old.items }
         ensures room { OnOk result (HasRoomFor self.new hits.now) }

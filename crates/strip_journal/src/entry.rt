@@ -1,10 +1,10 @@
 ghost use Rattle.std.specs.Prelude.{◌≡◌, ◌-◌, ◌^◌};
-ghost use Rattle.job_facts.specs.Counts.{AreWithin};
+ghost use Rattle.job_counts.specs.Counts.{AreWithin};
 ghost use Rattle.strip_journal.specs.Entries.{are_none, counts_of_hits, hits_of, no_hits};
 
-use job_facts::Counts;
+use job_counts::Counts;
 
-/// What a move finds on a strip, but for what it removes and comes to be possible at: points of the part and of fixtures, and in
+/// What a move finds on a strip, except for what it removes and comes to be possible at: points of the part and of fixtures, and in
 /// rapid motion of stock. A strip has fewer than 2^32 points.
 #[derive(Clone, Copy)]
 pub struct Hits {
@@ -20,7 +20,7 @@ pub struct Hits {
 #[derive(Clone, Copy)]
 pub struct Entry {
     pub edit: u32,
-    /// Where the changes stand that it made, took back or gave again: from the one place in the list on and below the other.
+    /// Where the changes are that it made, took back or gave again: from the one place in the list on and below the other.
     pub from: u32,
     pub to: u32,
     /// Whether it took them back.
@@ -61,7 +61,7 @@ impl Hits {
         }
     }
 
-    /// The counts of a move that removes so many points and comes to be possible at so many.
+    /// The counts of a move that removes `removed` points and comes to be possible at `possible` points.
     pub fn with_stock(&self, removed: u32, possible: u32) -> Counts
         ensures { result ≡ counts_of_hits self.now removed possible }
     {

@@ -1,6 +1,6 @@
 ghost use Rattle.std.specs.Prelude.{◌≡◌, ℕ, ◌+◌, ◌-◌, ◌<◌, ◌≤◌, true, false, All, if◌then◌else◌, not, MatchOption, length, slice_index};
-ghost use Rattle.job_facts.specs.declared.totals.PointState.TheVariants.{Absent, Kept, Possible, Removed};
-ghost use Rattle.job_facts.specs.Counts.{AreWithin};
+ghost use Rattle.job_counts.specs.declared.totals.PointState.TheVariants.{Absent, Kept, Possible, Removed};
+ghost use Rattle.job_counts.specs.Counts.{AreWithin};
 ghost use Rattle.job_model.specs.Points.{left_moves, state_after, strip_points, totals_over};
 ghost use Rattle.strip_marks.specs.Marks.{AreInOrder, among, point_at, points_at, possible_of, sure_of};
 ghost use Rattle.strip_journal.specs.Entries.{AreAscending, HasNo, changes_of, counts_of_hits, edit_at, entry_at, possible_ahead, removed_ahead, was};
@@ -11,7 +11,7 @@ ghost use Rattle.strip_journal.specs.Found.{AddsEntry, AddsLeft, HasRoomAt, IsFo
 use crate::changes::ChangesPart;
 use crate::entry::Entry;
 use crate::journal::Journal;
-use job_facts::{Counts, PointState, Totals};
+use job_counts::{Counts, PointState, Totals};
 use std::sync::ledger::Ledger;
 use vf_spans::bits::has_bit;
 use vf_steps::Steps;
@@ -77,7 +77,7 @@ impl Journal {
         }
     }
 
-    /// How many stock points are removed, and at how many a move is possible, ahead of the entry at a place.
+    /// How many stock points are removed, and at how many a move is possible, before the entry at a place.
     pub fn totals_ahead(&self, place: usize) -> (u32, u32)
         requires { place ≤ length self.now.entries.items }
         ensures removed { result.0 ≡ removed_ahead self.now.entries.items place }

@@ -1,14 +1,13 @@
 ghost use Rattle.std.specs.Prelude.{◌≡◌, ◌<◌, IfOk, length};
-ghost use Rattle.std.specs.Fn.{FnReturnsAt};
 ghost use Rattle.ray_grid.specs.Lattice.{IsRay};
 ghost use Rattle.ray_grid.specs.Ranges.{IsGrid};
 ghost use Rattle.ray_grid.specs.Strips.{strip_at, strips_of};
-ghost use Rattle.ray_shapes.specs.Sets.{Gives};
+ghost use Rattle.ray_shapes.specs.Sets.{GivesSolid};
 ghost use Rattle.strip_journal.specs.Fresh.{AreFreshRays, IsFreshRay, stock_points};
 
 use ray_grid::{Grid, Ray};
 use ray_shapes::RayShape;
-use ray_words::{RayRow, WordRay};
+use ray_words::{StripRays, WordRay};
 use std::alloc::Global;
 use vf_io::NoMemory;
 use vf_spans::Spans;
@@ -26,15 +25,10 @@ fn fresh_ray<
     fixture: &RayShape<C>,
 ) -> Result<WordRay, NoMemory>
     requires ray { IsRay stock.now.grid ray.now }
-    requires part_grid { part.now.grid ≡ stock.now.grid }
-    requires fixture_grid { fixture.now.grid ≡ stock.now.grid }
-    requires stock_callable { (ray : _) → IsRay stock.now.grid ray.now → A.pre stock.now.source ray }
-    requires part_callable { (ray : _) → IsRay part.now.grid ray.now → B.pre part.now.source ray }
-    requires fixture_callable { (ray : _) → IsRay fixture.now.grid ray.now → C.pre fixture.now.source ray }
-    requires stock_gives { Gives (FnReturnsAt A.Fn stock.now.source) stock.now.grid stock.now.solid }
-    requires part_gives { Gives (FnReturnsAt B.Fn part.now.source) part.now.grid part.now.solid }
-    requires fixture_gives { Gives (FnReturnsAt C.Fn fixture.now.source) fixture.now.grid fixture.now.solid }
-    ensures { IfOk result (IsFreshRay stock.now.grid ray.now stock.now.solid part.now.solid fixture.now.solid) }
+    requires stock { GivesSolid A.Fn stock.now.grid stock.now }
+    requires part { GivesSolid B.Fn stock.now.grid part.now }
+    requires fixture { GivesSolid C.Fn stock.now.grid fixture.now }
+    ensures { IfOk result (IsFreshRay stock.now.grid ray.now stock.now.solid.value part.now.solid.value fixture.now.solid.value) }
 {
     let stock = stock.fill(ray)?;
     let part = part.fill(ray)?;
@@ -61,24 +55,18 @@ pub fn fresh_rays<
     stock: &RayShape<A>,
     part: &RayShape<B>,
     fixture: &RayShape<C>,
-) -> Result<(RayRow, u32), NoMemory>
+) -> Result<(StripRays, u32), NoMemory>
     requires strip { strip < length (strips_of grid.now) }
-    requires stock_grid { stock.now.grid ≡ grid.now }
-    requires part_grid { part.now.grid ≡ grid.now }
-    requires fixture_grid { fixture.now.grid ≡ grid.now }
-    requires stock_callable { (ray : _) → IsRay stock.now.grid ray.now → A.pre stock.now.source ray }
-    requires part_callable { (ray : _) → IsRay part.now.grid ray.now → B.pre part.now.source ray }
-    requires fixture_callable { (ray : _) → IsRay fixture.now.grid ray.now → C.pre fixture.now.source ray }
-    requires stock_gives { Gives (FnReturnsAt A.Fn stock.now.source) stock.now.grid stock.now.solid }
-    requires part_gives { Gives (FnReturnsAt B.Fn part.now.source) part.now.grid part.now.solid }
-    requires fixture_gives { Gives (FnReturnsAt C.Fn fixture.now.source) fixture.now.grid fixture.now.solid }
-    ensures rays { IfOk result (λ r. AreFreshRays grid.now strip (length (strip_at grid.now strip)) stock.now.solid part.now.solid
-        fixture.now.solid r.0) }
+    requires stock { GivesSolid A.Fn grid.now stock.now }
+    requires part { GivesSolid B.Fn grid.now part.now }
+    requires fixture { GivesSolid C.Fn grid.now fixture.now }
+    ensures rays { IfOk result (λ r. AreFreshRays grid.now strip (length (strip_at grid.now strip)) stock.now.solid.value
+        part.now.solid.value fixture.now.solid.value r.0) }
     ensures stock { IfOk result (λ r. r.1 ≡ stock_points r.0) }
 {
     hold_grid(grid);
     let count = grid.strip_len(strip);
-    let mut rays = RayRow::with_capacity(alloc, count as usize)?;
+    let mut rays = StripRays::with_capacity(alloc, count as usize)?;
     let mut points = 0;
     for n in 0..count {
         let ray = fresh_ray(alloc, &grid.strip_ray(strip, n), stock, part, fixture)?;

@@ -1,8 +1,8 @@
 use crate::changes::Changes;
-use crate::edit_line::EditLine;
 use crate::entries::Entries;
+use crate::history::EditHistory;
 use ray_shapes::Solid;
-use ray_words::RayRow;
+use ray_words::StripRays;
 use std::alloc::Global;
 use std::snapshot::Snapshot;
 use strip_marks::WordChange;
@@ -17,16 +17,16 @@ pub struct Journal {
     pub done: u32,
     /// The edits that applied a move, in order: the first `at` are left, the others dropped.
     pub at: u32,
-    pub line: EditLine,
+    pub line: EditHistory,
     pub alloc: Global,
-    /// What the strip is of: for contracts alone, without a byte.
+    /// What the strip is of: only for contracts, without a byte. Of a solid it is what its shape keeps.
     pub plan: Snapshot<PlanDraft>,
-    pub stock: Snapshot<Solid>,
-    pub part: Snapshot<Solid>,
-    pub fixture: Snapshot<Solid>,
+    pub stock: Snapshot<Snapshot<Solid>>,
+    pub part: Snapshot<Snapshot<Solid>>,
+    pub fixture: Snapshot<Snapshot<Solid>>,
     /// How many stock points it has.
     pub of: u32,
-    pub rays: RayRow,
+    pub rays: StripRays,
     /// What edits changed, those of one edit together.
     pub changes: Changes,
     /// The edits that had an effect here, in order.

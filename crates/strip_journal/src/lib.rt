@@ -3,20 +3,20 @@
 
 mod applying;
 mod changes;
-mod edit_line;
 mod entries;
 mod entry;
 mod finding;
 mod fresh;
+mod history;
 mod journal;
 mod packed;
-mod passing;
 mod rays;
 mod room;
+mod skipping;
 mod starting;
 mod strip;
-mod turning;
+mod undoing;
 
-pub use job_facts::{PointState, Totals};
+pub use job_counts::{PointState, Totals};
 pub use strip::Strip;
 pub use strip_plan::{Plan, PlanMove as Job};

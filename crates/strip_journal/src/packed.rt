@@ -1,6 +1,6 @@
 ghost use Rattle.std.specs.Prelude.{◌≡◌, ℕ, ◌-◌, ◌%◌, ◌^◌, ◌<◌, ◌≤◌};
 ghost use Rattle.std.specs.Option.{IfNone, IfSome};
-ghost use Rattle.strip_journal.specs.Packed.{IsClose, spread, unpacked};
+ghost use Rattle.strip_journal.specs.Packed.{IsClose, as_word_change, unpacked};
 
 use strip_marks::WordChange;
 
@@ -43,7 +43,7 @@ fn first_bit(change: &WordChange) -> u32
 impl PackedChange {
     /// A change in less, where its points lie close enough together.
     pub fn of_change(change: &WordChange) -> Option<PackedChange>
-        ensures packed { IfSome result (λ p. (p.first < 2 ^ 32 - 1) × (spread p ≡ change.now)) }
+        ensures packed { IfSome result (λ p. (p.first < 2 ^ 32 - 1) × (as_word_change p ≡ change.now)) }
         ensures none { IfNone result (IsClose change.now → ⊥) }
     {
         if change.word >= MOST_WORDS {
@@ -73,8 +73,8 @@ impl PackedChange {
     }
 
     /// The change by its masks.
-    fn spread(&self) -> WordChange
-        ensures { result ≡ spread self.now }
+    fn as_word_change(&self) -> WordChange
+        ensures { result ≡ as_word_change self.now }
     {
         let by = self.first % 64;
         WordChange {
@@ -91,7 +91,7 @@ impl PackedChange {
         ensures { result ≡ unpacked whole.now self.now }
     {
         if self.first != WHOLE {
-            return self.spread();
+            return self.as_word_change();
         }
         match whole.get(self.ray as usize) {
             Some(change) => *change,

@@ -5,45 +5,45 @@ ghost use Rattle.strip_journal.specs.Fresh.{AreCleared};
 ghost use Rattle.strip_journal.specs.Steps.{AreRaysTurned, IsRayTurned};
 
 use crate::changes::ChangesPart;
-use ray_words::RayRow;
+use ray_words::StripRays;
 use strip_marks::WordChange;
 
 /// Takes the points of a change away from its ray, or adds them.
-fn turn_ray(rays: &mut RayRow, change: &WordChange, is_undo: bool)
+fn change_ray(rays: &mut StripRays, change: &WordChange, is_undo: bool)
     requires { IsChangeOn rays.old change.now }
     ensures others { rays.new ≡ slice_set rays.old change.now.ray (kept_at rays.new change.now.ray) }
     ensures turned { IsRayTurned (kept_at rays.old change.now.ray) (kept_at rays.new change.now.ray) (change.now ∷ []) change.now.ray
         is_undo }
 {
     if is_undo {
-        rays.take(change.ray, change.word, &change.delta());
+        rays.remove_delta(change.ray, change.word, &change.delta());
     } else {
-        rays.give(change.ray, change.word, &change.delta());
+        rays.add_delta(change.ray, change.word, &change.delta());
     }
 }
 
 /// Adds the points of changes that aren't packed yet. It takes no memory.
-pub fn give_all(rays: &mut RayRow, changes: &[WordChange])
+pub fn give_all(rays: &mut StripRays, changes: &[WordChange])
     requires { All (IsChangeOn rays.old) changes.now }
     ensures { AreRaysTurned rays.old rays.new changes.now false }
 {
     for change in changes {
-        turn_ray(rays, change, false);
+        change_ray(rays, change, false);
     }
 }
 
 /// Takes the points of changes away, or adds them. It takes no memory.
-pub fn turn_all(rays: &mut RayRow, changes: &ChangesPart<'_>, is_undo: bool)
+pub fn change_all(rays: &mut StripRays, changes: &ChangesPart<'_>, is_undo: bool)
     requires { All (IsChangeOn rays.old) changes.now }
     ensures { AreRaysTurned rays.old rays.new changes.now is_undo }
 {
     for k in 0..changes.len() {
-        turn_ray(rays, &changes.get(k), is_undo);
+        change_ray(rays, &changes.get(k), is_undo);
     }
 }
 
-/// Forgets what moves marked on the first so many rays. It takes no memory.
-pub fn clear_all(rays: &mut RayRow, count: u32)
+/// Forgets what moves marked on the first `count` rays. It takes no memory.
+pub fn clear_all(rays: &mut StripRays, count: u32)
     requires { count ≤ length rays.old }
     ensures { AreCleared count rays.old rays.new }
 {

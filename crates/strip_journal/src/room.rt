@@ -5,8 +5,8 @@ use vf_io::NoMemory;
 /// A list of fewer items grows to sixteen times its length, and one of as many or more to four times.
 const FEW: usize = 4096;
 
-/// Room for so many items more. A list that has too little grows to many times its length: so most are copied once or twice, and what
-/// they don't fill is mostly never touched. After want of memory nothing is changed.
+/// Room for `more` more items. A list that has too little grows to many times its length: so most are copied once or twice, and what
+/// they don't fill is mostly never touched. When out of memory nothing is changed.
 pub fn reserve_more<T>(list: &mut Vec<T>, more: usize) -> Result<(), NoMemory>
     ensures items { list.new.items ≡ list.old.items }
     ensures room { OnOk result (vec_len list.new + more ≤ vec_capacity list.new) }

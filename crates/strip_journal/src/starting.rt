@@ -2,8 +2,8 @@ ghost use Rattle.std.specs.Prelude.{◌≡◌};
 ghost use Rattle.strip_journal.specs.Journals.{IsAt, IsJournal, job_of};
 
 use crate::changes::Changes;
-use crate::edit_line::EditLine;
 use crate::entries::Entries;
+use crate::history::EditHistory;
 use crate::journal::Journal;
 use crate::rays::clear_all;
 use strip_plan::Plan;
@@ -31,7 +31,7 @@ impl Journal {
             number,
             done: 0,
             at: 0,
-            line: EditLine::new(alloc),
+            line: EditHistory::new(alloc),
             alloc,
             plan: of_plan,
             stock,

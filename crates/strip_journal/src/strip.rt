@@ -1,20 +1,20 @@
 ghost use Rattle.std.specs.Prelude.{◌≡◌, ℕ, ◌+◌, ◌-◌, ◌<◌, ◌≤◌, Some, IfOk, OnOk, OnErr, All, length, slice_get};
-ghost use Rattle.std.specs.Fn.{FnReturnsAt};
 ghost use Rattle.ray_grid.specs.declared.ray.Ray.{Ray};
 ghost use Rattle.ray_grid.specs.Lattice.{IsRay, points_of};
 ghost use Rattle.ray_grid.specs.Strips.{strip_at, strips_of};
-ghost use Rattle.ray_shapes.specs.Sets.{Gives};
+ghost use Rattle.ray_shapes.specs.Sets.{GivesSolid};
 ghost use Rattle.edit_plan.specs.Edits.{left_at};
-ghost use Rattle.job_facts.specs.Counts.{AreWithin};
-ghost use Rattle.job_model.specs.Points.{left_moves, point_in, state_after, strip_points, totals_over};
+ghost use Rattle.job_counts.specs.Counts.{AreWithin};
+ghost use Rattle.ray_grid.specs.Points.{point_in};
+ghost use Rattle.job_model.specs.Points.{left_moves, state_after, strip_points, totals_over};
 ghost use Rattle.strip_journal.specs.Strips.{AddsFound, IsFoundAt, most_before};
 
 use crate::changes::Changes;
-use crate::edit_line::EditLine;
 use crate::entries::Entries;
 use crate::fresh::{fresh_rays, hold_grid};
+use crate::history::EditHistory;
 use crate::journal::Journal;
-use job_facts::{Counts, PointState, Totals};
+use job_counts::{Counts, PointState, Totals};
 use ray_grid::Ray;
 use ray_shapes::RayShape;
 use std::alloc::Global;
@@ -26,8 +26,8 @@ use vf_io::NoMemory;
 use vf_spans::Spans;
 use vf_steps::Steps;
 
-/// A strip with its journal. It is seen as the job that it is of, its number, and how many of the job's edits were done on it: all
-/// that it tells is so of these.
+/// A strip with its journal. Its value is the job that it is of, its number, and how many of the job's edits were done on it: all
+/// that it returns is true of these.
 #[derive(Drop)]
 pub struct Strip {
     journal: Journal,
@@ -45,7 +45,7 @@ impl Model for Strip {
 }
 
 impl Strip {
-    /// The strip of a number before the first edit, with the points of the three bodies on its rays. Fails only for want of memory.
+    /// The strip of a number before the first edit, with the points of the three bodies on its rays. Fails only when out of memory.
     pub fn fresh<
         A: Fn(&Ray) -> Result<Spans, NoMemory>,
         B: Fn(&Ray) -> Result<Spans, NoMemory>,
@@ -59,17 +59,16 @@ impl Strip {
         fixture: &RayShape<C>,
     ) -> Result<Strip, NoMemory>
         requires number { number < length (strips_of plan.now.grid) }
-        requires stock_grid { stock.now.grid ≡ plan.now.grid }
-        requires part_grid { part.now.grid ≡ plan.now.grid }
-        requires fixture_grid { fixture.now.grid ≡ plan.now.grid }
-        requires stock_callable { (ray : _) → IsRay stock.now.grid ray.now → A.pre stock.now.source ray }
-        requires part_callable { (ray : _) → IsRay part.now.grid ray.now → B.pre part.now.source ray }
-        requires fixture_callable { (ray : _) → IsRay fixture.now.grid ray.now → C.pre fixture.now.source ray }
-        requires stock_gives { Gives (FnReturnsAt A.Fn stock.now.source) stock.now.grid stock.now.solid }
-        requires part_gives { Gives (FnReturnsAt B.Fn part.now.source) part.now.grid part.now.solid }
-        requires fixture_gives { Gives (FnReturnsAt C.Fn fixture.now.source) fixture.now.grid fixture.now.solid }
+        requires stock { GivesSolid A.Fn plan.now.grid stock.now }
+        requires part { GivesSolid B.Fn plan.now.grid part.now }
+        requires fixture { GivesSolid C.Fn plan.now.grid fixture.now }
         ensures { IfOk result (λ s. s ≡ record {
-          job = record { plan = plan.now; stock = stock.now.solid; part = part.now.solid; fixture = fixture.now.solid };
+          job = record {
+            plan = plan.now;
+            stock = stock.now.solid.value;
+            part = part.now.solid.value;
+            fixture = fixture.now.solid.value;
+          };
           number = number;
           done = 0;
         }) }
@@ -77,7 +76,7 @@ impl Strip {
         Strip::of_draft(alloc, plan.draft(), number, stock, part, fixture)
     }
 
-    /// The same by what the plan is made of, so that strips can be made while the plan is reckoned.
+    /// The same by what the plan is made of, so that strips can be made while the plan is computed.
     pub fn of_draft<
         A: Fn(&Ray) -> Result<Spans, NoMemory>,
         B: Fn(&Ray) -> Result<Spans, NoMemory>,
@@ -91,17 +90,16 @@ impl Strip {
         fixture: &RayShape<C>,
     ) -> Result<Strip, NoMemory>
         requires number { number < length (strips_of draft.now.grid) }
-        requires stock_grid { stock.now.grid ≡ draft.now.grid }
-        requires part_grid { part.now.grid ≡ draft.now.grid }
-        requires fixture_grid { fixture.now.grid ≡ draft.now.grid }
-        requires stock_callable { (ray : _) → IsRay stock.now.grid ray.now → A.pre stock.now.source ray }
-        requires part_callable { (ray : _) → IsRay part.now.grid ray.now → B.pre part.now.source ray }
-        requires fixture_callable { (ray : _) → IsRay fixture.now.grid ray.now → C.pre fixture.now.source ray }
-        requires stock_gives { Gives (FnReturnsAt A.Fn stock.now.source) stock.now.grid stock.now.solid }
-        requires part_gives { Gives (FnReturnsAt B.Fn part.now.source) part.now.grid part.now.solid }
-        requires fixture_gives { Gives (FnReturnsAt C.Fn fixture.now.source) fixture.now.grid fixture.now.solid }
+        requires stock { GivesSolid A.Fn draft.now.grid stock.now }
+        requires part { GivesSolid B.Fn draft.now.grid part.now }
+        requires fixture { GivesSolid C.Fn draft.now.grid fixture.now }
         ensures { IfOk result (λ s. s ≡ record {
-          job = record { plan = draft.now; stock = stock.now.solid; part = part.now.solid; fixture = fixture.now.solid };
+          job = record {
+            plan = draft.now;
+            stock = stock.now.solid.value;
+            part = part.now.solid.value;
+            fixture = fixture.now.solid.value;
+          };
           number = number;
           done = 0;
         }) }
@@ -115,7 +113,7 @@ impl Strip {
             number,
             done: 0,
             at: 0,
-            line: EditLine::new(alloc),
+            line: EditHistory::new(alloc),
             alloc,
             plan: Snapshot::of(draft),
             stock: Snapshot::of(&stock.solid),
@@ -146,7 +144,7 @@ impl Strip {
         self.journal.done
     }
 
-    /// Does the edit that comes next. After want of memory nothing is changed.
+    /// Does the edit that comes next. When out of memory nothing is changed.
     pub fn advance(&mut self, plan: &Plan) -> Result<(), NoMemory>
         requires plan { self.old.job.plan ≡ plan.now }
         requires next { self.old.done < length plan.now.edits }
@@ -156,15 +154,15 @@ impl Strip {
         self.journal.advance(plan)
     }
 
-    /// Passes over the edits that come next and leave the strip alone, at most so many, and tells how many. It takes no memory; it may
+    /// Passes over the edits that come next and leave the strip alone, at most `most`, and returns how many. It takes no memory; it may
     /// pass over fewer than there are.
-    pub fn pass_over(&mut self, plan: &Plan, most: u32) -> u32
+    pub fn skip_untouched(&mut self, plan: &Plan, most: u32) -> u32
         requires plan { self.old.job.plan ≡ plan.now }
         requires next { self.old.done + most ≤ length plan.now.edits }
         ensures most { result ≤ most }
         ensures passed { self.new ≡ record self.old { done = self.old.done + result } }
     {
-        self.journal.pass_over(plan, most)
+        self.journal.skip_untouched(plan, most)
     }
 
     /// The strip before the first edit again. It takes no memory.
@@ -212,7 +210,7 @@ impl Strip {
         self.journal.at
     }
 
-    /// What the j-th of the moves that are left finds on the strip by those ahead of it.
+    /// What the j-th of the moves that are left finds on the strip by those before it.
     pub fn found(&self, j: u32) -> Counts
         requires { j < length (left_at self.now.job.plan.edits self.now.done) }
         ensures { IsFoundAt self.now j result }

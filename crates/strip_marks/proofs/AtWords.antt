@@ -1,5 +1,5 @@
--- A move that is asked about the wanted points of its window in a word alone changes and finds there what it would if it were asked
--- about all.
+-- A move that is tested only at the wanted points of its window in a word changes and finds there what it would if it were tested
+-- at all points.
 use Rattle.std.proofs.Common.{◌≡◌, ℕ, ◌+◌, ◌-◌, ◌*◌, ◌<◌, ◌≤◌, Bool, true, false, not, ◌&&◌, ◌||◌, IsTrue, length, arith, refl, sym, subst, ap, ap₂, ◌∙◌, ◌⊎◌, inl, inr, ⊎_elim, leb, ltb}
 use Rattle.std.specs.List.{range_with_len}
 use Rattle.std.proofs.lemmas.Bool.{and_parts, and_right, cases_Bool, cases_lt, false_from_ne_true, le-leb, le-ltb, lt-leb, lt-ltb}
@@ -8,8 +8,8 @@ use Rattle.vf_spans.specs.Members.{has, in_range}
 use Rattle.vf_spans.specs.Words.{has_bit}
 use Rattle.vf_spans.proofs.WordBits.{has_bit-zero}
 use Rattle.ray_grid.specs.Lattice.{points_of}
-use Rattle.job_facts.specs.declared.counts.Counts.{Counts}
-use Rattle.job_facts.specs.Counts.{no_counts}
+use Rattle.job_counts.specs.declared.counts.Counts.{Counts}
+use Rattle.job_counts.specs.Counts.{no_counts}
 use Rattle.dexel_rays.specs.declared.word_sets.WordDelta.{WordDelta}
 use Rattle.dexel_rays.specs.declared.word_sets.WordSets.{WordSets}
 use Rattle.dexel_rays.specs.Asked.{Agree, is_sure_only, is_wanted}
@@ -21,7 +21,7 @@ use Rattle.dexel_rays.proofs.WordLaws.{agree_found, asked_word}
 use Rattle.ray_words.specs.Rays.{IsBelow, IsWordAt, is_wanted_at}
 use Rattle.wanted_marks.specs.Rays.{RayOf, is_possible_at, is_sure_at, is_sure_bit, is_told_at, is_told_bit}
 use Rattle.strip_marks.specs.Marks.{seen_on}
-use Rattle.near_points.specs.Rays.{NearRayOf}
+use Rattle.near_points.specs.Rays.{CylinderRayOf}
 use Rattle.strip_marks.specs.RayMarks.{AreAsked, AreAskedIn, IsAskedAt, IsIdle, IsNearOf, IsWindow}
 use Rattle.strip_marks.specs.Words.{AreSetsOf}
 use Rattle.strip_marks.proofs.Counting.{found_as, found_none, inside_or}
@@ -37,7 +37,7 @@ and_yes false y e = refl
 unmarked_bit : (word b : ℕ) → word ≡ 0 → has_bit word b ≡ false
 unmarked_bit word b e = ap (λ x. has_bit x b) e ∙ has_bit-zero b
 
--- beside its window the move is possible at no point of the ray, and so sure of none
+-- outside its window the move is possible at no point of the ray, and so sure of none
 pub not_possible_beside : (r : RayOf) (lo hi l : ℕ) → IsWindow r lo hi → l < points_of r.grid r.ray.family → (l < lo) ⊎ (hi ≤ l)
     → is_possible_at r l ≡ false
 not_possible_beside r lo hi l w lt out =
@@ -50,7 +50,7 @@ pub not_sure_beside : (r : RayOf) (lo hi l : ℕ) → IsWindow r lo hi → l < p
 not_sure_beside r lo hi l w lt out =
     false_from_ne_true (is_sure_at r l) (λ t. let met' = w.both l t in let none = not_possible_beside r lo hi l w lt out in cc)
 
--- an index is in a range or beside it
+-- an index is in a range or outside it
 inside : (lo hi l : ℕ) → lo ≤ l → l < hi → in_range l (lo, hi) ≡ true
 inside lo hi l ge lt = ap₂ (λ x y. x && y) (le-leb lo l ge) (lt-ltb l hi lt)
 
@@ -62,7 +62,7 @@ beside lo hi l out =
 pub in_range_below : (lo hi l : ℕ) → in_range l (lo, hi) ≡ true → l < hi
 in_range_below lo hi l t = ltb-true l hi (and_parts (leb lo l) (ltb l hi) t).1
 
--- an index of the window that isn't wanted, and any index beside it
+-- an index of the window that isn't wanted, and any index outside it
 pub idle_at : (r : RayOf) (d : Sets) (lo hi l : ℕ) → AreSetsOf r d → IsWindow r lo hi
     → (in_range l (lo, hi) ≡ true → is_wanted_at d l ≡ false) → l < length d.stock → IsIdle d (is_sure_at r) (is_possible_at r) l
 idle_at r d lo hi l h w none lt =
@@ -75,8 +75,8 @@ idle_at r d lo hi l h w none lt =
 abbrev pub AreWantedIn : Sets → ℕ → ℕ → ℕ → ℕ → Type 0
 AreWantedIn d n lo hi wanted = (b : ℕ) → b < 64 → has_bit wanted b ≡ (is_wanted_at d (64 * n + b) && in_range (64 * n + b) (lo, hi))
 
--- where no bit is set the move is asked about none of the word
-pub none_asked : (near : NearRayOf) (d : Sets) (window : ℕ × ℕ) (n asked : ℕ) → AreAskedIn near d window n asked → asked ≡ 0 → (l : ℕ) → 64 * n ≤ l
+-- where no bit is set the word has no candidate
+pub none_asked : (near : CylinderRayOf) (d : Sets) (window : ℕ × ℕ) (n asked : ℕ) → AreAskedIn near d window n asked → asked ≡ 0 → (l : ℕ) → 64 * n ≤ l
     → l < 64 * (n + 1) → ¬ IsAskedAt near d window l
 none_asked near d window n asked is zero l ge lt at =
     let e : l ≡ 64 * n + (l - 64 * n) = omega arith in
@@ -84,8 +84,8 @@ none_asked near d window n asked is zero l ge lt at =
     let yes = is.all (l - 64 * n) (omega arith) here in
     let no = unmarked_bit asked (l - 64 * n) zero in cc
 
--- an index of the ray that the move isn't asked about, by its cylinder
-pub idle_unasked : (near : NearRayOf) (r : RayOf) (d : Sets) (lo hi l : ℕ) → AreSetsOf r d → IsWindow r lo hi → IsNearOf near r → l < length d.stock
+-- an index of the ray that is no candidate, by the move's cylinder
+pub idle_unasked : (near : CylinderRayOf) (r : RayOf) (d : Sets) (lo hi l : ℕ) → AreSetsOf r d → IsWindow r lo hi → IsNearOf near r → l < length d.stock
     → ¬ IsAskedAt near d (lo, hi) l → IsIdle d (is_sure_at r) (is_possible_at r) l
 idle_unasked near r d lo hi l h w of lt none =
     let point : l < points_of r.grid r.ray.family = omega (arith, h.bound.stock) in
@@ -101,8 +101,8 @@ idle_unasked near r d lo hi l h w of lt none =
     (λ (no : is_wanted_at d l ≡ false). inl no)
     (cases_Bool (is_wanted_at d l))
 
--- the bits that the move is asked about are wanted points of the ray, and the others idle
-pub asked_of : (near : NearRayOf) (r : RayOf) (d : Sets) (n lo hi asked : ℕ) → AreSetsOf r d → IsWindow r lo hi → IsNearOf near r
+-- the bits of the candidates are wanted points of the ray, and the others idle
+pub asked_of : (near : CylinderRayOf) (r : RayOf) (d : Sets) (n lo hi asked : ℕ) → AreSetsOf r d → IsWindow r lo hi → IsNearOf near r
     → AreAskedIn near d (lo, hi) n asked → AreAsked r d n asked
 asked_of near r d n lo hi asked h w of is = record {
   on_ray = λ b lt t. let at = is.only b lt t in omega (arith, in_range_below lo hi (64 * n + b) at.in_window, w.within);

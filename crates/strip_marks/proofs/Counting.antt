@@ -4,8 +4,8 @@ use Rattle.std.specs.List.{count_by, range_with_len}
 use Rattle.std.proofs.lemmas.Bool.{cases_lt}
 use Rattle.std.proofs.lemmas.List.FromFn.{length-range_with_len}
 use Rattle.std.proofs.lemmas.List.Sums.{sum_by-append, sum_by-cons}
-use Rattle.job_facts.specs.declared.counts.Counts.{Counts}
-use Rattle.job_facts.specs.Counts.{AreWithin, no_counts, plus}
+use Rattle.job_counts.specs.declared.counts.Counts.{Counts}
+use Rattle.job_counts.specs.Counts.{AreWithin, no_counts, plus}
 use Rattle.dexel_rays.specs.Findings.{Seen, findings, met, none_met, is_fixture_possible, is_fixture_sure, is_new_possible, is_part_possible, is_part_sure, is_rapid_possible, is_rapid_sure, is_removed}
 use Rattle.dexel_rays.proofs.Found.{findings_within}
 use Rattle.job_model.specs.Sums.{sum_counts}
@@ -47,7 +47,7 @@ plus_apart a b c = λ i. record {
   rapid_possible = add_assoc a.rapid_possible b.rapid_possible c.rapid_possible i;
 }
 
--- a number is one from the one on and below the other, or beside these
+-- a number is one from the one on and below the other, or outside these
 pub inside_or : (lo hi n : ℕ) (P : Type 0) → (lo ≤ n → n < hi → P) → ((n < lo) ⊎ (hi ≤ n) → P) → P
 inside_or lo hi n P inside out =
     ⊎_elim (λ (low : n < lo). out (inl low))
@@ -180,7 +180,7 @@ pub sum_parts : (xs ys : List Counts) → sum_counts (xs ++ ys) ≡ plus (sum_co
 sum_parts [] ys = sym (none_plus (sum_counts ys))
 sum_parts (x ∷ xs) ys = ap (plus x) (sum_parts xs ys) ∙ sym (plus_apart x (sum_counts xs) (sum_counts ys))
 
--- the counts of so many numbers from one on
+-- the counts of n numbers from one on
 abbrev pub sum_over : (ℕ → Counts) → ℕ → ℕ → Counts
 sum_over f a n = sum_counts (map f (range_with_len a n))
 

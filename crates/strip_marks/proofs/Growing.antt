@@ -5,21 +5,21 @@ use Rattle.std.proofs.lemmas.Bool.{and_parts, cases_lt, eqb-true}
 use Rattle.std.proofs.lemmas.List.{append-nil, append_assoc}
 use Rattle.std.proofs.lemmas.List.Elements.{All-append}
 use Rattle.vf_spans.specs.Members.{has}
-use Rattle.job_facts.specs.declared.counts.Counts.{Counts}
-use Rattle.job_facts.specs.Counts.{AreWithin, most_count, no_counts, plus}
+use Rattle.job_counts.specs.declared.counts.Counts.{Counts}
+use Rattle.job_counts.specs.Counts.{AreWithin, most_count, no_counts, plus}
 use Rattle.dexel_rays.specs.declared.word_sets.WordDelta.{WordDelta}
 use Rattle.dexel_rays.specs.Findings.{findings}
 use Rattle.dexel_rays.specs.Sets.{Sets}
 use Rattle.strip_marks.specs.declared.change.WordChange.{WordChange}
 use Rattle.strip_marks.specs.Marks.{among, possible_of, seen_on, sure_of}
-use Rattle.strip_marks.specs.declared.marked.Marked.{Marked}
+use Rattle.strip_marks.specs.declared.move_changes.MoveChanges.{MoveChanges}
 use Rattle.strip_marks.specs.RayMarks.{Adds, AreWordsMarked, CanCount, IsChangeIn}
 use Rattle.strip_marks.specs.Words.{noted}
 use Rattle.strip_marks.proofs.AtWords.{IsWordMarked}
 use Rattle.strip_marks.proofs.Counting.{found_split, found_within, plus_apart, plus_none, within_both, within_more}
 use Rattle.strip_marks.proofs.Lists.{ahead_by_word, all_noted, among_append, among_none, change_at, is_same, noted_here, or_false, order_append, order_few, other_word}
 
--- the change is at another word than the index, where the index lies beside its words
+-- the change is at another word than the index, where the index lies outside its words
 pub beside : (pick : WordChange → ℕ) (bound n lo hi l : ℕ) (changes : List WordChange) → All (IsChangeIn bound n lo hi) changes
     → ((k : ℕ) → lo ≤ k → k < hi → l / 64 ≢ k) → among pick changes n l ≡ false
 beside pick bound n lo hi l changes each apart =
@@ -74,7 +74,7 @@ one_word d sure possible rapid n k delta counts h = record {
 module _ (d : Sets) (sure possible : ℕ → Bool) (rapid : Bool) (n lo mid hi : ℕ) (xs ys : List WordChange) (counts more : Counts)
     (le : lo ≤ mid) (le' : mid ≤ hi) (h : AreWordsMarked d sure possible rapid n lo mid xs counts)
     (next : AreWordsMarked d sure possible rapid n mid hi ys more) where
-  -- the changes of the first don't tell of the indices of the others, nor these of theirs
+  -- the changes of the first have none of the indices of the others, nor these of theirs
   among_before : (pick : WordChange → ℕ) (l : ℕ) → l < 64 * mid → among pick (xs ++ ys) n l ≡ among pick xs n l
   among_before pick l lt =
       among_append pick xs ys n l
@@ -111,7 +111,7 @@ module _ (d : Sets) (sure possible : ℕ → Bool) (rapid : Bool) (n lo mid hi :
   }
 
 -- where nothing is taken in, nothing is added
-pub adds_none : (m : Marked) (fact : List WordChange → Counts → Type 0) → fact [] no_counts → Adds m m fact
+pub adds_none : (m : MoveChanges) (fact : List WordChange → Counts → Type 0) → fact [] no_counts → Adds m m fact
 adds_none m fact holds = record {
   added = [];
   found = no_counts;
@@ -121,7 +121,7 @@ adds_none m fact holds = record {
 }
 
 -- what is added twice, word by word
-pub adds_words : (d : Sets) (sure possible : ℕ → Bool) (rapid : Bool) (n lo mid hi : ℕ) (before between after : Marked) → lo ≤ mid → mid ≤ hi
+pub adds_words : (d : Sets) (sure possible : ℕ → Bool) (rapid : Bool) (n lo mid hi : ℕ) (before between after : MoveChanges) → lo ≤ mid → mid ≤ hi
     → Adds before between (λ added found. AreWordsMarked d sure possible rapid n lo mid added found)
     → Adds between after (λ added found. AreWordsMarked d sure possible rapid n mid hi added found)
     → Adds before after (λ added found. AreWordsMarked d sure possible rapid n lo hi added found)
@@ -135,7 +135,7 @@ adds_words d sure possible rapid n lo mid hi before between after le le' h next 
 }
 
 -- what is found on the words of a ray is far less than 64 bits hold
-pub room_left : (d : Sets) (sure possible : ℕ → Bool) (rapid : Bool) (n lo k : ℕ) (before between : Marked) → 64 * k < 2 ^ 32
+pub room_left : (d : Sets) (sure possible : ℕ → Bool) (rapid : Bool) (n lo k : ℕ) (before between : MoveChanges) → 64 * k < 2 ^ 32
     → CanCount (2 ^ 33) before.counts
     → Adds before between (λ added found. AreWordsMarked d sure possible rapid n lo k added found) → CanCount 64 between.counts
 room_left d sure possible rapid n lo k before between lt room h =

@@ -1,10 +1,10 @@
--- Points at which a move changes nothing and finds nothing: it is not possible there, or there is no need to ask it.
+-- Points at which a move changes nothing and finds nothing: it is not possible there, or it need not be tested.
 use Rattle.std.proofs.Common.{◌≡◌, ℕ, ◌-◌, ◌*◌, ◌<◌, ◌≤◌, Bool, true, false, not, ◌&&◌, ◌||◌, IsTrue, List, [], length, arith, refl, sym, ap, ap₂, ◌∙◌, ⊎_elim}
 use Rattle.std.proofs.lemmas.Bool.{and_right, cases_lt}
 use Rattle.std.proofs.lemmas.List.{get_or_past}
 use Rattle.std.proofs.lemmas.List.Elements.{All-nil}
 use Rattle.vf_spans.specs.Members.{has}
-use Rattle.job_facts.specs.Counts.{no_counts}
+use Rattle.job_counts.specs.Counts.{no_counts}
 use Rattle.dexel_rays.specs.Findings.{met, none_met}
 use Rattle.dexel_rays.specs.Sets.{HaveBound, Sets}
 use Rattle.dexel_rays.proofs.Laws.{no_more, outside_meets_none, point, settled_meets_none}

@@ -2,18 +2,18 @@
 use Rattle.std.proofs.Common.{◌≡◌, ℕ, ◌-◌, ◌<◌, ◌≤◌, true, List, [], length, Option, None, Some, IfNone, IfSome, arith, sym}
 use Rattle.std.proofs.lemmas.List.Elements.{All-nil}
 use Rattle.vf_spans.specs.Members.{has}
-use Rattle.job_facts.specs.Counts.{no_counts}
+use Rattle.job_counts.specs.Counts.{no_counts}
 use Rattle.ray_grid.specs.Strips.{strip_at, strips_of}
-use Rattle.near_points.specs.Rays.{NearStripOf, near_ray_at}
+use Rattle.near_points.specs.Rays.{CylinderStripOf, cylinder_ray_at}
 use Rattle.ray_words.specs.Rays.{KeptSets}
 use Rattle.ray_words.specs.Rows.{kept_at}
 use Rattle.dexel_rays.specs.Sets.{Sets}
 use Rattle.job_model.specs.Tasks.{IsPlan, JobMove, PlanOf}
 use Rattle.strip_plan.specs.Plans.{HasNumber}
-use Rattle.strip_marks.specs.declared.asked_word.AskedWord.{AskedWord}
+use Rattle.strip_marks.specs.declared.candidate_word.CandidateWord.{CandidateWord}
 use Rattle.strip_marks.specs.Marks.{AreRays, points_at, possible_there, ray_found, seen_on, sets_of, sure_there}
 use Rattle.strip_marks.specs.RayMarks.{IsFirstAsked, IsIdle, IsUnasked}
-use Rattle.strip_marks.specs.RowMarks.{AreRaysMarked, AreUnasked, IsChangeFrom, IsFirstIn, IsNearStripOf}
+use Rattle.strip_marks.specs.RowMarks.{AreRaysMarked, AreUnasked, IsChangeFrom, IsCylinderStripOf, IsFirstIn}
 use Rattle.strip_marks.proofs.AlongRays.{IsAlong, IsRayWindow, along_on}
 use Rattle.strip_marks.proofs.Counting.{found_none, sum_none}
 use Rattle.strip_marks.proofs.Idle.{idle_met, idle_possible, idle_sure}
@@ -56,10 +56,10 @@ none_marked plan number move strip lo hi rays are number_of within idle =
           (at n l ge below (omega (arith, less))))));
     }
 
--- a ray with no point of a window that the move has to be asked about is one
-pub idle_unasked_ray : (plan : PlanOf) (number strip n : ℕ) (s : NearStripOf) (rays : List KeptSets) (window : ℕ × ℕ) → IsPlan plan
-    → strip < length (strips_of plan.grid) → AreRays plan.grid strip rays → IsNearStripOf plan number strip s → n < length rays
-    → IsRayWindow plan number strip n window → IsUnasked (near_ray_at s n) (sets_of rays n) window
+-- a ray with no candidate in a window is one
+pub idle_unasked_ray : (plan : PlanOf) (number strip n : ℕ) (s : CylinderStripOf) (rays : List KeptSets) (window : ℕ × ℕ) → IsPlan plan
+    → strip < length (strips_of plan.grid) → AreRays plan.grid strip rays → IsCylinderStripOf plan number strip s → n < length rays
+    → IsRayWindow plan number strip n window → IsUnasked (cylinder_ray_at s n) (sets_of rays n) window
     → IsIdleRay plan number strip n (sets_of rays n)
 idle_unasked_ray plan number strip n s rays window valid there are near lt w none = λ move has.
     let on_strip : n < length (strip_at plan.grid strip) = omega (arith, lt, are.many) in
@@ -67,27 +67,27 @@ idle_unasked_ray plan number strip n s rays window valid there are near lt w non
     (sets_at plan.grid strip rays rays n are (same_self rays) lt)
     (window_on plan number move strip n window.0 window.1 valid has there on_strip w.order w.within (w.holds move has)) none
 
--- so rays with no point of it that the move has to be asked about are idle
-pub idle_along : (plan : PlanOf) (number strip lo hi : ℕ) (s : NearStripOf) (rays : List KeptSets) (window : ℕ × ℕ) → IsPlan plan
-    → strip < length (strips_of plan.grid) → AreRays plan.grid strip rays → IsNearStripOf plan number strip s → hi ≤ length rays
+-- so rays with no candidate in it are idle
+pub idle_along : (plan : PlanOf) (number strip lo hi : ℕ) (s : CylinderStripOf) (rays : List KeptSets) (window : ℕ × ℕ) → IsPlan plan
+    → strip < length (strips_of plan.grid) → AreRays plan.grid strip rays → IsCylinderStripOf plan number strip s → hi ≤ length rays
     → IsAlong plan number s window → AreUnasked s rays window lo hi → AreIdleRays plan number strip rays lo hi
 idle_along plan number strip lo hi s rays window valid there are near within w none n ge lt =
     let less : n < length rays = omega (arith, lt, within) in
     idle_unasked_ray plan number strip n s rays window valid there are near less
     (along_on plan number strip n s window near (omega (arith, less, are.many)) w) (none n ge lt)
 
--- the first of the rays from the one number on and below the other on which the move is asked about a point: ahead of it nothing is marked
-pub record IsFirstRay (plan : PlanOf) (number strip : ℕ) (s : NearStripOf) (rays : List KeptSets) (window : ℕ × ℕ) (lo hi : ℕ)
-    (found : ℕ × AskedWord) : Type 0 where
+-- the first of the rays from the one number on and below the other with a candidate: before it nothing is marked
+pub record IsFirstRay (plan : PlanOf) (number strip : ℕ) (s : CylinderStripOf) (rays : List KeptSets) (window : ℕ × ℕ) (lo hi : ℕ)
+    (found : ℕ × CandidateWord) : Type 0 where
   pub from : lo ≤ found.0
   pub below : found.0 < hi
   pub nothing : (move : JobMove) → HasNumber plan number move → AreRaysMarked plan move strip rays rays lo found.0 [] no_counts
-  pub asked : IsFirstAsked (near_ray_at s found.0) (sets_of rays found.0) window found.1
+  pub asked : IsFirstAsked (cylinder_ray_at s found.0) (sets_of rays found.0) window found.1
 
--- so is one that is found by the cylinder and the sets alone
-pub first_found : (plan : PlanOf) (number strip lo hi : ℕ) (s : NearStripOf) (rays : List KeptSets) (window : ℕ × ℕ)
-    (next : Option (ℕ × AskedWord)) → IsPlan plan → strip < length (strips_of plan.grid) → AreRays plan.grid strip rays
-    → IsNearStripOf plan number strip s → hi ≤ length rays → IsAlong plan number s window → IfSome next (IsFirstIn s rays window lo hi)
+-- so is one that is found by only the cylinder and the sets
+pub first_found : (plan : PlanOf) (number strip lo hi : ℕ) (s : CylinderStripOf) (rays : List KeptSets) (window : ℕ × ℕ)
+    (next : Option (ℕ × CandidateWord)) → IsPlan plan → strip < length (strips_of plan.grid) → AreRays plan.grid strip rays
+    → IsCylinderStripOf plan number strip s → hi ≤ length rays → IsAlong plan number s window → IfSome next (IsFirstIn s rays window lo hi)
     → IfSome next (IsFirstRay plan number strip s rays window lo hi)
 first_found plan number strip lo hi s rays window None valid there are near within w found = tt
 first_found plan number strip lo hi s rays window (Some next) valid there are near within w found =
@@ -101,9 +101,9 @@ first_found plan number strip lo hi s rays window (Some next) valid there are ne
     }
 
 -- and where none is found, nothing is marked on any of them
-pub none_found : (plan : PlanOf) (number strip lo hi : ℕ) (s : NearStripOf) (rays : List KeptSets) (window : ℕ × ℕ)
-    (next : Option (ℕ × AskedWord)) → IsPlan plan → strip < length (strips_of plan.grid) → AreRays plan.grid strip rays
-    → IsNearStripOf plan number strip s → hi ≤ length rays → IsAlong plan number s window → IfNone next (AreUnasked s rays window lo hi)
+pub none_found : (plan : PlanOf) (number strip lo hi : ℕ) (s : CylinderStripOf) (rays : List KeptSets) (window : ℕ × ℕ)
+    (next : Option (ℕ × CandidateWord)) → IsPlan plan → strip < length (strips_of plan.grid) → AreRays plan.grid strip rays
+    → IsCylinderStripOf plan number strip s → hi ≤ length rays → IsAlong plan number s window → IfNone next (AreUnasked s rays window lo hi)
     → IfNone next ((move : JobMove) → HasNumber plan number move → AreRaysMarked plan move strip rays rays lo hi [] no_counts)
 none_found plan number strip lo hi s rays window None valid there are near within w none = λ move has.
     none_marked plan number move strip lo hi rays are has within

@@ -1,4 +1,4 @@
--- Lists of changes: which indices are among them, and in what order they stand.
+-- Lists of changes: which indices are among them, and in what order they are.
 use Rattle.std.proofs.Common.{◌≡◌, ◌≢◌, ℕ, ◌+◌, ◌-◌, ◌/◌, ◌%◌, ◌<◌, ◌≤◌, ◌==◌, Bool, true, false, ◌&&◌, ◌||◌, IsTrue, if◌then◌else◌, List, [], ◌∷◌, ◌++◌, length, get_or, take, drop, arith, refl, sym, ap, ap₂, ◌∙◌, subst, ⊎_elim, eqb, ltb}
 use Rattle.std.specs.List.{All}
 use Rattle.std.proofs.lemmas.Bool.{and_parts, and_right, cases_Bool, cases_eq, cases_lt, eq-eqb, lt-ltb, ne_eqb, or_right}
@@ -68,7 +68,7 @@ all_noted P n k delta p =
     (All-cons P (change_at n k delta) [] p (All-nil P)))
     (cases_Bool (is_same delta))
 
--- which change stands before which
+-- which change comes before which
 pub ahead_by_word : (a b : WordChange) → a.ray ≡ b.ray → a.word < b.word → IsTrue (is_ahead a b)
 ahead_by_word a b e lt = or_right (ltb a.ray b.ray) (eqb a.ray b.ray && ltb a.word b.word)
     (ap₂ (λ s t. s && t) (eq-eqb a.ray b.ray e) (lt-ltb a.word b.word lt))
@@ -88,7 +88,7 @@ word_of_ahead a b e h =
     ltb-true a.word b.word (and_parts (eqb a.ray b.ray) (ltb a.word b.word)
     (other_side (ltb a.ray b.ray) (eqb a.ray b.ray && ltb a.word b.word) h same)).1
 
--- an empty list and one with a single change are in order, and so are two lists together, each change of the one ahead of each of the other
+-- an empty list and one with a single change are in order, and so are two lists, each change of the first before each of the second
 pub order_few : (changes : List WordChange) → length changes ≤ 1 → AreInOrder changes
 order_few changes few = record { each = λ i k d lt within. absurd (omega arith) }
 
@@ -144,7 +144,7 @@ pub tail_within : (before after added slice : List WordChange) (start : ℕ) →
 tail_within before after added slice start joined same at =
     let many = ap (λ (l : List WordChange). length l) (same ∙ joined) in omega (arith, at, many, length-append before added)
 
--- what a list goes on with stands behind its length
+-- what a list goes on with comes after its length
 pub tail_of : (before after added slice : List WordChange) (start : ℕ) → after ≡ before ++ added → slice ≡ after → start ≡ length before
     → take (length slice - start) (drop start slice) ≡ added
 tail_of before after added slice start joined same at =

@@ -5,8 +5,8 @@ use Rattle.std.proofs.lemmas.Bool.{cases_eq, cases_lt}
 use Rattle.std.proofs.lemmas.List.{get_or-set_other, get_or-set_same, length-set}
 use Rattle.std.proofs.lemmas.List.Elements.{All-append, All-nil}
 use Rattle.vf_spans.specs.Members.{has}
-use Rattle.job_facts.specs.declared.counts.Counts.{Counts}
-use Rattle.job_facts.specs.Counts.{AreWithin, no_counts, plus}
+use Rattle.job_counts.specs.declared.counts.Counts.{Counts}
+use Rattle.job_counts.specs.Counts.{AreWithin, no_counts, plus}
 use Rattle.dexel_rays.specs.Findings.{findings}
 use Rattle.dexel_rays.specs.Sets.{Sets}
 use Rattle.ray_grid.specs.Grids.{GridSize}
@@ -110,7 +110,7 @@ module _ (plan : PlanOf) (move : JobMove) (strip lo n : ℕ) (before mid : List 
   after_mid : HaveSameSets mid (set mid n ray)
   after_mid = same_with mid n ray (omega (arith, same.many)) own
 
-  -- the new changes are all of the next ray, and the others of rays ahead of it
+  -- the new changes are all of the next ray, and the others of rays before it
   new_elsewhere : (pick : WordChange → ℕ) (m l : ℕ) → m < n → among pick (changes ++ added) m l ≡ among pick changes m l
   new_elsewhere pick m l lt =
       among_append pick changes added m l
@@ -195,7 +195,7 @@ module _ (plan : PlanOf) (move : JobMove) (strip lo n : ℕ) (before mid : List 
             ∙ ap (sum_over (ray_found plan move strip before) lo) (let q : n - lo + 1 ≡ n + 1 - lo = omega arith in q);
       })
 
--- what is found on a ray is within what 32 bits hold, and on many rays within so many times that
+-- what is found on a ray is within what 32 bits hold, and on many rays within that times their number
 pub ray_within : (ray : KeptSets) (sure possible : ℕ → Bool) (rapid : Bool) (n : ℕ) (changes : List WordChange) (counts : Counts)
     → IsRayMarked ray sure possible rapid n changes counts → AreWithin (2 ^ 32 - 1) counts
 ray_within ray sure possible rapid n changes counts h =

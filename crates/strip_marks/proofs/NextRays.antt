@@ -1,19 +1,19 @@
--- What a move changes on the rays of a strip up to the next one on which it is asked about a point.
+-- What a move changes on the rays of a strip up to the next one with a candidate.
 use Rattle.std.proofs.Common.{◌≡◌, ℕ, ◌+◌, ◌-◌, ◌*◌, ◌<◌, ◌≤◌, true, false, not, ◌&&◌, List, [], length, get_or, Option, Some, None, IfNone, IfSome, arith, sym, ap, ap₂, ◌∙◌, subst, ⊎_elim}
 use Rattle.std.proofs.lemmas.Bool.{cases_lt}
 use Rattle.vf_spans.specs.Members.{has}
-use Rattle.job_facts.specs.declared.counts.Counts.{Counts}
-use Rattle.job_facts.specs.Counts.{AreWithin, no_counts, plus}
+use Rattle.job_counts.specs.declared.counts.Counts.{Counts}
+use Rattle.job_counts.specs.Counts.{AreWithin, no_counts, plus}
 use Rattle.dexel_rays.specs.Findings.{findings}
 use Rattle.dexel_rays.specs.Sets.{HaveBound, Sets}
 use Rattle.ray_grid.specs.Grids.{GridSize}
-use Rattle.near_points.specs.Rays.{NearStripOf, near_ray_at}
+use Rattle.near_points.specs.Rays.{CylinderStripOf, cylinder_ray_at}
 use Rattle.ray_words.specs.Rays.{KeptSets}
 use Rattle.job_model.specs.Tasks.{JobMove, PlanOf}
 use Rattle.strip_plan.specs.Plans.{HasNumber}
-use Rattle.strip_marks.specs.declared.asked_word.AskedWord.{AskedWord}
+use Rattle.strip_marks.specs.declared.candidate_word.CandidateWord.{CandidateWord}
 use Rattle.strip_marks.specs.declared.change.WordChange.{WordChange}
-use Rattle.strip_marks.specs.declared.marked.Marked.{Marked}
+use Rattle.strip_marks.specs.declared.move_changes.MoveChanges.{MoveChanges}
 use Rattle.strip_marks.specs.Marks.{AreRays, HaveSameSets, among, points_at, possible_of, possible_there, ray_found, seen_on, sets_of, sure_of, sure_there}
 use Rattle.strip_marks.specs.RayMarks.{IsFirstAsked}
 use Rattle.strip_marks.specs.RowMarks.{AreRaysMarked}
@@ -56,7 +56,7 @@ module _ (plan : PlanOf) (move : JobMove) (strip lo n m : ℕ) (before mid : Lis
       (λ k ge lt. sym (same_found k (omega (arith, lt, within))))
       ∙ sym idle.found
 
-  -- what is marked ahead of rays where nothing is marked is what is marked with them
+  -- what is marked before rays where nothing is marked is what is marked with them
   pub marked_beyond : AreRaysMarked plan move strip before mid lo m changes counts
   marked_beyond = record {
     new_sure = λ k l ge lt below.
@@ -80,23 +80,23 @@ module _ (plan : PlanOf) (move : JobMove) (strip lo n m : ℕ) (before mid : Lis
   }
 
 -- how many rays are left from the next one on
-pub rays_left : Option (ℕ × AskedWord) → ℕ → ℕ
+pub rays_left : Option (ℕ × CandidateWord) → ℕ → ℕ
 rays_left None hi = 0
 rays_left (Some next) hi = hi - next.0
 
--- up to the next ray on which the move is asked about a point the rays are marked
-pub record IsNextRay (plan : PlanOf) (number strip : ℕ) (near : NearStripOf) (window : ℕ × ℕ) (before rays : List KeptSets) (marked : Marked)
-    (lo hi : ℕ) (next : ℕ × AskedWord) : Type 0 where
+-- up to the next ray with a candidate the rays are marked
+pub record IsNextRay (plan : PlanOf) (number strip : ℕ) (near : CylinderStripOf) (window : ℕ × ℕ) (before rays : List KeptSets) (marked : MoveChanges)
+    (lo hi : ℕ) (next : ℕ × CandidateWord) : Type 0 where
   pub from : lo ≤ next.0
   pub below : next.0 < hi
   pub within : AreWithin ((next.0 - lo) * 4294967295) marked.counts
   pub ahead : (move : JobMove) → HasNumber plan number move
       → AreRaysMarked plan move strip before rays lo next.0 marked.changes.items marked.counts
-  pub asked : IsFirstAsked (near_ray_at near next.0) (sets_of rays next.0) window next.1
+  pub asked : IsFirstAsked (cylinder_ray_at near next.0) (sets_of rays next.0) window next.1
 
--- the first such ray behind those that are marked is the next one
-pub next_behind : (plan : PlanOf) (number strip : ℕ) (near : NearStripOf) (window : ℕ × ℕ) (before rays : List KeptSets) (marked : Marked) (lo n hi : ℕ)
-    (next : ℕ × AskedWord) → HaveSameSets before rays → lo ≤ n → hi ≤ length before → AreWithin ((n - lo) * 4294967295) marked.counts
+-- the first such ray after those that are marked is the next one
+pub next_behind : (plan : PlanOf) (number strip : ℕ) (near : CylinderStripOf) (window : ℕ × ℕ) (before rays : List KeptSets) (marked : MoveChanges) (lo n hi : ℕ)
+    (next : ℕ × CandidateWord) → HaveSameSets before rays → lo ≤ n → hi ≤ length before → AreWithin ((n - lo) * 4294967295) marked.counts
     → ((move : JobMove) → HasNumber plan number move
     → AreRaysMarked plan move strip before rays lo n marked.changes.items marked.counts)
     → IsFirstRay plan number strip near rays window n hi next → IsNextRay plan number strip near window before rays marked lo hi next
@@ -110,9 +110,9 @@ next_behind plan number strip near window before rays marked lo n hi next same f
   asked = first.asked;
 }
 
--- the same of what is told of a first one, if there is one; where there is none, all rays are marked
-pub next_more : (plan : PlanOf) (number strip : ℕ) (near : NearStripOf) (window : ℕ × ℕ) (before rays : List KeptSets) (marked : Marked) (lo n hi : ℕ)
-    (next : Option (ℕ × AskedWord)) → HaveSameSets before rays → lo ≤ n → hi ≤ length before → AreWithin ((n - lo) * 4294967295) marked.counts
+-- the same of what is known of a first one, if there is one; where there is none, all rays are marked
+pub next_more : (plan : PlanOf) (number strip : ℕ) (near : CylinderStripOf) (window : ℕ × ℕ) (before rays : List KeptSets) (marked : MoveChanges) (lo n hi : ℕ)
+    (next : Option (ℕ × CandidateWord)) → HaveSameSets before rays → lo ≤ n → hi ≤ length before → AreWithin ((n - lo) * 4294967295) marked.counts
     → ((move : JobMove) → HasNumber plan number move
     → AreRaysMarked plan move strip before rays lo n marked.changes.items marked.counts)
     → IfSome next (IsFirstRay plan number strip near rays window n hi) → IfSome next (IsNextRay plan number strip near window before rays marked lo hi)
@@ -120,7 +120,7 @@ next_more plan number strip near window before rays marked lo n hi None same fro
 next_more plan number strip near window before rays marked lo n hi (Some next) same from to within h first =
     next_behind plan number strip near window before rays marked lo n hi next same from to within h first
 
-pub nothing_more : (plan : PlanOf) (number strip : ℕ) (before rays : List KeptSets) (marked : Marked) (lo n hi : ℕ) (next : Option (ℕ × AskedWord))
+pub nothing_more : (plan : PlanOf) (number strip : ℕ) (before rays : List KeptSets) (marked : MoveChanges) (lo n hi : ℕ) (next : Option (ℕ × CandidateWord))
     → HaveSameSets before rays → lo ≤ n → n ≤ hi → hi ≤ length before
     → ((move : JobMove) → HasNumber plan number move
     → AreRaysMarked plan move strip before rays lo n marked.changes.items marked.counts)
@@ -132,12 +132,12 @@ nothing_more plan number strip before rays marked lo n hi None same from to with
 nothing_more plan number strip before rays marked lo n hi (Some next) same from to within h idle = tt
 
 -- with each one fewer rays are left
-pub fewer_left : (plan : PlanOf) (number strip : ℕ) (near : NearStripOf) (window : ℕ × ℕ) (rays : List KeptSets) (n hi : ℕ) (asked : AskedWord)
-    (last next : Option (ℕ × AskedWord)) → last ≡ Some (n, asked) → n < hi → IfSome next (IsFirstRay plan number strip near rays window (n + 1) hi)
+pub fewer_left : (plan : PlanOf) (number strip : ℕ) (near : CylinderStripOf) (window : ℕ × ℕ) (rays : List KeptSets) (n hi : ℕ) (asked : CandidateWord)
+    (last next : Option (ℕ × CandidateWord)) → last ≡ Some (n, asked) → n < hi → IfSome next (IsFirstRay plan number strip near rays window (n + 1) hi)
     → rays_left next hi < rays_left last hi
 unfolding rays_left
 fewer_left plan number strip near window rays n hi asked last None e lt first =
-    let left : rays_left last hi ≡ hi - n = ap (λ (o : Option (ℕ × AskedWord)). rays_left o hi) e in omega (arith, left)
+    let left : rays_left last hi ≡ hi - n = ap (λ (o : Option (ℕ × CandidateWord)). rays_left o hi) e in omega (arith, left)
 fewer_left plan number strip near window rays n hi asked last (Some next) e lt first =
-    let left : rays_left last hi ≡ hi - n = ap (λ (o : Option (ℕ × AskedWord)). rays_left o hi) e in
+    let left : rays_left last hi ≡ hi - n = ap (λ (o : Option (ℕ × CandidateWord)). rays_left o hi) e in
     omega (arith, left, first.from, first.below)

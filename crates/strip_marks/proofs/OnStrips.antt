@@ -16,7 +16,7 @@ use Rattle.ray_grid.specs.Strips.{strip_at, strip_of, strips_of}
 use Rattle.ray_grid.proofs.Rows.{length-strip, length-strips, only_place, ray_in, row_x, row_y, row_z, strip_there}
 use Rattle.wanted_marks.specs.Rays.{MoveOf, RayOf}
 use Rattle.wanted_marks.specs.Strips.{StripOf, ray_at}
-use Rattle.job_model.specs.Points.{is_sure, may_meet}
+use Rattle.job_model.specs.Points.{is_possible, is_sure}
 use Rattle.job_model.specs.Tasks.{IsJobMove, IsPlan, JobMove, PlanOf}
 use Rattle.strip_plan.specs.Plans.{HasNumber, move_in}
 use Rattle.strip_plan.specs.Windows.{HoldsEntered, HoldsPossible, IsFrom}
@@ -95,13 +95,13 @@ some_move plan number lt =
 -- a move that is sure of a point is possible there
 pub both_there : (plan : PlanOf) (number : ℕ) (move : JobMove) (point : LatticePoint) → IsPlan plan → HasNumber plan number move
     → is_sure plan move point ≡ true
-    → may_meet plan move point ≡ true
+    → is_possible plan move point ≡ true
 both_there plan number move point valid has sure =
     let lt = slice_get_within plan.moves number move has in
     let here : IsJobMove move = subst (λ (m : JobMove). IsJobMove m) (get_or_from_slice_get plan.moves number move move has)
     (valid.moves number move lt) in
     let cells : 0 < 2 ^ plan.depth = let least : 2 ^ 0 ≤ 2 ^ plan.depth = pow_mono {i = 0} {j = plan.depth} (omega arith) in least in
-    sure_possible move.cutter plan.slabs move.motion point.position (2 ^ plan.depth) here.cutter valid.some cells here.sweep sure
+    sure_possible move.cutter plan.slabs move.sweep point.position (2 ^ plan.depth) here.cutter valid.some cells here.sweep sure
 
 pub not_sure_there : (plan : PlanOf) (number : ℕ) (move : JobMove) (strip n l : ℕ) → IsPlan plan → HasNumber plan number move
     → possible_there plan move strip n l ≡ false → sure_there plan move strip n l ≡ false

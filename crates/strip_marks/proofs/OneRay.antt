@@ -1,12 +1,12 @@
 -- What a move of a plan changes on one ray of a strip.
 use Rattle.std.proofs.Common.{◌≡◌, ℕ, ◌+◌, ◌<◌, ◌≤◌, Bool, List, length, set, sym, subst}
-use Rattle.job_facts.specs.declared.counts.Counts.{Counts}
-use Rattle.job_facts.specs.Counts.{AreWithin}
+use Rattle.job_counts.specs.declared.counts.Counts.{Counts}
+use Rattle.job_counts.specs.Counts.{AreWithin}
 use Rattle.ray_words.specs.Rays.{KeptSets}
 use Rattle.ray_words.specs.Rows.{kept_at}
 use Rattle.wanted_marks.specs.Rays.{RayOf, is_possible_at, is_sure_at}
 use Rattle.job_model.specs.Tasks.{JobMove, PlanOf}
-use Rattle.strip_marks.specs.declared.marked.Marked.{Marked}
+use Rattle.strip_marks.specs.declared.move_changes.MoveChanges.{MoveChanges}
 use Rattle.strip_marks.specs.Marks.{AreRays, HaveSameSets, possible_there, sure_there}
 use Rattle.strip_marks.specs.RayMarks.{Adds, HasSameSets, IsRayMarked}
 use Rattle.strip_marks.specs.RowMarks.{AreRaysMarked, AreSetsAt}
@@ -21,7 +21,7 @@ pub sets_for : (plan : PlanOf) (move : JobMove) (strip n : ℕ) (r : RayOf) (ray
 sets_for plan move strip n r ray e h = subst (λ (x : RayOf). AreSetsOf x ray.sets) (sym e) (record { bound = h.bound; ordered = h.ordered })
 
 -- what is marked by the move ready for the ray is what the move marks there
-pub marked_by : (plan : PlanOf) (move : JobMove) (strip n : ℕ) (r : RayOf) (rapid : Bool) (ray : KeptSets) (before after : Marked)
+pub marked_by : (plan : PlanOf) (move : JobMove) (strip n : ℕ) (r : RayOf) (rapid : Bool) (ray : KeptSets) (before after : MoveChanges)
     → r ≡ move_on plan move strip n → rapid ≡ move.rapid
     → Adds before after (λ added found. IsRayMarked ray (is_sure_at r) (is_possible_at r) rapid n added found)
     → Adds before after (λ added found. IsRayMarked ray (sure_there plan move strip n)
@@ -37,7 +37,7 @@ marked_by plan move strip n r rapid ray before after e f h = record {
 }
 
 -- with the next ray marked, one ray more is
-pub rays_step : (plan : PlanOf) (move : JobMove) (strip lo n : ℕ) (before mid mid' : List KeptSets) (ray : KeptSets) (between after : Marked)
+pub rays_step : (plan : PlanOf) (move : JobMove) (strip lo n : ℕ) (before mid mid' : List KeptSets) (ray : KeptSets) (between after : MoveChanges)
     → AreRays plan.grid strip before → HaveSameSets before mid → HasSameSets (kept_at mid n) ray → mid' ≡ set mid n ray → lo ≤ n
     → n < length before
     → AreRaysMarked plan move strip before mid lo n between.changes.items between.counts
@@ -49,8 +49,8 @@ rays_step plan move strip lo n before mid mid' ray between after rays same own e
     (rays_more plan move strip lo n before mid ray between.changes.items next.added between.counts next.found rays same own from within h
     next.holds after.counts after.changes.items next.summed next.joined)
 
--- and the counts are within so much more
-pub within_next : (plan : PlanOf) (move : JobMove) (strip n span : ℕ) (ray : KeptSets) (between after : Marked)
+-- and the counts are within what one ray more can have
+pub within_next : (plan : PlanOf) (move : JobMove) (strip n span : ℕ) (ray : KeptSets) (between after : MoveChanges)
     → AreWithin span between.counts
     → Adds between after (λ added found. IsRayMarked ray (sure_there plan move strip n)
     (possible_there plan move strip n) move.rapid n added found)

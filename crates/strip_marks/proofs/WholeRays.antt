@@ -3,7 +3,7 @@ use Rattle.std.proofs.Common.{◌≡◌, ℕ, ◌+◌, ◌-◌, ◌*◌, ◌^◌
 use Rattle.std.specs.List.{All, range_with_len}
 use Rattle.std.proofs.lemmas.Bool.{cases_lt}
 use Rattle.vf_spans.specs.Members.{has}
-use Rattle.job_facts.specs.declared.counts.Counts.{Counts}
+use Rattle.job_counts.specs.declared.counts.Counts.{Counts}
 use Rattle.dexel_rays.specs.Findings.{findings, met, none_met}
 use Rattle.dexel_rays.specs.Sets.{HaveBound}
 use Rattle.ray_words.specs.Rays.{KeptSets}

@@ -1,8 +1,8 @@
 -- What a move changes on a strip: its rays in the window are enough.
 use Rattle.std.proofs.Common.{◌≡◌, ℕ, ◌-◌, ◌<◌, ◌≤◌, false, not, ◌&&◌, List, [], length, get_or, arith, sym, ap, ◌∙◌, ◌⊎◌, inl, inr, ⊎_elim}
 use Rattle.vf_spans.specs.Members.{has}
-use Rattle.job_facts.specs.declared.counts.Counts.{Counts}
-use Rattle.job_facts.specs.Counts.{no_counts}
+use Rattle.job_counts.specs.declared.counts.Counts.{Counts}
+use Rattle.job_counts.specs.Counts.{no_counts}
 use Rattle.ray_grid.specs.Strips.{strips_of}
 use Rattle.ray_words.specs.Rays.{KeptSets}
 use Rattle.job_model.specs.Tasks.{IsPlan, JobMove, PlanOf}

@@ -7,14 +7,14 @@ use Rattle.ray_grid.specs.Grids.{GridSize}
 use Rattle.ray_grid.specs.declared.ray.Family.TheVariants.{X}
 use Rattle.ray_grid.specs.declared.ray.Ray.{Ray}
 use Rattle.ray_grid.specs.Lattice.{points_of}
-use Rattle.ray_grid.specs.Points.{LatticePoint}
+use Rattle.ray_grid.specs.Points.{LatticePoint, point_in}
 use Rattle.ray_grid.specs.Strips.{strip_at}
-use Rattle.job_facts.specs.declared.counts.Counts.{Counts}
+use Rattle.job_counts.specs.declared.counts.Counts.{Counts}
 use Rattle.dexel_rays.specs.Findings.{Seen, findings}
 use Rattle.dexel_rays.specs.Sets.{HaveBound, Sets}
 use Rattle.ray_words.specs.Rays.{IsBelow, IsKept, KeptSets}
 use Rattle.ray_words.specs.Rows.{kept_at}
-use Rattle.job_model.specs.Points.{is_sure, may_meet, point_in}
+use Rattle.job_model.specs.Points.{is_possible, is_sure}
 use Rattle.job_model.specs.Sums.{sum_counts}
 use Rattle.job_model.specs.Tasks.{JobMove, PlanOf}
 use Rattle.strip_marks.specs.declared.change.WordChange.{WordChange}
@@ -39,7 +39,7 @@ pub record AreRays (grid : GridSize) (strip : ℕ) (rays : List KeptSets) : Type
   pub bounds : (n : ℕ) → n < length rays → HaveBound (points_at grid strip n) (sets_of rays n)
   pub possible : (n l : ℕ) → n < length rays → has (sets_of rays n).sure l ≡ true → has (sets_of rays n).possible l ≡ true
 
--- as many rays with the same sets; the words that were kept are kept still
+-- the same number of rays with the same sets; the words that were kept are kept still
 pub record HaveSameSets (before after : List KeptSets) : Type 0 where
   pub many : length after ≡ length before
   pub sets : (n : ℕ) → n < length before → sets_of after n ≡ sets_of before n
@@ -50,7 +50,7 @@ abbrev pub sure_there : PlanOf → JobMove → ℕ → ℕ → ℕ → Bool
 sure_there plan move strip n l = is_sure plan move (point_at plan.grid strip n l)
 
 abbrev pub possible_there : PlanOf → JobMove → ℕ → ℕ → ℕ → Bool
-possible_there plan move strip n l = may_meet plan move (point_at plan.grid strip n l)
+possible_there plan move strip n l = is_possible plan move (point_at plan.grid strip n l)
 
 -- what is known of the point of a ray with the index l, by the ray's sets, at a move that is sure and possible by these tests
 abbrev pub seen_on : Sets → (ℕ → Bool) → (ℕ → Bool) → Bool → ℕ → Seen
@@ -92,11 +92,11 @@ pub record IsChangeOn (rays : List KeptSets) (change : WordChange) : Type 0 wher
   pub sure : IsBelow (length (sets_of rays change.ray).stock) change.word change.sure
   pub possible : IsBelow (length (sets_of rays change.ray).stock) change.word change.possible
 
--- a change stands before another: at a ray before its ray, or at a word before its word
+-- a change comes before another: at a ray before its ray, or at a word before its word
 abbrev pub is_ahead : WordChange → WordChange → Bool
 is_ahead a b = nat_lt a.ray b.ray || (nat_eq a.ray b.ray && nat_lt a.word b.word)
 
--- each change stands before those behind it
+-- each change comes before the later ones
 pub record AreInOrder (changes : List WordChange) : Type 0 where
   pub each : (i k : ℕ) (d : WordChange) → i < k → k < length changes
       → IsTrue (is_ahead (slice_index_or changes i d) (slice_index_or changes k d))

@@ -3,67 +3,67 @@ use Rattle.std.specs.Prelude.{◌≡◌, ℕ, ◌+◌, ◌-◌, ◌*◌, ◌/◌
 use Rattle.std.specs.List.{range_with_len}
 use Rattle.vf_spans.specs.Members.{has, in_range}
 use Rattle.vf_spans.specs.Words.{has_bit, words_below}
-use Rattle.near_points.specs.Rays.{IsHeldAt, IsKeptAt, NearRayOf}
+use Rattle.near_points.specs.Rays.{CylinderRayOf, IsHeldAt, IsKeptAt}
 use Rattle.ray_grid.specs.Lattice.{points_of}
-use Rattle.job_facts.specs.declared.counts.Counts.{Counts}
-use Rattle.job_facts.specs.Counts.{AreWithin, most_count, plus}
+use Rattle.job_counts.specs.declared.counts.Counts.{Counts}
+use Rattle.job_counts.specs.Counts.{AreWithin, most_count, plus}
 use Rattle.dexel_rays.specs.Findings.{findings}
 use Rattle.dexel_rays.specs.Sets.{Sets}
 use Rattle.ray_words.specs.Rays.{IsBelow, IsKept, KeptSets, is_wanted_at}
 use Rattle.wanted_marks.specs.Rays.{AreOnRay, RayOf, is_possible_at, is_sure_at}
 use Rattle.strip_plan.specs.Windows.{IsFrom}
-use Rattle.strip_marks.specs.declared.asked_word.AskedWord.{AskedWord}
+use Rattle.strip_marks.specs.declared.candidate_word.CandidateWord.{CandidateWord}
 use Rattle.strip_marks.specs.declared.change.WordChange.{WordChange}
-use Rattle.strip_marks.specs.declared.marked.Marked.{Marked}
+use Rattle.strip_marks.specs.declared.move_changes.MoveChanges.{MoveChanges}
 use Rattle.strip_marks.specs.Marks.{AreInOrder, among, possible_of, seen_on, sure_of}
 
 -- the changes go on with further ones and the counts with what was found, of which a fact holds
-pub record Adds (before after : Marked) (fact : List WordChange → Counts → Type 0) : Type 0 where
+pub record Adds (before after : MoveChanges) (fact : List WordChange → Counts → Type 0) : Type 0 where
   pub added : List WordChange
   pub found : Counts
   pub joined : after.changes.items ≡ before.changes.items ++ added
   pub summed : after.counts ≡ plus before.counts found
   pub holds : fact added found
 
--- no count wraps where so many points more are counted
+-- no count wraps where `points` more points are counted
 abbrev pub CanCount : ℕ → Counts → Type 0
 CanCount points counts = AreWithin (most_count - points) counts
 
--- an index that a move has to be asked about: it is wanted, it lies in the move's window, and the move's cylinder holds its point
-pub record IsAskedAt (near : NearRayOf) (d : Sets) (window : ℕ × ℕ) (l : ℕ) : Type 0 where
+-- a candidate, an index at which a move has to be tested: it is wanted, in the move's window, and the move's cylinder holds its point
+pub record IsAskedAt (near : CylinderRayOf) (d : Sets) (window : ℕ × ℕ) (l : ℕ) : Type 0 where
   pub wanted : is_wanted_at d l ≡ true
   pub in_window : in_range l window ≡ true
   pub kept : IsKeptAt near l
 
--- one that it may be asked about: the move's cylinder where it is widest holds its point
-pub record MayBeAskedAt (near : NearRayOf) (d : Sets) (window : ℕ × ℕ) (l : ℕ) : Type 0 where
+-- an index that may be a candidate: the move's cylinder where it is widest holds its point
+pub record MayBeAskedAt (near : CylinderRayOf) (d : Sets) (window : ℕ × ℕ) (l : ℕ) : Type 0 where
   pub wanted : is_wanted_at d l ≡ true
   pub in_window : in_range l window ≡ true
   pub held : IsHeldAt near l
 
--- there is no index that it has to be asked about
-abbrev pub IsUnasked : NearRayOf → Sets → ℕ × ℕ → Type 0
+-- there is no candidate
+abbrev pub IsUnasked : CylinderRayOf → Sets → ℕ × ℕ → Type 0
 IsUnasked near d window = (l : ℕ) → IsAskedAt near d window l → ⊥
 
--- bit b of a word is set where the move has to be asked about the index 64 n + b, and only where it may be
-pub record AreAskedIn (near : NearRayOf) (d : Sets) (window : ℕ × ℕ) (n asked : ℕ) : Type 0 where
+-- bit b of a word is set where the index 64 n + b is a candidate, and only where it may be one
+pub record AreAskedIn (near : CylinderRayOf) (d : Sets) (window : ℕ × ℕ) (n asked : ℕ) : Type 0 where
   pub all : (b : ℕ) → b < 64 → IsAskedAt near d window (64 * n + b) → has_bit asked b ≡ true
   pub only : (b : ℕ) → b < 64 → has_bit asked b ≡ true → MayBeAskedAt near d window (64 * n + b)
 
--- ahead of a word of the window there is no index that the move has to be asked about
-pub record HasNoneAsked (near : NearRayOf) (d : Sets) (window : ℕ × ℕ) (word : ℕ) : Type 0 where
+-- before a word of the window there is no candidate
+pub record HasNoneAsked (near : CylinderRayOf) (d : Sets) (window : ℕ × ℕ) (word : ℕ) : Type 0 where
   pub from : window.0 / 64 ≤ word
   pub to : word ≤ words_below window.1
   pub none : (l : ℕ) → l < 64 * word → IsAskedAt near d window l → ⊥
 
--- a word ahead of which there is no such index, and its bits
-pub record IsFirstAsked (near : NearRayOf) (d : Sets) (window : ℕ × ℕ) (first : AskedWord) : Type 0 where
+-- a word before which there is no candidate, and its bits
+pub record IsFirstAsked (near : CylinderRayOf) (d : Sets) (window : ℕ × ℕ) (first : CandidateWord) : Type 0 where
   pub ahead : HasNoneAsked near d window first.word
   pub inside : 64 * first.word < window.1
   pub asked : AreAskedIn near d window first.word first.points
 
 -- the cylinder is one on the same ray, and it holds each point at which the move is possible
-pub record IsNearOf (near : NearRayOf) (r : RayOf) : Type 0 where
+pub record IsNearOf (near : CylinderRayOf) (r : RayOf) : Type 0 where
   pub grid : near.grid ≡ r.grid
   pub ray : near.ray ≡ r.ray
   pub holds : (l : ℕ) → l < points_of r.grid r.ray.family → is_possible_at r l ≡ true → IsKeptAt near l
@@ -79,7 +79,7 @@ pub record AreAsked (r : RayOf) (d : Sets) (n asked : ℕ) : Type 0 where
   pub others : (b : ℕ) → b < 64 → 64 * n + b < length d.stock → has_bit asked b ≡ false
       → IsIdle d (is_sure_at r) (is_possible_at r) (64 * n + b)
 
--- a change of ray n, which has so many points, at one of the words from the one on and below the other; it has only points of the ray
+-- a change of ray n, which has `bound` points, at one of the words from the one on and below the other; it has only points of the ray
 pub record IsChangeIn (bound n lo hi : ℕ) (change : WordChange) : Type 0 where
   pub ray : change.ray ≡ n
   pub from : lo ≤ change.word
@@ -98,7 +98,7 @@ pub record AreWordsMarked (d : Sets) (sure possible : ℕ → Bool) (rapid : Boo
   pub order : AreInOrder changes
   pub found : counts ≡ findings (seen_on d sure possible rapid) (range_with_len (64 * lo) (64 * (hi - lo)))
 
--- changes of one ray: their words are below a number, and none is at a word before one that stands ahead of it
+-- changes of one ray: their words are below a number, and no word is below that of an earlier change
 pub record HaveWordsBelow (most : ℕ) (changes : List WordChange) : Type 0 where
   pub below : (i : ℕ) (d : WordChange) → i < length changes → (slice_index_or changes i d).word < most
   pub order : (i k : ℕ) (d : WordChange) → i ≤ k → k < length changes

@@ -2,13 +2,13 @@
 #![tactic(auto)]
 
 mod asked;
-mod asked_word;
+mod candidate_word;
 mod change;
-mod marked;
+mod move_changes;
 mod ray;
 mod strip;
 mod word;
 
 pub use change::WordChange;
-pub use marked::Marked;
+pub use move_changes::MoveChanges;
 pub use strip::mark_strip;

@@ -3,39 +3,39 @@ ghost use Rattle.vf_spans.specs.Words.{words_below};
 ghost use Rattle.ray_grid.specs.Families.{second_axis};
 ghost use Rattle.ray_grid.specs.Lattice.{nodes_of};
 ghost use Rattle.ray_words.specs.Rows.{kept_at};
-ghost use Rattle.near_points.specs.Rays.{near_ray_at};
+ghost use Rattle.near_points.specs.Rays.{cylinder_ray_at};
 ghost use Rattle.wanted_marks.specs.Rays.{is_possible_at, is_sure_at};
 ghost use Rattle.strip_marks.specs.Marks.{sets_of};
 ghost use Rattle.strip_marks.specs.Words.{AreSetsOf};
 ghost use Rattle.strip_marks.specs.RayMarks.{Adds, AreWordsMarked, CanCount, HasSameSets};
 ghost use Rattle.strip_marks.specs.RayMarks.{HaveWordsBelow, IsAtKept, IsFirstAsked, IsNearOf, IsRayMarked, IsWindow};
 
-use crate::asked_word::AskedWord;
+use crate::candidate_word::CandidateWord;
 use crate::change::WordChange;
-use crate::marked::Marked;
-use crate::word::{asked_in, mark_word};
-use near_points::NearStrip;
-use ray_words::{RayRow, WordRay};
+use crate::move_changes::MoveChanges;
+use crate::word::{candidates_in, mark_word};
+use near_points::CylinderStrip;
+use ray_words::{StripRays, WordRay};
 use vf_io::NoMemory;
 use wanted_marks::RayMarker;
 
-/// Takes in what a move changes on ray n, and what it finds there, from the first word on with points that it is asked about.
+/// Takes in what a move changes on ray n, and what it finds there, from the first word with candidates on.
 fn mark_words(
     marker: &RayMarker<'_>,
-    near: &NearStrip<'_>,
+    near: &CylinderStrip<'_>,
     ray: &WordRay,
     n: u32,
-    first: AskedWord,
+    first: CandidateWord,
     window: (u32, u32),
     rapid: bool,
     slab: &mut usize,
-    marked: &mut Marked,
+    marked: &mut MoveChanges,
 ) -> Result<(), NoMemory>
     requires ray { AreSetsOf marker.now ray.now.sets }
     requires window { IsWindow marker.now window.0 window.1 }
     requires n { n < nodes_of near.now.grid (second_axis near.now.family) }
-    requires near { IsNearOf (near_ray_at near.now n) marker.now }
-    requires first { IsFirstAsked (near_ray_at near.now n) ray.now.sets window first }
+    requires near { IsNearOf (cylinder_ray_at near.now n) marker.now }
+    requires first { IsFirstAsked (cylinder_ray_at near.now n) ray.now.sets window first }
     requires room { CanCount (2 ^ 33) marked.old.counts }
     ensures { OnOk result (Adds marked.old marked.new (λ added found.
         AreWordsMarked ray.now.sets (is_sure_at marker.now) (is_possible_at marker.now) rapid n (window.0 / 64) (words_below window.1)
@@ -45,8 +45,8 @@ fn mark_words(
     let end = u64::from(window.1);
     let mut word = first.word + 1;
     while 64 * u64::from(word) < end {
-        let points = asked_in(near, ray, n, word, window);
-        let asked = AskedWord { word, points };
+        let points = candidates_in(near, ray, n, word, window);
+        let asked = CandidateWord { word, points };
         mark_word(marker, ray, n, asked, rapid, slab, marked)?;
         word += 1;
     }
@@ -54,7 +54,7 @@ fn mark_words(
 }
 
 /// Keeps the words of the changes, which are all of ray n, in order.
-fn keep_changed(rays: &mut RayRow, n: u32, changes: &[WordChange]) -> Result<(), NoMemory>
+fn keep_changed(rays: &mut StripRays, n: u32, changes: &[WordChange]) -> Result<(), NoMemory>
     requires some { n < length rays.old }
     requires words { HaveWordsBelow (words_below (length (sets_of rays.old n).stock)) changes.now }
     ensures others { rays.new ≡ slice_set rays.old n (kept_at rays.new n) }
@@ -65,30 +65,30 @@ fn keep_changed(rays: &mut RayRow, n: u32, changes: &[WordChange]) -> Result<(),
     if 0 < count {
         // The bound fits.
         let _bound = rays.ray(n).bound();
-        rays.keep(n, changes[0].word, changes[count - 1].word + 1)?;
+        rays.keep_words(n, changes[0].word, changes[count - 1].word + 1)?;
     }
     Ok(())
 }
 
-/// Takes in what a move changes on ray n, and what it finds there, from the first word on with points that it is asked about. Each
+/// Takes in what a move changes on ray n, and what it finds there, from the first word with candidates on. Each
 /// word that changes is kept from then on. `slab` is the number of a slab of the cutter to look from.
-pub fn mark_ray(
+pub fn mark_strip_ray(
     marker: &RayMarker<'_>,
-    near: &NearStrip<'_>,
-    rays: &mut RayRow,
+    near: &CylinderStrip<'_>,
+    rays: &mut StripRays,
     n: u32,
-    first: AskedWord,
+    first: CandidateWord,
     window: (u32, u32),
     rapid: bool,
     slab: &mut usize,
-    marked: &mut Marked,
+    marked: &mut MoveChanges,
 ) -> Result<(), NoMemory>
     requires some { n < length rays.old }
     requires ray { AreSetsOf marker.now (sets_of rays.old n) }
     requires window { IsWindow marker.now window.0 window.1 }
     requires n { n < nodes_of near.now.grid (second_axis near.now.family) }
-    requires near { IsNearOf (near_ray_at near.now n) marker.now }
-    requires first { IsFirstAsked (near_ray_at near.now n) (sets_of rays.old n) window first }
+    requires near { IsNearOf (cylinder_ray_at near.now n) marker.now }
+    requires first { IsFirstAsked (cylinder_ray_at near.now n) (sets_of rays.old n) window first }
     requires room { CanCount (2 ^ 33) marked.old.counts }
     ensures others { rays.new ≡ slice_set rays.old n (kept_at rays.new n) }
     ensures same { HasSameSets (kept_at rays.old n) (kept_at rays.new n) }

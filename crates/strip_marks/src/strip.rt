@@ -4,7 +4,7 @@ ghost use Rattle.ray_grid.specs.Lattice.{nodes_of};
 ghost use Rattle.ray_grid.specs.Strips.{strip_at, strips_of};
 ghost use Rattle.job_model.specs.Tasks.{IsPlan, JobMove};
 ghost use Rattle.ray_words.specs.Rows.{kept_at};
-ghost use Rattle.near_points.specs.Rays.{near_ray_at};
+ghost use Rattle.near_points.specs.Rays.{cylinder_ray_at};
 ghost use Rattle.wanted_marks.specs.Rays.{is_possible_at, is_sure_at};
 ghost use Rattle.wanted_marks.specs.Strips.{ray_at};
 ghost use Rattle.strip_plan.specs.Plans.{HasNumber};
@@ -14,37 +14,37 @@ ghost use Rattle.strip_marks.specs.RayMarks.{Adds, CanCount, HasSameSets, IsFirs
 ghost use Rattle.strip_marks.specs.RowMarks.{AreRaysMarked};
 
 use crate::asked::first_in;
-use crate::asked_word::AskedWord;
+use crate::candidate_word::CandidateWord;
 use crate::change::WordChange;
-use crate::marked::Marked;
-use crate::ray::mark_ray;
-use job_facts::Counts;
-use near_points::NearStrip;
-use ray_words::RayRow;
+use crate::move_changes::MoveChanges;
+use crate::ray::mark_strip_ray;
+use job_counts::Counts;
+use near_points::CylinderStrip;
+use ray_words::StripRays;
 use strip_plan::Plan;
 use vf_io::NoMemory;
 use wanted_marks::{LOW_SLAB, StripMarker};
 
-/// Takes in what a move changes on ray n of a strip, and what it finds there, from the first word on with points that it is asked about.
+/// Takes in what a move changes on ray n of a strip, and what it finds there, from the first word with candidates on.
 /// `slab` is the number of a slab of the cutter to look from.
 fn mark_asked<'x>(
     marker: &'x StripMarker<'x>,
-    near: &NearStrip<'_>,
-    rays: &mut RayRow,
+    near: &CylinderStrip<'_>,
+    rays: &mut StripRays,
     n: u32,
-    first: AskedWord,
+    first: CandidateWord,
     along: (u32, u32),
     rapid: bool,
     slab: &mut usize,
-    marked: &mut Marked,
+    marked: &mut MoveChanges,
 ) -> Result<(), NoMemory>
     requires some { n < length rays.old }
     requires ray { AreSetsOf (ray_at marker.now n) (sets_of rays.old n) }
     requires window { IsWindow (ray_at marker.now n) along.0 along.1 }
     requires node { n < nodes_of marker.now.grid (second_axis marker.now.family) }
     requires n { n < nodes_of near.now.grid (second_axis near.now.family) }
-    requires near { IsNearOf (near_ray_at near.now n) (ray_at marker.now n) }
-    requires first { IsFirstAsked (near_ray_at near.now n) (sets_of rays.old n) along first }
+    requires near { IsNearOf (cylinder_ray_at near.now n) (ray_at marker.now n) }
+    requires first { IsFirstAsked (cylinder_ray_at near.now n) (sets_of rays.old n) along first }
     requires room { CanCount (2 ^ 33) marked.old.counts }
     ensures others { rays.new ≡ slice_set rays.old n (kept_at rays.new n) }
     ensures same { HasSameSets (kept_at rays.old n) (kept_at rays.new n) }
@@ -52,22 +52,22 @@ fn mark_asked<'x>(
         IsRayMarked (kept_at rays.new n) (is_sure_at (ray_at marker.now n)) (is_possible_at (ray_at marker.now n)) rapid n added found)) }
 {
     let on_ray = marker.on_ray(n);
-    mark_ray(&on_ray, near, rays, n, first, along, rapid, slab, marked)?;
+    mark_strip_ray(&on_ray, near, rays, n, first, along, rapid, slab, marked)?;
     Ok(())
 }
 
 /// What the move changes on the rays of the strip from the one number on and below the other, and what it finds there. A move
-/// enters few strips, so this stands apart from `mark_strip`; and of those that it enters a third has no point that it is asked about.
+/// enters few strips, so this is a function of its own; and of those that it enters a third has no candidate.
 /// The changes go into the list that is given.
 #[inline(never)]
 fn mark_rays(
     room: Vec<WordChange>,
-    rays: &mut RayRow,
+    rays: &mut StripRays,
     plan: &Plan,
     number: u32,
     strip: u32,
     window: (u32, u32),
-) -> Result<Marked, NoMemory>
+) -> Result<MoveChanges, NoMemory>
     requires plan { IsPlan plan.now }
     requires number { number < length plan.now.moves }
     requires strip { strip < length (strips_of plan.now.grid) }
@@ -83,8 +83,8 @@ fn mark_rays(
     let row = grid.strip_ray(strip, 0);
     let along = plan.strip_along(number, row.family, row.i);
     let rapid = plan.is_rapid(number);
-    let near = NearStrip::new(plan.cylinder(number), grid, row.family, row.i);
-    let mut marked = Marked {
+    let near = CylinderStrip::new(plan.cylinder(number), grid, row.family, row.i);
+    let mut marked = MoveChanges {
         changes: room,
         counts: Counts::none(),
     };
@@ -118,11 +118,11 @@ fn mark_rays(
 /// its memory for the changes.
 pub fn mark_strip(
     mut room: Vec<WordChange>,
-    rays: &mut RayRow,
+    rays: &mut StripRays,
     plan: &Plan,
     number: u32,
     strip: u32,
-) -> Result<Marked, NoMemory>
+) -> Result<MoveChanges, NoMemory>
     requires number { number < length plan.now.moves }
     requires strip { strip < length (strips_of plan.now.grid) }
     requires rays { AreRays plan.now.grid strip rays.old }
@@ -130,12 +130,12 @@ pub fn mark_strip(
     ensures marked { IfOk result (λ m. (move : JobMove) → HasNumber plan.now number move
         → IsMarkedStrip plan.now move strip rays.old rays.new m.changes.items m.counts) }
 {
-    // A plan is valid by its type.
+    // A call on the plan gives the prover its invariant.
     let _valid = plan.moves();
     let window = plan.strip_window(number, strip);
     room.clear();
     if window.0 == window.1 {
-        return Ok(Marked {
+        return Ok(MoveChanges {
             changes: room,
             counts: Counts::none(),
         });

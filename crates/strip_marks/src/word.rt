@@ -3,23 +3,23 @@ ghost use Rattle.vf_spans.specs.Members.{in_range};
 ghost use Rattle.vf_spans.specs.Words.{has_bit};
 ghost use Rattle.ray_grid.specs.Families.{second_axis};
 ghost use Rattle.ray_grid.specs.Lattice.{nodes_of, points_of};
-ghost use Rattle.near_points.specs.Rays.{near_ray_at};
+ghost use Rattle.near_points.specs.Rays.{cylinder_ray_at};
 ghost use Rattle.ray_words.specs.Rays.{is_wanted_at};
 ghost use Rattle.wanted_marks.specs.Rays.{is_possible_at, is_sure_at};
 ghost use Rattle.strip_marks.specs.RayMarks.{Adds, AreAsked, AreAskedIn, AreWordsMarked, CanCount};
 ghost use Rattle.strip_marks.specs.Words.{AreMarksAdded, AreSetsOf, noted};
 
-use crate::asked_word::AskedWord;
+use crate::candidate_word::CandidateWord;
 use crate::change::WordChange;
-use crate::marked::Marked;
+use crate::move_changes::MoveChanges;
 use dexel_rays::{WordDelta, WordSets};
-use near_points::NearStrip;
+use near_points::CylinderStrip;
 use ray_words::WordRay;
 use vf_io::NoMemory;
 use vf_spans::bits::bits_of_range;
 use wanted_marks::{RayMarker, WordMarks};
 
-/// The points of a word of a ray that lie in the window and that a move has to be asked about.
+/// The wanted points of a word of a ray that lie in the window.
 #[inline]
 pub fn wanted_in(ray: &WordRay, word: u32, window: (u32, u32)) -> u64
     requires from { window.0 / 64 ≤ word }
@@ -33,17 +33,23 @@ pub fn wanted_in(ray: &WordRay, word: u32, window: (u32, u32)) -> u64
     wanted & bits_of_range(word, window.0, window.1)
 }
 
-/// The points of a word of ray n that a move is asked about: of the wanted ones in its window all that its cylinder holds, and none that
+/// The candidates of a move in a word of ray n: of the wanted points in its window all that its cylinder holds, and none that
 /// it doesn't hold where it is widest.
 #[inline]
-pub fn asked_in(near: &NearStrip<'_>, ray: &WordRay, n: u32, word: u32, window: (u32, u32)) -> u64
+pub fn candidates_in(
+    near: &CylinderStrip<'_>,
+    ray: &WordRay,
+    n: u32,
+    word: u32,
+    window: (u32, u32),
+) -> u64
     requires n { n < nodes_of near.now.grid (second_axis near.now.family) }
     requires from { window.0 / 64 ≤ word }
     requires to { 64 * word < window.1 }
     requires on { window.1 ≤ points_of near.now.grid near.now.family }
-    ensures { AreAskedIn (near_ray_at near.now n) ray.now.sets window word result }
+    ensures { AreAskedIn (cylinder_ray_at near.now n) ray.now.sets window word result }
 {
-    near.near(n, 64 * word, wanted_in(ray, word, window))
+    near.held_points(n, 64 * word, wanted_in(ray, word, window))
 }
 
 /// Notes what changes at a word, if anything does.
@@ -74,7 +80,7 @@ fn add_marks(
     n: u32,
     word: u32,
     rapid: bool,
-    marked: &mut Marked,
+    marked: &mut MoveChanges,
 ) -> Result<(), NoMemory>
     requires { CanCount 64 marked.old.counts }
     ensures { OnOk result (Adds marked.old marked.new (λ added found.
@@ -89,16 +95,16 @@ fn add_marks(
     Ok(())
 }
 
-/// Takes in what a move changes at the points of a word of ray n, and what it finds there, by those that it is asked about. `slab` is the
+/// Takes in what a move changes at the points of a word of ray n, and what it finds there, by its candidates. `slab` is the
 /// number of a slab of the cutter to look from.
 pub fn mark_word(
     marker: &RayMarker<'_>,
     ray: &WordRay,
     n: u32,
-    asked: AskedWord,
+    asked: CandidateWord,
     rapid: bool,
     slab: &mut usize,
-    marked: &mut Marked,
+    marked: &mut MoveChanges,
 ) -> Result<(), NoMemory>
     requires ray { AreSetsOf marker.now ray.now.sets }
     requires asked { AreAsked marker.now ray.now.sets asked.word asked.points }
@@ -108,7 +114,7 @@ pub fn mark_word(
     ensures { OnOk result (Adds marked.old marked.new (λ added found.
         AreWordsMarked ray.now.sets (is_sure_at marker.now) (is_possible_at marker.now) rapid n asked.word (asked.word + 1) added found)) }
 {
-    let AskedWord { word, points } = asked;
+    let CandidateWord { word, points } = asked;
     if points == 0 {
         return Ok(());
     }

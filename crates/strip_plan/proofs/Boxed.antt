@@ -75,7 +75,7 @@ one_box grid boxes box fit is n d l =
     let e : n ≡ length boxes = omega (arith, l, most, length-append boxes (box ∷ [])) in
     subst (IsBoxOf grid) (sym (ap (λ k. get_or (boxes ++ box ∷ []) k d) e ∙ get_or-append_seam boxes box [] d)) is) (cases_lt n (length boxes))
 
--- a box is pushed behind the others
+-- a box is pushed after the others
 pub one_pushed : (grid : GridSize) (held : List PointBox) (old boxes : List IndexBox) (box : IndexBox) (n : ℕ) (e : PointBox) → ArePushed grid held old boxes n → n < length held
     → IsIndexed grid (get_or held n e) box → ArePushed grid held old (boxes ++ box ∷ []) (n + 1)
 one_pushed grid held old boxes box n e before within is =
@@ -124,7 +124,7 @@ pushed_has grid held old new ray l are on lt is =
       has = λ d. (are.each is.place (record { low = []; high = [] }) d within).has ray l on lt (is.inside (record { low = []; high = [] }));
     }
 
--- the box that joins those from a place on, where that is the first behind the others
+-- the box that joins those from a place on, where that is the first after the others
 pub hull_has : (hull : IndexBox) (old new boxes : List IndexBox) (start : ℕ) → boxes ≡ new → start ≡ length old
     → ((ray : Ray) (l : ℕ) → IsInOneOf boxes start (length boxes) ray l → HasPoint hull ray l)
     → (ray : Ray) (l : ℕ) → IsInOneOf new (length old) (length new) ray l → HasPoint hull ray l
@@ -132,7 +132,7 @@ hull_has hull old new boxes start same first has =
     subst (λ (xs : List IndexBox). (ray : Ray) (l : ℕ) → IsInOneOf xs (length old) (length xs) ray l → HasPoint hull ray l) same
     (subst (λ (k : ℕ). (ray : Ray) (l : ℕ) → IsInOneOf boxes k (length boxes) ray l → HasPoint hull ray l) first has)
 
--- several boxes stay behind the others, of one alone none
+-- several boxes stay after the others, a single one does not
 pub several_held : (grid : GridSize) (held : List PointBox) (hull : IndexBox) (old new : List IndexBox) → ArePushed grid held old new (length held) → AreBoxesOf grid old
     → IsBoxOf grid hull → ((ray : Ray) (l : ℕ) → IsInOneOf new (length old) (length new) ray l → HasPoint hull ray l) → AreHeld grid held hull old new
 several_held grid held hull old new are fit fits has = record {
@@ -157,7 +157,7 @@ one_held grid held hull old new left are fit fits has same =
 pub more_boxes : (grid : GridSize) (slabs depth : ℕ) (moves : List JobMove) (hulls boxes more : List IndexBox) (starts : List ℕ) (count : ℕ) (next : JobMove) (region : PointBox)
     (held : List PointBox) (hull : IndexBox) (end : ℕ) → HasBoxes grid slabs depth moves hulls boxes starts count → end ≡ length more → next ≡ get_or moves count next
     → ((ray : Ray) (l : ℕ) → IsRay grid ray → l < points_of grid ray.family → IsInBox region (point_of grid ray l))
-    → Covers held region (record { cutter = next.cutter; slabs = slabs }) next.motion depth → AreHeld grid held hull boxes more
+    → Covers held region (record { cutter = next.cutter; slabs = slabs }) next.sweep depth → AreHeld grid held hull boxes more
     → HasBoxes grid slabs depth moves (hulls ++ hull ∷ []) more (starts ++ end ∷ []) (count + 1)
 more_boxes grid slabs depth moves hulls boxes more starts count next region held hull end has ends read holds covers are =
     let many = has.many in
@@ -193,7 +193,7 @@ more_boxes grid slabs depth moves hulls boxes more starts count next region held
           let first : slice_index (starts ++ end ∷ []) n ≡ length boxes = early n l ∙ ap (λ i. slice_index starts i) e ∙ has.last in
           let second : slice_index (starts ++ end ∷ []) (n + 1) ≡ length more = late (n + 1) (omega (arith, e)) ∙ ends in
           let own : get_or (hulls ++ hull ∷ []) n d ≡ hull = ap (λ k. get_or (hulls ++ hull ∷ []) k d) (let q : n ≡ length hulls = omega (arith, e, as_many) in q) ∙ get_or-append_seam hulls hull [] d in
-          let mine = subst (λ (m : JobMove). Covers held region (record { cutter = m.cutter; slabs = slabs }) m.motion depth) same covers in
+          let mine = subst (λ (m : JobMove). Covers held region (record { cutter = m.cutter; slabs = slabs }) m.sweep depth) same covers in
           let here = are.holds ray x is.on_grid is.index (mine (point_of grid ray x) (holds ray x is.on_grid is.index) is.possible) in
           subst (λ (b : IndexBox). IsHeld b more (slice_index (starts ++ end ∷ []) n) (slice_index (starts ++ end ∷ []) (n + 1)) ray x) (sym own)
           (subst (λ (k : ℕ). IsHeld hull more k (slice_index (starts ++ end ∷ []) (n + 1)) ray x) (sym first)

@@ -24,7 +24,7 @@ no_cylinders grid slabs depth moves = record { many = refl; each = λ n move d r
 pub more_cylinders : (grid : GridSize) (slabs depth : ℕ) (moves : List JobMove) (cylinders : List BoundingCylinder) (count : ℕ) (next : JobMove) (region : PointBox)
     (cylinder : BoundingCylinder) → HasCylinders grid slabs depth moves cylinders count → next ≡ get_or moves count next
     → ((ray : Ray) (l : ℕ) → IsRay grid ray → l < points_of grid ray.family → IsInBox region (point_of grid ray l))
-    → ((p : List ℤ) → IsInBox region p → is_possible_by next.cutter slabs next.motion p (2 ^ depth) ≡ true → IsInCylinder cylinder p)
+    → ((p : List ℤ) → IsInBox region p → is_possible_by next.cutter slabs next.sweep p (2 ^ depth) ≡ true → IsInCylinder cylinder p)
     → HasCylinders grid slabs depth moves (cylinders ++ cylinder ∷ []) (count + 1)
 more_cylinders grid slabs depth moves cylinders count next region cylinder has read holds held =
     let many = has.many in
@@ -41,7 +41,7 @@ more_cylinders grid slabs depth moves cylinders count next region cylinder has r
           let own : get_or (cylinders ++ cylinder ∷ []) n d ≡ cylinder =
           ap (λ k. get_or (cylinders ++ cylinder ∷ []) k d) (let q : n ≡ length cylinders = omega (arith, e, many) in q) ∙ get_or-append_seam cylinders cylinder [] d in
           let mine =
-          subst (λ (m : JobMove). (p : List ℤ) → IsInBox region p → is_possible_by m.cutter slabs m.motion p (2 ^ depth) ≡ true → IsInCylinder cylinder p) same held in
+          subst (λ (m : JobMove). (p : List ℤ) → IsInBox region p → is_possible_by m.cutter slabs m.sweep p (2 ^ depth) ≡ true → IsInCylinder cylinder p) same held in
           subst (λ (c : BoundingCylinder). IsInCylinder c (point_of grid ray l)) (sym own)
           (mine (point_of grid ray l) (holds ray l is.on_grid is.index) is.possible))
           (cases_lt n count);

@@ -11,7 +11,7 @@ use Rattle.ray_grid.specs.Families.{first_axis, second_axis}
 use Rattle.ray_grid.specs.Lattice.{IsRay, node_at, nodes_of, per_node, place_at, point_at, point_of, points_of}
 use Rattle.ray_grid.specs.Ranges.{IsGrid}
 use Rattle.ray_grid.proofs.Sizes.{axis_of, node_within, place_within, times_is}
-use Rattle.sweep_boxes.specs.Pieces.{IsAmong}
+use Rattle.sweep_boxes.specs.Intervals.{IsAmong}
 
 pub some_nodes : (g : GridSize) (axis : ℕ) → IsGrid g → axis < 3 → 1 ≤ nodes_of g axis
 some_nodes g axis is three = (axis_of g axis is three).some

@@ -1,4 +1,4 @@
--- Boxes by their indices: what the first ray along each axis tells of all rays along it.
+-- Boxes by their indices: what the first ray along each axis says of all rays along it.
 use Rattle.std.proofs.Common.{◌≡◌, ◌∙◌, ℕ, ◌+◌, ◌*◌, ◌/◌, ◌%◌, ◌<◌, ◌≤◌, [], ◌∷◌, ⊎_elim, ℤ, pos, ◌+ℤ◌, ◌≤ℤ◌, FitsSigned, to_z, of_z, min, unsigned_abs, arith, ap, subst, sym, w32}
 use Rattle.std.proofs.lemmas.Bool.{cases_lt}
 use Rattle.std.proofs.lemmas.Grind.{div_ceil_times}
@@ -15,12 +15,12 @@ use Rattle.ray_grid.specs.Lattice.{node_at, nodes_of, per_node, place_at, point_
 use Rattle.ray_grid.specs.Ranges.{IsGrid}
 use Rattle.ray_grid.proofs.Sizes.{some_per_node, times_is}
 use Rattle.sweep_boxes.specs.declared.point_box.PointBox.{PointBox}
-use Rattle.sweep_boxes.specs.Pieces.{IsAmong}
+use Rattle.sweep_boxes.specs.Intervals.{IsAmong}
 use Rattle.strip_plan.specs.declared.index_box.IndexBox.{IndexBox}
 use Rattle.strip_plan.specs.IndexBoxes.{AreOnAxis, HasPoint, IsBoxOf, IsIndexed}
 use Rattle.strip_plan.specs.Ranges.{IsRangeOf}
 
--- fewer times as many are fewer
+-- a number is less than another if its multiple is less than the same multiple of the other
 fewer : (a b k : ℕ) → a * k < b * k → a < b
 fewer a b k lt = ⊎_elim (λ less. less) (λ more. let far = mul-le-mul_right k more in absurd (omega arith)) (cases_lt a b)
 

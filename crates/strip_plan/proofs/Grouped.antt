@@ -14,7 +14,7 @@ use Rattle.edit_plan.specs.declared.edit.Edit.TheVariants.{Apply, Undo, Redo}
 use Rattle.edit_plan.specs.Edits.{AppliesBelow}
 use Rattle.strip_plan.specs.declared.index_box.IndexBox.{IndexBox}
 use Rattle.strip_plan.specs.IndexBoxes.{HasPoint, JoinsBoxes}
-use Rattle.strip_plan.specs.Passing.{AppliesNone, AreGroups, HasNone, IsAppliedIn}
+use Rattle.strip_plan.specs.Untouched.{AppliesNone, AreGroups, HasNone, IsAppliedIn}
 use Rattle.strip_plan.proofs.Joined.{of_one, of_other}
 
 -- what a box holds is held by one that has all its points
@@ -40,7 +40,7 @@ one_more hulls edits group more n number e own named before within is joins k d 
     of_other group (get_or hulls number own) more ray l joins (subst (λ (x : IndexBox). HasPoint x ray l) (get_or_default hulls number b own low) has)))
     (cases_lt k n)
 
--- eight edits of a slice where they stand among all
+-- eight edits of a slice where they are among all
 pub in_place : (hulls : List IndexBox) (edits : List Edit) (next : Option IndexBox) (n : ℕ) → n * 8 + 8 ≤ length edits
     → IfSome next (λ group. AllWithin (IsAppliedIn hulls group) (slice_range edits (n * 8) (n * 8 + 8)) 0 (length (slice_range edits (n * 8) (n * 8 + 8))))
     → IfSome next (λ group. AllWithin (IsAppliedIn hulls group) edits (8 * n) (8 * n + 8))

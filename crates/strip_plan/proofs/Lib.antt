@@ -10,5 +10,5 @@ pub mod Rows
 pub mod Cylindered
 pub mod Passed
 pub mod Grouped
-pub mod Readied
+pub mod Tables
 pub mod Stacked

@@ -15,8 +15,8 @@ use Rattle.strip_plan.specs.declared.index_box.AxisRanges.{AxisRanges}
 use Rattle.strip_plan.specs.declared.index_box.IndexBox.{IndexBox}
 use Rattle.strip_plan.specs.Boxed.{HasBoxes}
 use Rattle.strip_plan.specs.IndexBoxes.{HasPoint}
-use Rattle.strip_plan.specs.Passing.{AppliesNone, ArePassed, HasNone, IsPassed, LeavesAlone}
 use Rattle.strip_plan.specs.Plans.{HasNumber}
+use Rattle.strip_plan.specs.Untouched.{AppliesNone, ArePassed, HasNone, IsPassed, LeavesAlone}
 use Rattle.strip_plan.proofs.Rows.{ray_is}
 
 -- a box that has nothing
@@ -44,7 +44,7 @@ module _ (plan : PlanOf) (hulls boxes : List IndexBox) (starts : List ℕ) (stri
   passed_by version Undo is low none = absurd none
   passed_by version Redo is low none = absurd none
 
-  -- so many edits from a version on
+  -- `count` edits from a version on
   pub passed_from : (version count : ℕ) → version + count ≤ length plan.edits → All (AppliesBelow (length plan.moves)) plan.edits
       → AllWithin (AppliesNone hulls family i) plan.edits version (version + count) → ArePassed plan strip version count
   passed_from version count within named none k low =

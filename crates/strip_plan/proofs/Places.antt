@@ -52,7 +52,7 @@ one_more slabs moves stacks more places count next place has kept read is =
           (cases_lt n count);
     }
 
--- stacks with others pushed: the first ones are kept, all have so many slabs, and the last place is that of the others
+-- stacks with others pushed: the first ones are kept, all have `slabs` slabs, and the last place is that of the others
 pub kept_pushed : (stacks more : List StacksOf) (next : StacksOf) → more ≡ stacks ++ next ∷ [] → take (length stacks) more ≡ stacks
 kept_pushed stacks more next e =
     ap (λ zs. take (length stacks) zs) e ∙ take-append-le (length stacks) stacks (next ∷ []) (omega arith) ∙ take_all (length stacks) stacks (omega arith)

@@ -6,7 +6,7 @@ use Rattle.space.specs.Reach.{is_in_reach, is_near}
 use Rattle.space.specs.Vectors.{at}
 use Rattle.space.proofs.ReachLemmas.{decides_near, in_reach_of}
 use Rattle.space.proofs.Tests.{decides_le}
-use Rattle.sweep_boxes.specs.Pieces.{IsAmong}
+use Rattle.sweep_boxes.specs.Intervals.{IsAmong}
 
 near_within : (a b x : ℤ) → a ≤ℤ x → x ≤ℤ b → IsTrue (is_near (pos 0) a b x)
 near_within a b x le ge = (decides_near (pos 0) a b x).1 (record { above = grind (arith, ints, le, ge); below = grind (arith, ints, le, ge) })

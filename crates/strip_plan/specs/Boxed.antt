@@ -1,6 +1,6 @@
 -- The boxes outside of which a move is possible at no point of the lattice.
 use Rattle.std.specs.Prelude.{◌≡◌, true, ℕ, ◌+◌, ◌^◌, ◌<◌, ◌≤◌, ◌≢◌, List, Some, length, slice_get, slice_index, slice_index_or, take, ℤ}
-use Rattle.space.specs.Motion.{Motion}
+use Rattle.space.specs.Sweeps.{SweepOf}
 use Rattle.cutter_slabs.specs.Stacks.{StacksOf}
 use Rattle.cutter_marks.specs.MarkBy.{is_possible_by}
 use Rattle.ray_grid.specs.Grids.{GridSize}
@@ -17,9 +17,9 @@ use Rattle.strip_plan.specs.IndexBoxes.{AreBoxesOf, HasPoint, IsBoxOf, IsIndexed
 pub record IsMetAt (grid : GridSize) (slabs depth : ℕ) (move : JobMove) (ray : Ray) (l : ℕ) : Type 0 where
   pub on_grid : IsRay grid ray
   pub index : l < points_of grid ray.family
-  pub possible : is_possible_by move.cutter slabs move.motion (point_of grid ray l) (2 ^ depth) ≡ true
+  pub possible : is_possible_by move.cutter slabs move.sweep (point_of grid ray l) (2 ^ depth) ≡ true
 
--- one of the boxes from a place on and ahead of another has the point of the ray
+-- one of the boxes from a place on and before another has the point of the ray
 pub record IsInOneOf (boxes : List IndexBox) (start end : ℕ) (ray : Ray) (l : ℕ) : Type 0 where
   pub place : ℕ
   pub after : start ≤ place
@@ -27,16 +27,16 @@ pub record IsInOneOf (boxes : List IndexBox) (start end : ℕ) (ray : Ray) (l : 
   pub has : (d : IndexBox) → HasPoint (slice_index_or boxes place d) ray l
 
 -- the boxes hold the points of a region at which a motion of a cutter is possible
-abbrev pub Covers : List PointBox → PointBox → StacksOf → Motion → ℕ → Type 0
-Covers boxes region stacks motion depth =
-    (p : List ℤ) → IsInBox region p → is_possible_by stacks.cutter stacks.slabs motion p (2 ^ depth) ≡ true → IsInSome boxes 0 p
+abbrev pub Covers : List PointBox → PointBox → StacksOf → SweepOf → ℕ → Type 0
+Covers boxes region stacks sweep depth =
+    (p : List ℤ) → IsInBox region p → is_possible_by stacks.cutter stacks.slabs sweep p (2 ^ depth) ≡ true → IsInSome boxes 0 p
 
--- the box that holds a move's boxes has the point, and where several stand from one place to another, one of these has it
+-- the box that holds a move's boxes has the point, and where there are several from one place to another, one of these has it
 pub record IsHeld (hull : IndexBox) (boxes : List IndexBox) (start end : ℕ) (ray : Ray) (l : ℕ) : Type 0 where
   pub in_hull : HasPoint hull ray l
   pub in_one : start ≢ end → IsInOneOf boxes start end ray l
 
--- For each of the first so many moves: the box that holds its boxes; where these start and end, if they are several; and that they have
+-- For each of the first `count` moves: the box that holds its boxes; where these start and end, if they are several; and that they have
 -- the points at which it is possible.
 pub record HasBoxes (grid : GridSize) (slabs depth : ℕ) (moves : List JobMove) (hulls boxes : List IndexBox) (starts : List ℕ)
     (count : ℕ) : Type 0 where
@@ -50,7 +50,7 @@ pub record HasBoxes (grid : GridSize) (slabs depth : ℕ) (moves : List JobMove)
       → IsMetAt grid slabs depth move ray l
       → IsHeld (slice_index_or hulls n d) boxes (slice_index starts n) (slice_index starts (n + 1)) ray l
 
--- the first so many boxes are pushed onto others by their indices
+-- the first `count` boxes are pushed onto others by their indices
 pub record ArePushed (grid : GridSize) (held : List PointBox) (old new : List IndexBox) (count : ℕ) : Type 0 where
   pub kept : take (length old) new ≡ old
   pub many : length new ≡ length old + count

@@ -8,7 +8,7 @@ use Rattle.sweep_boxes.specs.Cylinders.{IsInCylinder}
 use Rattle.job_model.specs.Tasks.{JobMove}
 use Rattle.strip_plan.specs.Boxed.{IsMetAt}
 
--- for each of the first so many moves there is one that holds the points at which it is possible
+-- for each of the first `count` moves there is one that holds the points at which it is possible
 pub record HasCylinders (grid : GridSize) (slabs depth : ℕ) (moves : List JobMove) (cylinders : List BoundingCylinder) (count : ℕ)
     : Type 0 where
   pub many : length cylinders ≡ count

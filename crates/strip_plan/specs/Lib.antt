@@ -6,6 +6,6 @@ pub mod StripRanges
 pub mod IndexBoxes
 pub mod Boxed
 pub mod Cylinders
-pub mod Passing
+pub mod Untouched
 pub mod ReadyMoves
 pub mod Parts

@@ -9,4 +9,4 @@ HasNumber plan number move = slice_get plan.moves number ≡ Some move
 
 -- the move with the plan's slabs and depth
 abbrev pub move_in : PlanOf → JobMove → MoveOf
-move_in plan move = record { cutter = move.cutter; slabs = plan.slabs; motion = move.motion; depth = plan.depth }
+move_in plan move = record { cutter = move.cutter; slabs = plan.slabs; sweep = move.sweep; depth = plan.depth }

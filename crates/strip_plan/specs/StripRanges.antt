@@ -12,7 +12,7 @@ abbrev pub count_of : GridSize → Family → StripRange → ℕ
 count_of grid family Rays = nodes_of grid (second_axis family)
 count_of grid family Points = points_of grid family
 
--- what stands in it for the point with the index l of the ray with the number j
+-- its index for the point with the index l of the ray with the number j
 abbrev pub index_of : StripRange → ℕ → ℕ → ℕ
 index_of Rays j l = j
 index_of Points j l = l

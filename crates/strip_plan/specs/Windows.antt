@@ -6,7 +6,7 @@ use Rattle.ray_grid.specs.Lattice.{IsRay, point_of, points_of}
 use Rattle.ray_grid.specs.Strips.{strip_at}
 use Rattle.sweep_boxes.specs.declared.cylinder.BoundingCylinder.{BoundingCylinder}
 use Rattle.sweep_boxes.specs.Cylinders.{IsInCylinder}
-use Rattle.job_model.specs.Points.{may_meet}
+use Rattle.job_model.specs.Points.{is_possible}
 use Rattle.job_model.specs.Tasks.{JobMove, PlanOf}
 use Rattle.strip_plan.specs.Plans.{HasNumber}
 
@@ -18,7 +18,7 @@ IsFrom lo hi l = (lo ≤ l) × (l < hi)
 pub record IsPossibleAt (plan : PlanOf) (move : JobMove) (ray : Ray) (l : ℕ) : Type 0 where
   pub on_grid : IsRay plan.grid ray
   pub index : l < points_of plan.grid ray.family
-  pub possible : may_meet plan move record { ray = ray; l = l; position = point_of plan.grid ray l } ≡ true
+  pub possible : is_possible plan move record { ray = ray; l = l; position = point_of plan.grid ray l } ≡ true
 
 -- each index of the ray at which the move is possible is one of these
 abbrev pub HoldsPossible : PlanOf → JobMove → Ray → ℕ → ℕ → Type 0

@@ -13,7 +13,7 @@ fn last_point(grid: &Grid, family: Family) -> [i32; 3]
     ensures value { result ≡ point_of grid.now (record { family = family; i = 0; j = 0 }) (points_of grid.now family - 1) }
     ensures near { IsPoint result }
 {
-    // A grid is valid by its type, which is known where a field of it is seen.
+    // Reading a field of the grid gives the prover its invariant.
     let _valid = &grid.origin;
     let points = grid.points(family);
     grid.point(&Ray { family, i: 0, j: 0 }, points - 1)

@@ -68,7 +68,7 @@ fn hull_from(boxes: &[IndexBox], start: usize) -> IndexBox
     hull
 }
 
-/// Pushes the boxes of a move by their indices, where they are several. Tells the least box that holds them.
+/// Pushes the boxes of a move by their indices, where they are several. Returns the least box that holds them.
 fn push_several(
     boxes: &mut Vec<IndexBox>,
     grid: &Grid,
@@ -86,7 +86,7 @@ fn push_several(
     Ok(hull)
 }
 
-/// The boxes of no moves, with room for those of so many. Fails only for want of memory.
+/// The boxes of no moves, with room for those of `many` moves. Fails only when out of memory.
 fn no_boxes(alloc: Global, many: usize) -> Result<Boxes, NoMemory>
     ensures hulls { IfOk result (λ made. made.hulls.items ≡ []) }
     ensures boxes { IfOk result (λ made. made.boxes.items ≡ []) }
@@ -102,7 +102,7 @@ fn no_boxes(alloc: Global, many: usize) -> Result<Boxes, NoMemory>
     })
 }
 
-/// The boxes of moves. Fails only for want of memory.
+/// The boxes of moves. Fails only when out of memory.
 pub(crate) fn boxes_of(
     alloc: Global,
     grid: &Grid,

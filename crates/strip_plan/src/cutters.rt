@@ -9,16 +9,17 @@ use std::alloc::Global;
 use std::collections::BTreeMap;
 use vf_io::NoMemory;
 
-/// A cutter by its four numbers, so that cutters have an order.
+/// A cutter by its five numbers, so that cutters have an order.
 #[derive(Clone, Copy, PartialEq, Eq, PartialOrd, Ord)]
 struct Key {
     d: i32,
     r: i32,
     h: i32,
     flank: u32,
+    base: i32,
 }
 
-/// The stacks of moves, each of `slabs`: one for each distinct cutter, and for each move the place where those of its cutter stand.
+/// The stacks of moves, each of `slabs`: one for each distinct cutter, and for each move the place of those of its cutter.
 #[derive(Drop)]
 pub(crate) struct Cutters {
     pub(crate) slabs: u32,
@@ -32,6 +33,7 @@ fn key_of(cutter: Cutter) -> Key {
         r: cutter.r,
         h: cutter.h,
         flank: cutter.flank,
+        base: cutter.base,
     }
 }
 
@@ -46,8 +48,8 @@ fn stand_at(stacks: &[Stacks], place: usize, cutter: Cutter, slabs: u32) -> bool
     stacks[place].cutter() == cutter
 }
 
-/// The place where the stacks of a cutter stand, if they are there. The map tells where to look; that they are the cutter's own is
-/// looked at, so nothing rests on the map.
+/// The place of the stacks of a cutter, if they are there. The map says where to look; that they are the cutter's own is
+/// tested, so nothing rests on the map.
 fn known_place(
     places: &BTreeMap<Key, usize>,
     stacks: &[Stacks],
@@ -65,7 +67,7 @@ fn known_place(
     }
 }
 
-/// The place where the stacks of a cutter stand. They are made where there are none.
+/// The place of the stacks of a cutter. They are made where there are none.
 fn place_of(
     alloc: Global,
     places: &mut BTreeMap<Key, usize>,
@@ -89,8 +91,8 @@ fn place_of(
     Ok(place)
 }
 
-/// The stacks of moves, with `slabs` for each cutter; the moves are valid by their types, each seen here. Fails only for want of
-/// memory.
+/// The stacks of moves, with `slabs` for each cutter. Reading a field of each move gives the prover its invariant. Fails only when out
+/// of memory.
 pub(crate) fn cutters_of(alloc: Global, moves: &[PlanMove], slabs: u32) -> Result<Cutters, NoMemory>
     requires some { 1 ≤ slabs }
     requires few { slabs ≤ 256 }

@@ -10,7 +10,7 @@ use std::alloc::Global;
 use sweep_boxes::{BoundingCylinder, cylinder_of};
 use vf_io::NoMemory;
 
-/// For each move the cylinder that holds the points of the lattice at which it is possible. Fails only for want of memory.
+/// For each move the cylinder that holds the points of the lattice at which it is possible. Fails only when out of memory.
 pub(crate) fn cylinders_of(
     alloc: Global,
     grid: &Grid,

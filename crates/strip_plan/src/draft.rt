@@ -2,13 +2,13 @@ ghost use Rattle.std.specs.Prelude.{◌≡◌, ◌<◌, ◌≤◌, All, Some, If
 ghost use Rattle.edit_plan.specs.Edits.{AppliesBelow};
 ghost use Rattle.edit_plan.specs.Limits.{most_edits, most_script_moves};
 ghost use Rattle.job_model.specs.Tasks.{IsPlan, JobMove};
-ghost use Rattle.strip_plan.specs.Parts.{IsReckonedOf};
+ghost use Rattle.strip_plan.specs.Parts.{IsPreparedOf};
 ghost use Rattle.strip_plan.specs.Plans.{HasNumber, move_in};
 ghost use Rattle.wanted_marks.specs.Ready.{IsReadyMove};
 
 use crate::cutters::{Cutters, cutters_of};
 use crate::plan_move::PlanMove;
-use crate::reckoned::{Reckoned, entered_of, readied_of, reckoned_by};
+use crate::prepared::{Prepared, move_tables_of, prepared_by, strip_windows_of};
 use edit_plan::{Edit, Edits};
 use ray_grid::Grid;
 use std::alloc::Global;
@@ -17,8 +17,8 @@ use std::thread::Threads;
 use vf_io::NoMemory;
 use wanted_marks::{MoveMarker, ReadyMove};
 
-/// What a plan is made of, with the stacks of the moves' cutters. It is seen as the plan that it becomes: so strips can be made by it while
-/// the plan is still reckoned.
+/// What a plan is made of, with the stacks of the moves' cutters. Its value is the plan that it becomes: so strips can be made by it
+/// while the plan is still computed.
 #[derive(Drop)]
 pub struct PlanDraft {
     pub(crate) grid: Grid,
@@ -46,7 +46,7 @@ impl Model for PlanDraft {
 }
 
 impl PlanDraft {
-    /// What a plan is made of: moves, for cutters in `slabs` and times in 2^`depth` cells. Fails only for want of memory.
+    /// What a plan is made of: moves, for cutters in `slabs` and times in 2^`depth` cells. Fails only when out of memory.
     pub fn new(
         alloc: Global,
         grid: Grid,
@@ -74,12 +74,12 @@ impl PlanDraft {
         })
     }
 
-    /// What is reckoned of the moves and the edits, once for all strips. Fails only for want of memory.
-    pub(crate) fn reckon(&self, alloc: Global) -> Result<Reckoned, NoMemory>
-        ensures { IfOk result (IsReckonedOf self.now) }
+    /// What is computed of the moves and the edits, once for all strips. Fails only when out of memory.
+    pub(crate) fn prepare(&self, alloc: Global) -> Result<Prepared, NoMemory>
+        ensures { IfOk result (IsPreparedOf self.now) }
     {
         let edits = self.edits.as_slice();
-        let entered = entered_of(
+        let windows = strip_windows_of(
             alloc,
             &self.grid,
             self.depth,
@@ -87,23 +87,23 @@ impl PlanDraft {
             &self.cutters,
             edits,
         )?;
-        let readied = readied_of(alloc, &self.grid, self.depth, &self.moves, &self.cutters)?;
-        Ok(Reckoned { entered, readied })
+        let tables = move_tables_of(alloc, &self.grid, self.depth, &self.moves, &self.cutters)?;
+        Ok(Prepared { windows, tables })
     }
 
-    /// The same by so many workers: so many threads have a part of it each, but at most four.
-    pub fn reckon_by<R: Threads + Sync>(
+    /// The same by `workers` workers: each thread has a part of it, and there are at most four threads.
+    pub fn prepare_by<R: Threads + Sync>(
         &self,
         rt: &R,
         alloc: Global,
         workers: u32,
-    ) -> Result<Reckoned, NoMemory>
-        ensures { IfOk result (IsReckonedOf self.now) }
+    ) -> Result<Prepared, NoMemory>
+        ensures { IfOk result (IsPreparedOf self.now) }
     {
         if workers < 2 {
-            return self.reckon(alloc);
+            return self.prepare(alloc);
         }
-        let (entered, readied) = reckoned_by(
+        let (windows, tables) = prepared_by(
             rt,
             alloc,
             &self.grid,
@@ -113,7 +113,7 @@ impl PlanDraft {
             self.edits.as_slice(),
             workers,
         )?;
-        Ok(Reckoned { entered, readied })
+        Ok(Prepared { windows, tables })
     }
 
     /// The lattice.
@@ -175,7 +175,7 @@ impl PlanDraft {
         self.moves[number as usize].line
     }
 
-    /// What marks the points of rays by a move, by what was reckoned of that move.
+    /// What marks the points of rays by a move, by what was computed of that move.
     pub(crate) fn marker<'a>(&'a self, number: u32, ready: &'a ReadyMove) -> MoveMarker<'a>
         requires number { number < length self.now.moves }
         requires ready { (move : JobMove) → HasNumber self.now number move → IsReadyMove ready.now (move_in self.now move) }

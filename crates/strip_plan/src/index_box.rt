@@ -100,7 +100,7 @@ impl IndexBox {
 
     /// A range that the box has of a strip, that of a family's rays with the first node `i`: the numbers of the rays with a point in it, or
     /// the indices of the points that it has on them.
-    // Written into each of its calls, so that it isn't asked which.
+    // Inlined into each of its calls, so that `which` isn't tested.
     #[inline(always)]
     pub fn in_strip(&self, family: Family, i: u32, which: StripRange) -> (u32, u32)
         ensures range { (grid : GridSize) → IsBoxOf grid self.now → IsRangeOf (count_of grid family which) result }

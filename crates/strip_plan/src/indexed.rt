@@ -26,7 +26,7 @@ fn per_node(grid: &Grid) -> u32
     grid.pitch.unsigned_abs() / grid.step.unsigned_abs()
 }
 
-/// The nodes among points of a ray, which has so many for each node.
+/// The nodes among points of a ray, which has `per_node` points for each node.
 fn nodes_among(points: (u32, u32), per_node: u32) -> (u32, u32)
     requires { 1 ≤ per_node }
     ensures range { (count : ℕ) → IsRangeOf (count * per_node) points → IsRangeOf count result }
@@ -57,12 +57,12 @@ fn on_first_ray(grid: &Grid, family: Family, held: &PointBox) -> PointBox
     }
 }
 
-/// What a box has on the axis of a family. All its rays have their points at the same places, so those of the first one tell; and
+/// What a box has on the axis of a family. All its rays have their points at the same places, so those of the first one decide; and
 /// the nodes are among them.
 fn on_axis(grid: &Grid, family: Family, held: &PointBox) -> AxisRanges
     ensures { AreOnAxis grid.now held.now family result }
 {
-    // A grid is valid by its type, which is known where a field of it is seen.
+    // Reading a field of the grid gives the prover its invariant.
     let _valid = &grid.origin;
     let line = on_first_ray(grid, family, held);
     let points = grid.window(&Ray { family, i: 0, j: 0 }, line.low, line.high, 0);

@@ -3,16 +3,16 @@ ghost use Rattle.edit_plan.specs.Edits.{AppliesBelow};
 ghost use Rattle.edit_plan.specs.Limits.{most_edits, most_script_moves};
 ghost use Rattle.ray_grid.specs.Strips.{strip_at, strips_of};
 ghost use Rattle.job_model.specs.Tasks.{IsPlan, JobMove};
-ghost use Rattle.strip_plan.specs.Parts.{IsReckonedOf};
-ghost use Rattle.strip_plan.specs.Passing.{ArePassed};
+ghost use Rattle.strip_plan.specs.Parts.{IsPreparedOf};
 ghost use Rattle.strip_plan.specs.Plans.{HasNumber, move_in};
+ghost use Rattle.strip_plan.specs.Untouched.{ArePassed};
 ghost use Rattle.strip_plan.specs.Windows.{HoldsEntered, HoldsMet, IsAlongStrip};
 
 use crate::draft::PlanDraft;
-use crate::passing::count_alone;
 use crate::plan_move::PlanMove;
-use crate::reckoned::{Entered, Readied, Reckoned};
+use crate::prepared::{MoveTables, Prepared, StripWindows};
 use crate::strip_range::StripRange;
+use crate::untouched::count_untouched;
 use crate::windows::{range_in_strip, row};
 use edit_plan::{Edit, Edits};
 use ray_grid::{Family, Grid, Ray};
@@ -22,28 +22,28 @@ use sweep_boxes::BoundingCylinder;
 use vf_io::NoMemory;
 use wanted_marks::MoveMarker;
 
-/// A plan, ready for strips. It is seen as what it was made of.
+/// A plan, ready for strips. Its value is what it was made of.
 #[derive(Drop)]
 pub struct Plan {
     draft: PlanDraft,
-    entered: Entered,
-    readied: Readied,
+    windows: StripWindows,
+    tables: MoveTables,
 }
 
 impl Model for Plan {
     ghost use Rattle.job_model.specs.Tasks.{PlanOf};
-    ghost use Rattle.strip_plan.specs.Parts.{IsEnteredBy, IsReadiedFor};
+    ghost use Rattle.strip_plan.specs.Parts.{AreTablesFor, AreWindowsOf};
 
     ghost Value = { PlanOf };
 
     ghost view = { λ p. p.draft };
 
-    ghost invariant = { λ p. IsEnteredBy p.draft.grid p.draft.slabs p.draft.depth p.draft.moves p.draft.edits p.entered
-        × IsReadiedFor p.draft.grid p.draft.slabs p.draft.depth p.draft.moves p.readied };
+    ghost invariant = { λ p. AreWindowsOf p.draft.grid p.draft.slabs p.draft.depth p.draft.moves p.draft.edits p.windows
+        × AreTablesFor p.draft.grid p.draft.slabs p.draft.depth p.draft.moves p.tables };
 }
 
 impl Plan {
-    /// The plan of moves, for cutters in `slabs` and times in 2^`depth` cells. Fails only for want of memory.
+    /// The plan of moves, for cutters in `slabs` and times in 2^`depth` cells. Fails only when out of memory.
     pub fn new(
         alloc: Global,
         grid: Grid,
@@ -61,20 +61,20 @@ impl Plan {
         ensures { IfOk result (λ plan. plan ≡ record { grid = grid; slabs = slabs; depth = depth; moves = moves.items; edits = edits }) }
     {
         let draft = PlanDraft::new(alloc, grid, slabs, depth, moves, edits)?;
-        let reckoned = draft.reckon(alloc)?;
-        Ok(Plan::of_draft(draft, reckoned))
+        let prepared = draft.prepare(alloc)?;
+        Ok(Plan::of_draft(draft, prepared))
     }
 
-    /// The plan that a draft becomes, by what was reckoned of that draft.
-    pub fn of_draft(draft: PlanDraft, reckoned: Reckoned) -> Plan
-        requires { IsReckonedOf draft reckoned }
+    /// The plan that a draft becomes, by what was computed of that draft.
+    pub fn of_draft(draft: PlanDraft, prepared: Prepared) -> Plan
+        requires { IsPreparedOf draft prepared }
         ensures { result ≡ draft }
     {
-        let Reckoned { entered, readied } = reckoned;
+        let Prepared { windows, tables } = prepared;
         Plan {
             draft,
-            entered,
-            readied,
+            windows,
+            tables,
         }
     }
 
@@ -143,7 +143,7 @@ impl Plan {
         ensures valid { IsPlan self.now }
     {
         self.draft
-            .marker(number, self.readied.ready(number as usize))
+            .marker(number, self.tables.ready(number as usize))
     }
 
     /// From the one index to the other lie, on every ray of a strip, that of a family's rays with the first node `i`, all at which a move
@@ -152,13 +152,13 @@ impl Plan {
         requires { number < length self.now.moves }
         ensures { IsAlongStrip self.now number family i result }
     {
-        let start = self.entered.boxes.starts[number as usize];
-        let end = self.entered.boxes.starts[number as usize + 1];
+        let start = self.windows.boxes.starts[number as usize];
+        let end = self.windows.boxes.starts[number as usize + 1];
         if start == end {
-            return self.entered.boxes.hulls[number as usize].along(family);
+            return self.windows.boxes.hulls[number as usize].along(family);
         }
         range_in_strip(
-            &self.entered.boxes.boxes,
+            &self.windows.boxes.boxes,
             start,
             end,
             family,
@@ -172,10 +172,10 @@ impl Plan {
         requires { number < length self.now.moves }
         ensures { (move : JobMove) → HasNumber self.now number move → HoldsMet self.now move result.now }
     {
-        &self.readied.cylinders[number as usize]
+        &self.tables.cylinders[number as usize]
     }
 
-    /// From the one number of a strip's rays to the other stand all with a point at which a move is possible. The second is
+    /// From the one number of a strip's rays to the other are all with a point at which a move is possible. The second is
     /// excluded; the two are equal where the move's boxes leave the strip alone.
     pub fn strip_window(&self, number: u32, strip: u32) -> (u32, u32)
         requires number { number < length self.now.moves }
@@ -185,7 +185,7 @@ impl Plan {
         ensures holds { (move : JobMove) → HasNumber self.now number move → HoldsEntered self.now move strip result.0 result.1 }
     {
         let (family, i) = row(self.draft.grid(), strip);
-        let window = self.entered.boxes.hulls[number as usize].in_strip(
+        let window = self.windows.boxes.hulls[number as usize].in_strip(
             family,
             i,
             StripRange::Rays,
@@ -193,13 +193,13 @@ impl Plan {
         if window.0 == window.1 {
             return window;
         }
-        let start = self.entered.boxes.starts[number as usize];
-        let end = self.entered.boxes.starts[number as usize + 1];
+        let start = self.windows.boxes.starts[number as usize];
+        let end = self.windows.boxes.starts[number as usize + 1];
         if start == end {
             return window;
         }
         range_in_strip(
-            &self.entered.boxes.boxes,
+            &self.windows.boxes.boxes,
             start,
             end,
             family,
@@ -209,7 +209,7 @@ impl Plan {
     }
 
     /// How many of the edits from a version on, one after the other and at most `most`, apply a move whose boxes leave a strip alone.
-    pub fn left_alone(&self, version: u32, most: u32, strip: u32) -> u32
+    pub fn untouched_edits(&self, version: u32, most: u32, strip: u32) -> u32
         requires edits { version + most ≤ length self.now.edits }
         requires strip { strip < length (strips_of self.now.grid) }
         ensures most { result ≤ most }
@@ -219,9 +219,9 @@ impl Plan {
         let from = version as usize;
         let to = from + most as usize;
         let edits = self.draft.edit_list();
-        count_alone(
-            &self.entered.boxes.hulls,
-            &self.entered.groups,
+        count_untouched(
+            &self.windows.boxes.hulls,
+            &self.windows.groups,
             edits,
             from,
             to,

@@ -17,20 +17,21 @@ impl Model for PlanMove {
 
     ghost Value = { JobMove };
 
-    ghost view = { λ m. record { motion = m.sweep; cutter = m.cutter; rapid = m.rapid; line = m.line } };
+    ghost view = { λ m. record { sweep = m.sweep; cutter = m.cutter; rapid = m.rapid; line = m.line } };
 
-    ghost invariant = { λ m. IsJobMove record { motion = m.sweep; cutter = m.cutter; rapid = m.rapid; line = m.line } };
+    ghost invariant = { λ m. IsJobMove record { sweep = m.sweep; cutter = m.cutter; rapid = m.rapid; line = m.line } };
 
-    ghost inverse = { λ m. record { sweep = m.motion; cutter = m.cutter; rapid = m.rapid; line = m.line } };
+    ghost inverse = { λ m. record { sweep = m.sweep; cutter = m.cutter; rapid = m.rapid; line = m.line } };
 }
 
 impl PlanMove {
     ghost use Rattle.std.specs.Prelude.{◌≡◌};
 
+    /// The move of a sweep and a cutter; `line` is counted from 1.
     pub fn new(sweep: Sweep, cutter: Cutter, rapid: bool, line: u32) -> PlanMove
-        ensures { result ≡ record { motion = sweep; cutter = cutter; rapid = rapid; line = line } }
+        ensures { result ≡ record { sweep = sweep; cutter = cutter; rapid = rapid; line = line } }
     {
-        // A sweep and a cutter are valid by their types, which is known where a field of theirs is seen.
+        // Reading a field of the sweep and of the cutter gives the prover their invariants.
         let _sweep = &sweep.from;
         let _cutter = &cutter.d;
         PlanMove {

@@ -9,8 +9,8 @@ use std::alloc::Global;
 use vf_io::NoMemory;
 use wanted_marks::ReadyMove;
 
-/// What is reckoned of each move from one number to another for its marks, once for all strips that it enters. The second is excluded.
-/// Fails only for want of memory.
+/// What is computed of each move from one number to another for its marks, once for all strips that it enters. The second is excluded.
+/// Fails only when out of memory.
 pub(crate) fn ready_moves_of(
     alloc: Global,
     grid: &Grid,

@@ -16,15 +16,15 @@ pub fn row(grid: &Grid, strip: u32) -> (Family, u32)
     requires { strip < length (strips_of grid.now) }
     ensures { strip_at grid.now strip ≡ strip_of grid.now result.0 result.1 }
 {
-    // A grid is valid by its type, which is known where a field of it is seen; so the strip has a ray.
+    // Reading a field of the grid gives the prover its invariant; so the strip has a ray.
     let _valid = &grid.origin;
     let first = grid.strip_ray(strip, 0);
     (first.family, first.i)
 }
 
-/// The range of a strip, that of a family's rays with the first node `i`, that has what the boxes from a place on and ahead of another have
+/// The range of a strip, that of a family's rays with the first node `i`, that has what the boxes from a place on and before another have
 /// of it.
-// Written into each of its calls, so that a box is asked neither for the family nor for which of its ranges is meant.
+// Inlined into each of its calls, so that a box is tested neither for the family nor for which of its ranges is meant.
 #[inline(always)]
 fn range_of(
     boxes: &[IndexBox],

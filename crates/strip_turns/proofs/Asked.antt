@@ -1,22 +1,23 @@
--- What a question tells, by the one strip that it raised or by all strips.
+-- What a question returns, by the one strip that it raised or by all strips.
 use Rattle.std.proofs.Common.{◌≡◌, ℕ, [], ◌∷◌, length, max, ap, subst, sym}
 use Rattle.ray_grid.specs.declared.ray.Ray.{Ray}
 use Rattle.ray_grid.specs.Strips.{strip_number, strips_of}
 use Rattle.edit_plan.specs.declared.query.Ask.{Ask}
 use Rattle.edit_plan.specs.declared.query.Ask.TheVariants.{Probe, Count}
-use Rattle.job_facts.specs.declared.totals.Answer.TheVariants as answers
-use Rattle.job_facts.specs.declared.totals.PointState.{PointState}
-use Rattle.job_facts.specs.declared.totals.Totals.{Totals}
-use Rattle.job_model.specs.Points.{left_moves, point_in, state_after, totals_after}
+use Rattle.job_counts.specs.declared.totals.Answer.TheVariants as answers
+use Rattle.job_counts.specs.declared.totals.PointState.{PointState}
+use Rattle.job_counts.specs.declared.totals.Totals.{Totals}
+use Rattle.ray_grid.specs.Points.{point_in}
+use Rattle.job_model.specs.Points.{left_moves, state_after, totals_after}
 use Rattle.job_model.specs.Tasks.{Job, PlanOf}
 use Rattle.turn_core.specs.World.{AreStrips}
 use Rattle.strip_turns.specs.declared.view.View.{View}
-use Rattle.strip_turns.specs.declared.view.Card.{Card}
-use Rattle.strip_turns.specs.declared.view.Entry.TheVariants.{Trip}
+use Rattle.strip_turns.specs.declared.view.BoardStart.{BoardStart}
+use Rattle.strip_turns.specs.declared.view.LogEntry.TheVariants.{Trip}
 use Rattle.strip_turns.specs.Asks.{AllRaised, Asked, Raised}
 use Rattle.strip_turns.proofs.Asking.{one_raised}
 
-module _ (c : Card) (plan : PlanOf) (version : ℕ) (ask : Ask) (v w : View) (same : c.plan ≡ plan) where
+module _ (c : BoardStart) (plan : PlanOf) (version : ℕ) (ask : Ask) (v w : View) (same : c.plan ≡ plan) where
   -- of one point
   pub probe_told : (ray : Ray) (l : ℕ) (state : PointState) → ask ≡ Probe ray l → Raised c (strip_number plan.grid ray.family ray.i) version v w
       → ((job : Job) → AreStrips job c.strips → state ≡ state_after job (left_moves job.plan version) (point_in job.plan.grid ray l))

@@ -15,19 +15,19 @@ use Rattle.job_model.specs.Tasks.{Job, PlanOf}
 use Rattle.strip_journal.specs.Strips.{StripOf}
 use Rattle.turn_core.specs.World.{AreOfPlan, AreStrips}
 use Rattle.strip_turns.specs.declared.view.View.{View}
-use Rattle.strip_turns.specs.declared.view.Card.{Card}
+use Rattle.strip_turns.specs.declared.view.BoardStart.{BoardStart}
 use Rattle.strip_turns.specs.Log.{tally, drew, did, strayed}
-use Rattle.strip_turns.specs.Cards.{start, last}
-use Rattle.strip_turns.specs.Sound.{held_in, IsSound, word_of}
+use Rattle.strip_turns.specs.Cards.{start_version, last}
+use Rattle.strip_turns.specs.Sound.{held_in, IsSound, strip_word}
 use Rattle.strip_turns.specs.Plays.{IsAlone}
-use Rattle.strip_turns.specs.Closed.{IsGiven, IsHomeWord, AllHome, AllThere, AllOut, InOrder}
+use Rattle.strip_turns.specs.Closed.{IsReturnedStrip, IsHomeWord, AllHome, AllThere, AllOut, AreBoardStrips}
 use Rattle.strip_turns.proofs.Totals.{total_at}
 use Rattle.strip_turns.proofs.Taking.{there}
 use Rattle.strip_turns.proofs.Logs.{seen_within}
 use Rattle.strip_turns.proofs.Rosters.{some_is, some_none, named, alone}
 use Rattle.strip_turns.proofs.Cases.{plan_of, number_of, job_of}
 
-all_home_at : (card : Card) (id : ℕ) (v : View) (c : Card) (words : List ℕ) (slots : List (Option StripOf)) → v.card ≡ Some c
+all_home_at : (card : BoardStart) (id : ℕ) (v : View) (c : BoardStart) (words : List ℕ) (slots : List (Option StripOf)) → v.card ≡ Some c
     → v.held ≡ None → IsAlone v → Final (Seen (IsSound card) id v) words slots → AllHome card v words slots
 all_home_at card id v c words slots has idle is f =
     let s = f.0 in
@@ -44,9 +44,9 @@ all_home_at card id v c words slots has idle is f =
             record {
               of_case = p.1.of_case;
               seen =
-                  (let a = total_at (λ u. tally (strayed k (start card k) p.0.done) u.log) s.views id v at in
+                  (let a = total_at (λ u. tally (strayed k (start_version card k) p.0.done) u.log) s.views id v at in
                   let b = p.1.logged.strayed in
-                  seen_within k (start card k) (start card k) p.0.done v.log (omega arith) p.1.logged.started);
+                  seen_within k (start_version card k) (start_version card k) p.0.done v.log (omega arith) p.1.logged.started);
               did = λ x. sym (only (λ u. tally (did k x) u.log) refl) ∙ p.1.logged.did x;
             },
             subst (λ (l : List ℕ). IsHomeWord l k p.0) f.2 p.1.word,
@@ -59,33 +59,33 @@ all_home_at card id v c words slots has idle is f =
       drawn = (get_or s.words 0 0, λ x. sym (only (λ u. tally (drew x) u.log) refl) ∙ h.drawn.once x);
     }
 
-pub all_home : (card : Card) (id : ℕ) (v : View) (c : Card) (words : List ℕ) (slots : List (Option StripOf)) → v.card ≡ Some c
+pub all_home : (card : BoardStart) (id : ℕ) (v : View) (c : BoardStart) (words : List ℕ) (slots : List (Option StripOf)) → v.card ≡ Some c
     → v.held ≡ None → IsAlone v → Final (Seen (IsSound card) id v) words slots → AllHome c v words slots
 all_home card id v c words slots has idle is f =
     let e : card ≡ c = some_is card c (sym (named card f.0.views id v c f.1.0.roster f.1.1 has) ∙ has) in
     subst (λ z. AllHome z v words slots) e (all_home_at card id v c words slots has idle is f)
 
-pub all_there : (c : Card) (v : View) (words : List ℕ) (slots : List (Option StripOf)) → last c ≤ most_edits → AllHome c v words slots
+pub all_there : (c : BoardStart) (v : View) (words : List ℕ) (slots : List (Option StripOf)) → last c ≤ most_edits → AllHome c v words slots
     → AllThere words slots
 all_there c v words slots few h = record {
   each = λ k lt. let e = h.each k lt in (e.0, e.1, e.3, (let within = e.2.of_case.within in omega arith));
 }
 
 -- the strips that were taken out are given in order
-pub in_order : (c : Card) (v : View) (words : List ℕ) (slots : List (Option StripOf)) (strips : List StripOf) (n : ℕ)
-    → AllHome c v words slots → length slots ≡ n → AllOut slots strips n → InOrder c v strips
+pub in_order : (c : BoardStart) (v : View) (words : List ℕ) (slots : List (Option StripOf)) (strips : List StripOf) (n : ℕ)
+    → AllHome c v words slots → length slots ≡ n → AllOut slots strips n → AreBoardStrips c v strips
 in_order c v words slots strips n h len out = record {
   many = out.many ∙ sym len ∙ h.many;
   each = λ k s at.
       let within = slice_get_within strips k s at in
       let many = out.many in
       let e = h.each k (omega arith) in
-      subst (IsGiven c v k) (some_is e.0 s (some-injective (Some e.0) (Some s) (sym e.1 ∙ out.each k s at))) e.2;
+      subst (IsReturnedStrip c v k) (some_is e.0 s (some-injective (Some e.0) (Some s) (sym e.1 ∙ out.each k s at))) e.2;
 }
 
 -- they are the plan's
-pub given_plan : (c : Card) (plan : PlanOf) (v : View) (strips : List StripOf) → AreOfPlan c.plan c.strips → c.plan ≡ plan
-    → InOrder c v strips → AreOfPlan plan strips
+pub given_plan : (c : BoardStart) (plan : PlanOf) (v : View) (strips : List StripOf) → AreOfPlan c.plan c.strips → c.plan ≡ plan
+    → AreBoardStrips c v strips → AreOfPlan plan strips
 given_plan c plan v strips h is given =
     subst (λ (p : PlanOf). AreOfPlan p strips) is (record {
       many = given.many ∙ h.many;
@@ -94,8 +94,8 @@ given_plan c plan v strips h is given =
     })
 
 -- and the job's
-pub given_job : (c : Card) (job : Job) (v : View) (strips : List StripOf) → AreOfPlan c.plan c.strips → AreStrips job c.strips
-    → InOrder c v strips → AreStrips job strips
+pub given_job : (c : BoardStart) (job : Job) (v : View) (strips : List StripOf) → AreOfPlan c.plan c.strips → AreStrips job c.strips
+    → AreBoardStrips c v strips → AreStrips job strips
 given_job c job v strips h all given = record {
   many = given.many ∙ all.many;
   each = λ k s at.
@@ -106,14 +106,14 @@ given_job c job v strips h all given = record {
       record { job_is = job_of c job k s.done s all case; number_is = number_of c k s.done s h case; within = omega arith };
 }
 
--- the strip that stands at a place, and its word
+-- the strip that is at a place, and its word
 pub there_is : (words : List ℕ) (slots : List (Option StripOf)) (k : ℕ) (x : Option StripOf) → AllThere words slots → k < length slots
     → get_elem? slots k ≡ some x → (s : StripOf) × (x ≡ Some s) × IsHomeWord words k s × (s.done ≤ most_edits)
 there_is words slots k x h lt at = let e = h.each k lt in (e.0, some-injective x (Some e.0) (sym at ∙ e.1), e.2, e.3)
 
 -- what is read of its word is its version
 pub word_is : (words : List ℕ) (slots : List (Option StripOf)) (k i found : ℕ) (x : Option StripOf) (s : StripOf) → AllThere words slots
-    → k < length slots → get_elem? slots k ≡ some x → x ≡ Some s → i ≡ word_of k → i < length words → get_elem? words i ≡ some found
+    → k < length slots → get_elem? slots k ≡ some x → x ≡ Some s → i ≡ strip_word k → i < length words → get_elem? words i ≡ some found
     → (found ≡ (s.done + 1) * 2 ^ 40) × (s.done ≤ most_edits)
 word_is words slots k i found x s h lt at is place low read =
     let t = there_is words slots k x h lt at in

@@ -10,9 +10,9 @@ use Rattle.atomic_table.specs.Table.{State, Splits, Joins}
 use Rattle.atomic_table.proofs.Lists.{at_set, at_snoc}
 use Rattle.strip_journal.specs.Strips.{StripOf}
 use Rattle.strip_turns.specs.declared.view.View.{View}
-use Rattle.strip_turns.specs.declared.view.Card.{Card}
+use Rattle.strip_turns.specs.declared.view.BoardStart.{BoardStart}
 use Rattle.strip_turns.specs.Log.{tally, drew, missed, missed_at, did, strayed, met_at}
-use Rattle.strip_turns.specs.Cards.{start}
+use Rattle.strip_turns.specs.Cards.{start_version}
 use Rattle.strip_turns.specs.Views.{without, fresh, spent, with_split, with_pass}
 use Rattle.strip_turns.specs.Sound.{total, beside, times, held_in, taken_at, IsFew, IsLogged, Place, IsSound}
 use Rattle.strip_turns.proofs.Totals.{total_set, total_at, total_more}
@@ -40,7 +40,7 @@ times_without m n (x ∷ xs) lt = dite (ℕ_discrete x m)
     subst (λ b. times n (cond b xs (x ∷ without m xs)) + cond {A = ℕ} (eqb m n) 1 0 ≡ cond {A = ℕ} (eqb x n) 1 0 + times n xs) (sym (ne_eqb x m ne))
     (let z : cond {A = ℕ} (eqb x m) 1 0 ≡ 0 = ap (λ (c : Bool). cond {A = ℕ} c 1 0) (ne_eqb x m ne) in let r = times_without m n xs (omega arith) in omega arith))
 
-module _ (card : Card) (id : ℕ) (v : View) (c : Card) (has : v.card ≡ Some c) (first : v.first ≡ true) where
+module _ (card : BoardStart) (id : ℕ) (v : View) (c : BoardStart) (has : v.card ≡ Some c) (first : v.first ≡ true) where
   -- a sum after the split
   split_total : (f : View → ℕ) (views : List View) → get_elem? views id ≡ some v → f (with_split v) ≡ f v → (n : ℕ) → f (fresh false (v.splits + 1) v.card) ≡ n → total f (set views id (with_split v) ++ fresh false (v.splits + 1) v.card ∷ []) ≡ total f views + n
   split_total f views at same n e = let m = total_more f (set views id (with_split v)) (fresh false (v.splits + 1) v.card) in let t = total_set f views id v (with_split v) at in omega arith
@@ -50,7 +50,7 @@ module _ (card : Card) (id : ℕ) (v : View) (c : Card) (has : v.card ≡ Some c
     started = h.started;
     within = h.within;
     did = λ x. (let e = split_total (λ u. tally (did k x) u.log) views there refl 0 refl in let b = h.did x in omega arith);
-    strayed = (let e = split_total (λ u. tally (strayed k (start card k) at) u.log) views there refl 0 refl in let b = h.strayed in omega arith);
+    strayed = (let e = split_total (λ u. tally (strayed k (start_version card k) at) u.log) views there refl 0 refl in let b = h.strayed in omega arith);
     held = (let e = split_total (λ u. held_in k u.held) views there refl 0 refl in let b = h.held in omega arith);
     at = (let e = split_total (λ u. taken_at k u.held) views there refl 0 refl in let b = h.at in omega arith);
     misses = (let e = split_total (λ u. tally (missed_at k) u.log) views there refl 0 refl in let g = split_total (λ u. met_at k u.met) views there refl 0 refl in let b = h.misses in omega arith);
@@ -112,7 +112,7 @@ module _ (card : Card) (id : ℕ) (v : View) (c : Card) (has : v.card ≡ Some c
         places = λ k lt'. split_place s k at (h.places k lt');
       }
 
-  module _ (other : ℕ) (w : View) (live : (d : Card) × (w.card ≡ Some d)) where
+  module _ (other : ℕ) (w : View) (live : (d : BoardStart) × (w.card ≡ Some d)) where
     -- a sum after the merge
     join_total : (f : View → ℕ) (views : List View) → get_elem? views id ≡ some v → get_elem? (set views id (with_pass v w)) other ≡ some w
         → total f (set (set views id (with_pass v w)) other spent) + f v + f w ≡ total f views + f (with_pass v w) + f spent
@@ -124,7 +124,7 @@ module _ (card : Card) (id : ℕ) (v : View) (c : Card) (has : v.card ≡ Some c
       started = h.started;
       within = h.within;
       did = λ x. (let e = join_total (λ u. tally (did k x) u.log) views there there' in let a = tally_both (did k x) v.log w.log in let b = h.did x in omega arith);
-      strayed = (let e = join_total (λ u. tally (strayed k (start card k) at) u.log) views there there' in let a = tally_both (strayed k (start card k) at) v.log w.log in let b = h.strayed in omega arith);
+      strayed = (let e = join_total (λ u. tally (strayed k (start_version card k) at) u.log) views there there' in let a = tally_both (strayed k (start_version card k) at) v.log w.log in let b = h.strayed in omega arith);
       held = (let e = join_total (λ u. held_in k u.held) views there there' in let a : held_in k w.held ≡ 0 = ap (held_in k) idle in let b = h.held in omega arith);
       at = (let e = join_total (λ u. taken_at k u.held) views there there' in let a : taken_at k w.held ≡ 0 = ap (taken_at k) idle in let b = h.at in omega arith);
       misses =

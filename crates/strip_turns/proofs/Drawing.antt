@@ -8,12 +8,12 @@ use native.Mathlib.Nat.{mod-eq_of_lt}
 use Rattle.atomic_table.specs.Table.{Me, keeps, Allows}
 use Rattle.strip_journal.specs.Strips.{StripOf}
 use Rattle.strip_turns.specs.declared.view.View.{View}
-use Rattle.strip_turns.specs.declared.view.Card.{Card}
-use Rattle.strip_turns.specs.declared.view.Entry.TheVariants.{Draw}
+use Rattle.strip_turns.specs.declared.view.BoardStart.{BoardStart}
+use Rattle.strip_turns.specs.declared.view.LogEntry.TheVariants.{Draw}
 use Rattle.strip_turns.specs.Log.{tally, drew, missed, missed_at, did, strayed}
-use Rattle.strip_turns.specs.Cards.{start}
+use Rattle.strip_turns.specs.Cards.{start_version}
 use Rattle.strip_turns.specs.Views.{with_draw}
-use Rattle.strip_turns.specs.Sound.{total, once_below, IsFew, IsDrawn, IsSound, word_of}
+use Rattle.strip_turns.specs.Sound.{total, once_below, IsFew, IsDrawn, IsSound, strip_word}
 use Rattle.strip_turns.specs.Plays.{Drawn}
 use Rattle.strip_turns.proofs.Totals.{total_set, total_at}
 use Rattle.strip_turns.proofs.Logs.{tally_more}
@@ -37,17 +37,17 @@ pub missed_few : (views : List View) → ((seat : ℕ) (v : View) → get_elem? 
 missed_few [] h = omega arith
 missed_few (x ∷ xs) h = let p = (h 0 x refl).missed in let q = missed_few xs (few_rest x xs h) in omega arith
 
-agrees_draw : (card : Card) (k t : ℕ) (v : View) → Agrees card k v (with_draw t v)
+agrees_draw : (card : BoardStart) (k t : ℕ) (v : View) → Agrees card k v (with_draw t v)
 agrees_draw card k t v = record {
   did = λ x. let e = tally_more (did k x) v.log (Draw t) in omega arith;
-  strayed = λ b. let e = tally_more (strayed k (start card k) b) v.log (Draw t) in omega arith;
+  strayed = λ b. let e = tally_more (strayed k (start_version card k) b) v.log (Draw t) in omega arith;
   missed = (let e = tally_more (missed_at k) v.log (Draw t) in omega arith);
   met = refl;
   held = refl;
   taken = refl;
 }
 
-pub draws : (card : Card) (slots id : ℕ) (me : Me (Option StripOf) View) (c : Card) → me.0.card ≡ Some c → me.0.drawn < 2 ^ 32
+pub draws : (card : BoardStart) (slots id : ℕ) (me : Me (Option StripOf) View) (c : BoardStart) → me.0.card ≡ Some c → me.0.drawn < 2 ^ 32
     → Allows (IsSound card) slots id me 0 (λ n. (n + 1) % 18446744073709551616) (Drawn me)
 draws card slots id me c has few s h len at lt =
     let v = me.0 in
@@ -74,7 +74,7 @@ draws card slots id me c has few s h len at lt =
           bounded = (let t = total_set (λ u. u.drawn) s.views id v w at in omega arith);
         });
         missed = (let t = total_set (λ u. tally missed u.log) s.views id v w at in let r = total_set (λ u. u.missed) s.views id v w at in let m = tally_more missed v.log (Draw n) in let b = h.missed in omega arith);
-        places = λ k lk. place_set card s _ s.homes k id v w refl (get_or-set_other s.words 0 (word_of k) _ 0 (λ e. omega arith)) at (agrees_draw card k n v) (h.places k lk);
+        places = λ k lk. place_set card s _ s.homes k id v w refl (get_or-set_other s.words 0 (strip_word k) _ 0 (λ e. omega arith)) at (agrees_draw card k n v) (h.places k lk);
       },
       record {
         me = refl;

@@ -7,10 +7,10 @@ use mathlib.Core.Logic.{dite}
 use native.Mathlib.Decide.{ℕ_discrete}
 use lib.ListN.{get_or}
 use Rattle.strip_journal.specs.Strips.{StripOf}
-use Rattle.strip_turns.specs.Sound.{word_of}
+use Rattle.strip_turns.specs.Sound.{strip_word}
 use Rattle.strip_turns.specs.Starts.{AreHome, AreWithin}
 
-pub none_home : (strips : List StripOf) (words : List ℕ) (n : ℕ) → words ≡ replicate n 0 → n ≡ word_of (length strips)
+pub none_home : (strips : List StripOf) (words : List ℕ) (n : ℕ) → words ≡ replicate n 0 → n ≡ strip_word (length strips)
     → AreHome strips 0 words
 none_home strips words n e is = record {
   many = ap length e ∙ length-replicate n (let none : ℕ = 0 in none) ∙ is;
@@ -22,7 +22,7 @@ pub none_within : (edits : ℕ) (strips : List StripOf) → AreWithin edits stri
 none_within edits strips = record { each = λ k s lt at. absurd (omega arith) }
 
 pub home_more : (strips : List StripOf) (n : ℕ) (words : List ℕ) (s : StripOf) (i new : ℕ) → AreHome strips n words
-    → n < length strips → slice_get strips n ≡ Some s → i ≡ word_of n → new ≡ (s.done + 1) * 2 ^ 40 → AreHome strips (n + 1) (set words i new)
+    → n < length strips → slice_get strips n ≡ Some s → i ≡ strip_word n → new ≡ (s.done + 1) * 2 ^ 40 → AreHome strips (n + 1) (set words i new)
 home_more strips n words s i new h lt at is value =
     let many = h.many in
     let here : get_or (set words i new) i 0 ≡ new = get_or-set_same words i new 0 (omega arith) in record {
@@ -31,8 +31,8 @@ home_more strips n words s i new h lt at is value =
       each = λ k t below there. dite (ℕ_discrete k n)
           (λ same.
           let strip : s ≡ t = same_Some s t (sym at ∙ ap (slice_get strips) (sym same) ∙ there) in
-          ap (λ w. get_or (set words i new) w 0) (ap word_of same ∙ sym is) ∙ here ∙ value ∙ ap (λ (x : StripOf). (x.done + 1) * 2 ^ 40) strip)
-          (λ ne. get_or-set_other words i (word_of k) new 0 (λ e. ne (omega arith)) ∙ h.each k t (omega arith) there);
+          ap (λ w. get_or (set words i new) w 0) (ap strip_word same ∙ sym is) ∙ here ∙ value ∙ ap (λ (x : StripOf). (x.done + 1) * 2 ^ 40) strip)
+          (λ ne. get_or-set_other words i (strip_word k) new 0 (λ e. ne (omega arith)) ∙ h.each k t (omega arith) there);
     }
 
 pub within_more : (edits : ℕ) (strips : List StripOf) (n : ℕ) (s : StripOf) → AreWithin edits strips n → slice_get strips n ≡ Some s

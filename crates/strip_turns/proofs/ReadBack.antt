@@ -1,24 +1,24 @@
--- What is read of a strip of the case is what is so of the strip of its number.
+-- What is read of a strip of the case is what is true of the strip of its number.
 use Rattle.std.proofs.Common.{◌≡◌, ℕ, ◌<◌, List, length, slice_get, Some, ap, ap₂, sym, ◌∙◌, subst}
 use Rattle.std.proofs.lemmas.Option.{slice_get_within, same_Some}
 use Rattle.ray_grid.specs.Grids.{GridSize}
 use Rattle.ray_grid.specs.declared.ray.Ray.{Ray}
 use Rattle.ray_grid.specs.Lattice.{points_of}
-use Rattle.ray_grid.specs.Points.{LatticePoint}
+use Rattle.ray_grid.specs.Points.{LatticePoint, point_in}
 use Rattle.ray_grid.specs.Strips.{strip_at}
-use Rattle.job_facts.specs.declared.totals.PointState.{PointState}
-use Rattle.job_facts.specs.declared.totals.Totals.{Totals}
-use Rattle.job_facts.specs.Totals.{TotalsWithin}
-use Rattle.job_model.specs.Points.{left_moves, point_in, state_after, strip_points, totals_over}
+use Rattle.job_counts.specs.declared.totals.PointState.{PointState}
+use Rattle.job_counts.specs.declared.totals.Totals.{Totals}
+use Rattle.job_counts.specs.Totals.{TotalsWithin}
+use Rattle.job_model.specs.Points.{left_moves, state_after, strip_points, totals_over}
 use Rattle.job_model.specs.Tasks.{Job, PlanOf}
 use Rattle.strip_journal.specs.Strips.{StripOf}
 use Rattle.turn_core.specs.World.{AreOfPlan, AreStrips}
 use Rattle.turn_core.proofs.Parts.{totals_within}
-use Rattle.strip_turns.specs.declared.view.Card.{Card}
+use Rattle.strip_turns.specs.declared.view.BoardStart.{BoardStart}
 use Rattle.strip_turns.specs.Cards.{IsCase}
 use Rattle.strip_turns.proofs.Cases.{plan_of, number_of, job_of}
 
-module _ (c : Card) (k v : ℕ) (s : StripOf) (whole : AreOfPlan c.plan c.strips) (case : IsCase c k v s) where
+module _ (c : BoardStart) (k v : ℕ) (s : StripOf) (whole : AreOfPlan c.plan c.strips) (case : IsCase c k v s) where
   grid_of : s.job.plan.grid ≡ c.plan.grid
   grid_of = ap (λ (p : PlanOf). p.grid) (plan_of c k v s whole case)
 
@@ -40,7 +40,7 @@ module _ (c : Card) (k v : ℕ) (s : StripOf) (whole : AreOfPlan c.plan c.strips
       subst (λ (g : GridSize). l < points_of g other.family) (sym grid_of)
       (subst (λ (r : Ray). l < points_of c.plan.grid r.family) same lt)
 
-  -- the state that it tells of a point
+  -- the state that it returns of a point
   pub state_read : (job : Job) (version l : ℕ) (ray : Ray) (x : PointState) → AreStrips job c.strips
       → x ≡ state_after s.job (left_moves s.job.plan version) (point_in s.job.plan.grid ray l)
       → x ≡ state_after job (left_moves job.plan version) (point_in job.plan.grid ray l)

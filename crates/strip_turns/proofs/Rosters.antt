@@ -5,7 +5,7 @@ use mathlib.Core.Option.{some}
 use lib.ListN.{get_elem?}
 use Rattle.atomic_table.proofs.Lists.{at_set}
 use Rattle.strip_turns.specs.declared.view.View.{View}
-use Rattle.strip_turns.specs.declared.view.Card.{Card}
+use Rattle.strip_turns.specs.declared.view.BoardStart.{BoardStart}
 use Rattle.strip_turns.specs.Sound.{total, beside, times, IsFew, IsRoster}
 use Rattle.strip_turns.specs.Views.{spent}
 use Rattle.strip_turns.proofs.Totals.{total_set, total_at, total_alone}
@@ -31,10 +31,10 @@ pub record SameRank (v w : View) : Type 0 where
   pub out : w.out ≡ v.out
 
 -- a pass that names a card names this one
-pub named : (card : Card) (views : List View) (seat : ℕ) (v : View) (c : Card) → IsRoster card views → get_elem? views seat ≡ some v → v.card ≡ Some c → v.card ≡ Some card
+pub named : (card : BoardStart) (views : List View) (seat : ℕ) (v : View) (c : BoardStart) → IsRoster card views → get_elem? views seat ≡ some v → v.card ≡ Some c → v.card ≡ Some card
 named card views seat v c h at has = ⊎_elim (λ e. e) (λ e. absurd (some_none c (ap (λ (z : View). z.card) (sym e) ∙ has))) (h.cards seat v at)
 
-pub roster_set : (card : Card) (views : List View) (seat : ℕ) (v w : View) → IsRoster card views → get_elem? views seat ≡ some v → v.card ≡ Some card → SameRank v w → IsFew w → IsRoster card (set views seat w)
+pub roster_set : (card : BoardStart) (views : List View) (seat : ℕ) (v w : View) → IsRoster card views → get_elem? views seat ≡ some v → v.card ≡ Some card → SameRank v w → IsFew w → IsRoster card (set views seat w)
 roster_set card views seat v w h at has same few =
     let len : length (set views seat w) ≡ length views = length-set views seat w in
     let sums : (n : ℕ) → total (λ u. beside n u.card u.first u.number) (set views seat w) ≡ total (λ u. beside n u.card u.first u.number) views =
@@ -69,7 +69,7 @@ roster_set card views seat v w h at has same few =
     }
 
 -- where the first pass has no other out, what merged passes have nothing of is its own
-pub alone : (card : Card) (views : List View) (seat : ℕ) (v : View) → IsRoster card views → get_elem? views seat ≡ some v → v.first ≡ true → v.out ≡ [] → (f : View → ℕ) → f spent ≡ 0 → total f views ≡ f v
+pub alone : (card : BoardStart) (views : List View) (seat : ℕ) (v : View) → IsRoster card views → get_elem? views seat ≡ some v → v.first ≡ true → v.out ≡ [] → (f : View → ℕ) → f spent ≡ 0 → total f views ≡ f v
 alone card views seat v h at first out f gone =
     let mine = h.first seat v at first in
     let front = mine.front in

@@ -7,9 +7,9 @@ use Rattle.atomic_table.specs.Table.{opening}
 use Rattle.atomic_table.proofs.Lists.{at_map}
 use Rattle.strip_journal.specs.Strips.{StripOf}
 use Rattle.strip_turns.specs.declared.view.View.{View}
-use Rattle.strip_turns.specs.declared.view.Card.{Card}
-use Rattle.strip_turns.specs.Log.{between}
-use Rattle.strip_turns.specs.Cards.{done_of, start, last}
+use Rattle.strip_turns.specs.declared.view.BoardStart.{BoardStart}
+use Rattle.strip_turns.specs.Log.{once_between}
+use Rattle.strip_turns.specs.Cards.{done_of, start_version, last}
 use Rattle.strip_turns.specs.Views.{fresh}
 use Rattle.strip_turns.specs.Starts.{AreHome, AreWithin}
 use Rattle.strip_turns.specs.Sound.{times, once_below, IsDrawn, IsFew, Place, IsSound}
@@ -29,18 +29,18 @@ map_len : {A B : Type 0} (f : A → B) (xs : List A) → length (map f xs) ≡ l
 map_len f [] = refl
 map_len f (x ∷ xs) = let e = map_len f xs in omega arith
 
-none_between : (a b x : ℕ) → a ≡ b → 0 ≡ between a b x
+none_between : (a b x : ℕ) → a ≡ b → 0 ≡ once_between a b x
 none_between a b x e = grind (arith, nat_tests)
 
 none_below : (x : ℕ) → 0 ≡ once_below 0 x
 none_below x = grind (arith, nat_tests)
 
-place_at : (card : Card) (words : List ℕ) (k : ℕ) → AreHome card.strips (length card.strips) words
+place_at : (card : BoardStart) (words : List ℕ) (k : ℕ) → AreHome card.strips (length card.strips) words
     → AreWithin (last card) card.strips (length card.strips) → k < length card.strips
     → Place card (opening words (map Some card.strips) (fresh true 0 (Some card))) k
 place_at card words k h few lt =
     let s = strip_there card.strips k lt in
-    let e : start card k ≡ s.0.done = ap done_of s.1 in
+    let e : start_version card k ≡ s.0.done = ap done_of s.1 in
     let within = few.each k s.0 lt s.1 in
     inl (
       s.0,
@@ -51,7 +51,7 @@ place_at card words k h few lt =
         logged = record {
           started = omega arith;
           within = within;
-          did = λ x. none_between (start card k) s.0.done x e;
+          did = λ x. none_between (start_version card k) s.0.done x e;
           strayed = refl;
           held = refl;
           at = refl;
@@ -60,7 +60,7 @@ place_at card words k h few lt =
       },
     )
 
-sound_at : (card : Card) (words : List ℕ) → AreHome card.strips (length card.strips) words
+sound_at : (card : BoardStart) (words : List ℕ) → AreHome card.strips (length card.strips) words
     → AreWithin (last card) card.strips (length card.strips)
     → IsSound card (opening words (map Some card.strips) (fresh true 0 (Some card)))
 sound_at card words h few =
@@ -93,7 +93,7 @@ sound_at card words h few =
       places = λ k lt. place_at card words k h few (omega arith);
     }
 
-pub starts : (card : Card) (words : List ℕ) (slots : List (Option StripOf)) → AreHome card.strips (length card.strips) words
+pub starts : (card : BoardStart) (words : List ℕ) (slots : List (Option StripOf)) → AreHome card.strips (length card.strips) words
     → AreWithin (last card) card.strips (length card.strips) → slots ≡ map Some card.strips
     → IsSound card (opening words slots (fresh true 0 (Some card)))
 starts card words slots h few s =

@@ -12,13 +12,13 @@ use Rattle.atomic_table.proofs.Lists.{set_here, set_else, set_again}
 use Rattle.edit_plan.specs.Limits.{most_edits}
 use Rattle.strip_journal.specs.Strips.{StripOf}
 use Rattle.strip_turns.specs.declared.view.View.{View}
-use Rattle.strip_turns.specs.declared.view.Card.{Card}
-use Rattle.strip_turns.specs.declared.view.Held.{Held}
-use Rattle.strip_turns.specs.declared.view.Entry.TheVariants.{Miss}
+use Rattle.strip_turns.specs.declared.view.BoardStart.{BoardStart}
+use Rattle.strip_turns.specs.declared.view.HeldStrip.{HeldStrip}
+use Rattle.strip_turns.specs.declared.view.LogEntry.TheVariants.{Miss}
 use Rattle.strip_turns.specs.Log.{tally, drew, missed, missed_at, did, strayed, met_at}
-use Rattle.strip_turns.specs.Cards.{start, last}
+use Rattle.strip_turns.specs.Cards.{start_version, last}
 use Rattle.strip_turns.specs.Views.{with_miss, with_strip}
-use Rattle.strip_turns.specs.Sound.{held_in, taken_at, IsHome, IsOut, Place, IsSound, word_of}
+use Rattle.strip_turns.specs.Sound.{held_in, taken_at, IsHome, IsStripOut, Place, IsSound, strip_word}
 use Rattle.strip_turns.specs.Plays.{Took, Missed, TakesOrMisses, TakesOrNot}
 use Rattle.strip_turns.proofs.Totals.{total_set, total_at, total_le}
 use Rattle.strip_turns.proofs.Logs.{tally_more, missed_le, seen_within, miss_here, miss_else}
@@ -58,12 +58,12 @@ taken_not : (b : Bool) (at : ℕ) → cond {A = ℕ} b 1 0 ≡ 0 → cond {A = �
 taken_not true at e = absurd (omega arith)
 taken_not false at e = refl
 
-pub taken_none : (k : ℕ) (h : Option Held) → held_in k h ≡ 0 → taken_at k h ≡ 0
+pub taken_none : (k : ℕ) (h : Option HeldStrip) → held_in k h ≡ 0 → taken_at k h ≡ 0
 taken_none k None e = refl
 taken_none k (Some h) e = taken_not (eqb h.strip k) h.at e
 
--- what is told of the rule's card and strip is told of those that are named
-told_as : (P : Card → ℕ → Type 0) (card : Card) (k : ℕ) (v : View) → v.card ≡ Some card → P card k → (c : Card) (j : ℕ) → v.card ≡ Some c → word_of k ≡ word_of j → P c j
+-- what is said of the rule's card and strip is said of those that are named
+told_as : (P : BoardStart → ℕ → Type 0) (card : BoardStart) (k : ℕ) (v : View) → v.card ≡ Some card → P card k → (c : BoardStart) (j : ℕ) → v.card ≡ Some c → strip_word k ≡ strip_word j → P c j
 told_as P card k v has p c j named same = let e : k ≡ j = omega arith in subst (P c) e (subst (λ z. P z k) (some_is card c (sym has ∙ named)) p)
 
 pub there : (l : List ℕ) (i : ℕ) → i < length l → get_elem? l i ≡ some (get_or l i 0)
@@ -71,18 +71,18 @@ there [] i lt = absurd (omega arith)
 there (x ∷ xs) zero lt = refl
 there (x ∷ xs) (suc i) lt = there xs i (omega arith)
 
-module _ (card : Card) (slots id k : ℕ) (me : Me (Option StripOf) View) (c : Card) (has : me.0.card ≡ Some c) (idle : me.0.held ≡ None)
+module _ (card : BoardStart) (slots id k : ℕ) (me : Me (Option StripOf) View) (c : BoardStart) (has : me.0.card ≡ Some c) (idle : me.0.held ≡ None)
     (few_edits : last card ≤ most_edits) where
   abbrev After : State (Option StripOf) View → ℕ → (ℕ → Me (Option StripOf) View → Type 0) → Type 0
-  After s new then = (w : View) × (a : Act (Option StripOf)) × Valid s.homes me.1 a × IsSound card (stepped s (word_of k) new id me.1 w a) × then (get_or s.words (word_of k) 0) (w, carried_after me.1 a)
+  After s new then = (w : View) × (a : Act (Option StripOf)) × Valid s.homes me.1 a × IsSound card (stepped s (strip_word k) new id me.1 w a) × then (get_or s.words (strip_word k) 0) (w, carried_after me.1 a)
 
-  took : (s : State (Option StripOf) View) → IsSound card s → k < length s.homes → get_elem? s.views id ≡ some me.0 → (j : StripOf) → IsHome card s k j → (new : ℕ) → new ≡ get_or s.words (word_of k) 0 + 1
-      → IsSound card (stepped s (word_of k) new id me.1 (with_strip k j.done me.0) (takes k (Some j)))
+  took : (s : State (Option StripOf) View) → IsSound card s → k < length s.homes → get_elem? s.views id ≡ some me.0 → (j : StripOf) → IsHome card s k j → (new : ℕ) → new ≡ get_or s.words (strip_word k) 0 + 1
+      → IsSound card (stepped s (strip_word k) new id me.1 (with_strip k j.done me.0) (takes k (Some j)))
   took s h lt at j home new is =
       let v = me.0 in
       let w = with_strip k j.done v in
       let l = home.logged in
-      let ws = set s.words (word_of k) new in
+      let ws = set s.words (strip_word k) new in
       let hs = set s.homes k none in
       let t : State (Option StripOf) View = record { words = ws; homes = hs; views = set s.views id w } in
       sound_set card s k new hs id v w h (length-set s.homes k none) at (named card s.views id v c h.roster at has) (record { card = refl; first = refl; number = refl; splits = refl; out = refl }) (let few = h.roster.few id v at in record { drawn = few.drawn; missed = few.missed })
@@ -93,12 +93,12 @@ module _ (card : Card) (slots id k : ℕ) (me : Me (Option StripOf) View) (c : C
         0,
         record {
           gone = set_here s.homes k none lt;
-          word = get_or-set_same s.words (word_of k) new 0 (let q = h.words in omega arith) ∙ is ∙ (let q = home.word in omega arith);
+          word = get_or-set_same s.words (strip_word k) new 0 (let q = h.words in omega arith) ∙ is ∙ (let q = home.word in omega arith);
           logged = record {
             started = l.started;
             within = l.within;
             did = λ x. let q = total_set (λ u. tally (did k x) u.log) s.views id v w at in let d = l.did x in omega arith;
-            strayed = (let q = total_set (λ u. tally (strayed k (start card k) j.done) u.log) s.views id v w at in let d = l.strayed in omega arith);
+            strayed = (let q = total_set (λ u. tally (strayed k (start_version card k) j.done) u.log) s.views id v w at in let d = l.strayed in omega arith);
             held = (let q = total_set (λ u. held_in k u.held) s.views id v w at in let d = l.held in let a : held_in k v.held ≡ 0 = ap (held_in k) idle in let b = held_here k j.done in omega arith);
             at = (let q = total_set (λ u. taken_at k u.held) s.views id v w at in let d = l.at in let a : taken_at k v.held ≡ 0 = ap (taken_at k) idle in let b = taken_here k j.done in omega arith);
             misses = (let q = total_set (λ u. tally (missed_at k) u.log) s.views id v w at in let r = total_set (λ u. met_at k u.met) s.views id v w at in let d = l.misses in omega arith);
@@ -107,7 +107,7 @@ module _ (card : Card) (slots id k : ℕ) (me : Me (Option StripOf) View) (c : C
       )))
       (λ ne.
       let ne' : k ≢ i = λ e. ne (sym e) in
-      place_set card s ws hs i id v w (set_else s.homes k i none ne) (get_or-set_other s.words (word_of k) (word_of i) new 0 (λ e. ne (omega arith))) at
+      place_set card s ws hs i id v w (set_else s.homes k i none ne) (get_or-set_other s.words (strip_word k) (strip_word i) new 0 (λ e. ne (omega arith))) at
       (record {
         did = λ x. refl;
         strayed = λ b. refl;
@@ -118,21 +118,21 @@ module _ (card : Card) (slots id k : ℕ) (me : Me (Option StripOf) View) (c : C
       }) (h.places i li)))
 
   took_told : (s : State (Option StripOf) View) → IsSound card s → get_elem? s.views id ≡ some me.0 → (j : StripOf) → IsHome card s k j
-      → Took card k (get_or s.words (word_of k) 0) me (with_strip k j.done me.0, (k, Some j) ∷ me.1) j
+      → Took card k (get_or s.words (strip_word k) 0) me (with_strip k j.done me.0, (k, Some j) ∷ me.1) j
   took_told s h at j home = record {
     me = refl;
     of_case = home.of_case;
-    seen = seen_within k (start card k) (start card k) j.done me.0.log (let q = total_at (λ u. tally (strayed k (start card k) j.done) u.log) s.views id me.0 at in let d = home.logged.strayed in omega arith) home.logged.started;
+    seen = seen_within k (start_version card k) (start_version card k) j.done me.0.log (let q = total_at (λ u. tally (strayed k (start_version card k) j.done) u.log) s.views id me.0 at in let d = home.logged.strayed in omega arith) home.logged.started;
     word = home.word;
   }
 
-  missed_it : (s : State (Option StripOf) View) → IsSound card s → k < length s.homes → get_elem? s.views id ≡ some me.0 → me.0.missed < 2 ^ 32 → (v m : ℕ) → IsOut card s k v m → (new : ℕ) → new ≡ get_or s.words (word_of k) 0 + 1
-      → IsSound card (stepped s (word_of k) new id me.1 (with_miss k me.0) keeps)
+  missed_it : (s : State (Option StripOf) View) → IsSound card s → k < length s.homes → get_elem? s.views id ≡ some me.0 → me.0.missed < 2 ^ 32 → (v m : ℕ) → IsStripOut card s k v m → (new : ℕ) → new ≡ get_or s.words (strip_word k) 0 + 1
+      → IsSound card (stepped s (strip_word k) new id me.1 (with_miss k me.0) keeps)
   missed_it s h lt at few at_v m out new is =
       let v = me.0 in
       let w = with_miss k v in
       let l = out.logged in
-      let ws = set s.words (word_of k) new in
+      let ws = set s.words (strip_word k) new in
       let t : State (Option StripOf) View = record { words = ws; homes = s.homes; views = set s.views id w } in
       sound_set card s k new s.homes id v w h refl at (named card s.views id v c h.roster at has) (record { card = refl; first = refl; number = refl; splits = refl; out = refl })
       (record { drawn = (h.roster.few id v at).drawn; missed = omega arith })
@@ -143,12 +143,12 @@ module _ (card : Card) (slots id k : ℕ) (me : Me (Option StripOf) View) (c : C
         m + 1,
         record {
           gone = out.gone;
-          word = get_or-set_same s.words (word_of k) new 0 (let q = h.words in omega arith) ∙ is ∙ (let q = out.word in omega arith);
+          word = get_or-set_same s.words (strip_word k) new 0 (let q = h.words in omega arith) ∙ is ∙ (let q = out.word in omega arith);
           logged = record {
             started = l.started;
             within = l.within;
             did = λ x. let q = total_set (λ u. tally (did k x) u.log) s.views id v w at in let d = l.did x in let e = tally_more (did k x) v.log (Miss k) in omega arith;
-            strayed = (let q = total_set (λ u. tally (strayed k (start card k) at_v) u.log) s.views id v w at in let d = l.strayed in let e = tally_more (strayed k (start card k) at_v) v.log (Miss k) in omega arith);
+            strayed = (let q = total_set (λ u. tally (strayed k (start_version card k) at_v) u.log) s.views id v w at in let d = l.strayed in let e = tally_more (strayed k (start_version card k) at_v) v.log (Miss k) in omega arith);
             held = (let q = total_set (λ u. held_in k u.held) s.views id v w at in let d = l.held in omega arith);
             at = (let q = total_set (λ u. taken_at k u.held) s.views id v w at in let d = l.at in omega arith);
             misses =
@@ -162,17 +162,17 @@ module _ (card : Card) (slots id k : ℕ) (me : Me (Option StripOf) View) (c : C
       )))
       (λ ne.
       let ne' : k ≢ i = λ e. ne (sym e) in
-      place_set card s ws s.homes i id v w refl (get_or-set_other s.words (word_of k) (word_of i) new 0 (λ e. ne (omega arith))) at
+      place_set card s ws s.homes i id v w refl (get_or-set_other s.words (strip_word k) (strip_word i) new 0 (λ e. ne (omega arith))) at
       (record {
         did = λ x. (let e = tally_more (did i x) v.log (Miss k) in omega arith);
-        strayed = λ b. (let e = tally_more (strayed i (start card i) b) v.log (Miss k) in omega arith);
+        strayed = λ b. (let e = tally_more (strayed i (start_version card i) b) v.log (Miss k) in omega arith);
         missed = (let e = tally_more (missed_at i) v.log (Miss k) in let a = miss_else i k ne' in omega arith);
         met = refl;
         held = refl;
         taken = refl;
       }) (h.places i li)))
 
-  missed_told : (s : State (Option StripOf) View) → IsSound card s → get_elem? s.views id ≡ some me.0 → (v m : ℕ) → IsOut card s k v m → Missed k me (with_miss k me.0, me.1)
+  missed_told : (s : State (Option StripOf) View) → IsSound card s → get_elem? s.views id ≡ some me.0 → (v m : ℕ) → IsStripOut card s k v m → Missed k me (with_miss k me.0, me.1)
   missed_told s h at v m out = record {
     me = refl;
     beside = λ is.
@@ -182,7 +182,7 @@ module _ (card : Card) (slots id k : ℕ) (me : Me (Option StripOf) View) (c : C
   }
 
   -- the misses of a strip since it was taken are few
-  pub few_misses : (s : State (Option StripOf) View) → IsSound card s → (v m : ℕ) → IsOut card s k v m → m ≤ 65 * 2 ^ 32
+  pub few_misses : (s : State (Option StripOf) View) → IsSound card s → (v m : ℕ) → IsStripOut card s k v m → m ≤ 65 * 2 ^ 32
   few_misses s h v m out =
       let a = out.logged.misses in
       let b = total_le (λ u. tally (missed_at k) u.log) (λ u. tally missed u.log) s.views (λ u. missed_le k u.log) in
@@ -191,9 +191,9 @@ module _ (card : Card) (slots id k : ℕ) (me : Me (Option StripOf) View) (c : C
       let f = h.roster.passes in omega arith
 
   -- a fetch_add
-  pub takes_or_misses : k < slots → me.0.missed < 2 ^ 32 → Allows (IsSound card) slots id me (word_of k) (λ n. (n + 1) % 18446744073709551616) (TakesOrMisses (step slots (word_of k) 1 0 none) me)
+  pub takes_or_misses : k < slots → me.0.missed < 2 ^ 32 → Allows (IsSound card) slots id me (strip_word k) (λ n. (n + 1) % 18446744073709551616) (TakesOrMisses (step slots (strip_word k) 1 0 none) me)
   takes_or_misses lt few s h len at fits =
-      let n = get_or s.words (word_of k) 0 in
+      let n = get_or s.words (strip_word k) 0 in
       let lt' : k < length s.homes = omega arith in
       let mine = named card s.views id me.0 c h.roster at has in
       ⊎_elim
@@ -229,19 +229,19 @@ module _ (card : Card) (slots id k : ℕ) (me : Me (Option StripOf) View) (c : C
       ))
       (h.places k lt')
 
-  same_state : (s : State (Option StripOf) View) → IsSound card s → k < length s.homes → get_elem? s.views id ≡ some me.0 → IsSound card (stepped s (word_of k) (get_or s.words (word_of k) 0) id me.1 me.0 keeps)
+  same_state : (s : State (Option StripOf) View) → IsSound card s → k < length s.homes → get_elem? s.views id ≡ some me.0 → IsSound card (stepped s (strip_word k) (get_or s.words (strip_word k) 0) id me.1 me.0 keeps)
   same_state s h lt at =
-      let ws : set s.words (word_of k) (get_or s.words (word_of k) 0) ≡ s.words = set_again s.words (word_of k) _ (there s.words (word_of k) (let q = h.words in omega arith)) in
+      let ws : set s.words (strip_word k) (get_or s.words (strip_word k) 0) ≡ s.words = set_again s.words (strip_word k) _ (there s.words (strip_word k) (let q = h.words in omega arith)) in
       let vs : set s.views id me.0 ≡ s.views = set_again s.views id me.0 at in
       subst (λ x. IsSound card (record { words = x; homes = s.homes; views = set s.views id me.0 })) (sym ws) (subst (λ x. IsSound card (record { words = s.words; homes = s.homes; views = x })) (sym vs) h)
 
   -- a compare_exchange from the word of a strip that is home
-  pub takes_or_not : (old new : ℕ) → k < slots → old % 2 ^ 40 ≡ 0 → new ≡ old + 1 → Allows (IsSound card) slots id me (word_of k) (λ n. either (eqb n old) new n) (TakesOrNot (step slots (word_of k) old new none) me)
+  pub takes_or_not : (old new : ℕ) → k < slots → old % 2 ^ 40 ≡ 0 → new ≡ old + 1 → Allows (IsSound card) slots id me (strip_word k) (λ n. either (eqb n old) new n) (TakesOrNot (step slots (strip_word k) old new none) me)
   takes_or_not old new lt even is s h len at fits =
-      let n = get_or s.words (word_of k) 0 in
+      let n = get_or s.words (strip_word k) 0 in
       let lt' : k < length s.homes = omega arith in
       let mine = named card s.views id me.0 c h.roster at has in
-      let then = TakesOrNot (step slots (word_of k) old new none) me in
+      let then = TakesOrNot (step slots (strip_word k) old new none) me in
       dite (ℕ_discrete n old)
       (λ e.
       let test = eq-eqb n old e in
@@ -264,13 +264,13 @@ module _ (card : Card) (slots id k : ℕ) (me : Me (Option StripOf) View) (c : C
       (me.0, keeps, tt, same_state s h lt' at, told_as (λ c k. MatchBool (eqb n old) ((i : StripOf) × Took c k n me me i) (me ≡ me)) card k me.0 mine (by_false _ _ _ test refl)))
 
   -- the same for a word that is the strip's
-  pub takes_or_misses_at : (word : ℕ) → word ≡ word_of k → k < slots → me.0.missed < 2 ^ 32
+  pub takes_or_misses_at : (word : ℕ) → word ≡ strip_word k → k < slots → me.0.missed < 2 ^ 32
       → Allows (IsSound card) slots id me word (λ n. (n + 1) % 18446744073709551616) (TakesOrMisses (step slots word 1 0 none) me)
   takes_or_misses_at word is lt few =
       subst (λ w. Allows (IsSound card) slots id me w (λ n. (n + 1) % 18446744073709551616) (TakesOrMisses (step slots w 1 0 none) me))
       (sym is) (takes_or_misses lt few)
 
-  pub takes_or_not_at : (word old new : ℕ) → word ≡ word_of k → k < slots → old % 2 ^ 40 ≡ 0 → new ≡ old + 1
+  pub takes_or_not_at : (word old new : ℕ) → word ≡ strip_word k → k < slots → old % 2 ^ 40 ≡ 0 → new ≡ old + 1
       → Allows (IsSound card) slots id me word (λ n. either (eqb n old) new n) (TakesOrNot (step slots word old new none) me)
   takes_or_not_at word old new word_is lt even is =
       subst (λ w. Allows (IsSound card) slots id me w (λ n. either (eqb n old) new n) (TakesOrNot (step slots w old new none) me))

@@ -6,16 +6,16 @@ use Rattle.strip_journal.specs.Strips.{StripOf}
 use Rattle.strip_turns.specs.declared.view.View.{View}
 use Rattle.strip_turns.specs.declared.board.Board.{Board}
 use Rattle.strip_turns.specs.Views.{with_strip, with_trip}
-use Rattle.strip_turns.specs.Log.{seen}
-use Rattle.strip_turns.specs.Cards.{start, last}
+use Rattle.strip_turns.specs.Log.{logged_version}
+use Rattle.strip_turns.specs.Cards.{start_version, last}
 use Rattle.strip_turns.specs.Plays.{Missed}
-use Rattle.strip_turns.specs.Passes.{card, IsIdle, IsTaken, TookIn, HasStrip, Worked, IsIn, IsBack, Tripped}
+use Rattle.strip_turns.specs.Passes.{card, IsIdleSeat, IsTakenAt, TookIn, HasStrip, Worked, IsInSeat, IsBack, Tripped}
 use Rattle.strip_turns.proofs.Cases.{case_moved, plan_of}
 use Rattle.strip_turns.proofs.OutAndBack.{same_slot}
 
 -- a pass that missed the strip holds none
-pub missed_idle : (b : Board) (k : ℕ) (old new : Seat (Option StripOf) View) → IsIdle b old → new.table_id ≡ old.table_id
-    → Missed k old.me new.me → IsIdle b new
+pub missed_idle : (b : Board) (k : ℕ) (old new : Seat (Option StripOf) View) → IsIdleSeat b old → new.table_id ≡ old.table_id
+    → Missed k old.me new.me → IsIdleSeat b new
 missed_idle b k old new idle own missed = record {
   own = own ∙ idle.own;
   named = ap (λ m. m.0.card) missed.me ∙ idle.named;
@@ -23,7 +23,7 @@ missed_idle b k old new idle own missed = record {
   slots = ap (λ m. m.1) missed.me ∙ idle.slots;
 }
 
--- the strip in the slot is told twice
+-- the strip in the slot, given twice, is the same
 same_strip : (k : ℕ) (s t : StripOf) (zs : List (ℕ × Option StripOf)) → zs ≡ (k, Some s) ∷ [] → zs ≡ (k, Some t) ∷ [] → s ≡ t
 same_strip k s t zs p q = let e = same_slot k (Some s) (Some t) [] [] zs p q in cc
 
@@ -89,13 +89,13 @@ module _ (b : Board) (k from to : ℕ) (old mid new : Seat (Option StripOf) View
       )
 
   -- the strip that was taken is of the board's plan
-  pub lies_there : from ≡ taken.done → HasStrip mid.me k (IsTaken b.plan from)
+  pub lies_there : from ≡ taken.done → HasStrip mid.me k (IsTakenAt b.plan from)
   lies_there was = (taken, ap (λ m. m.1) took.me, (plan_of (card b) k taken.done taken b.whole took.of_case ∙ b.card, was))
 
-  module _ (idle : IsIdle b old) (own : new.table_id ≡ mid.table_id) (view : new.me.0 ≡ mid.me.0) (strip : StripOf)
+  module _ (idle : IsIdleSeat b old) (own : new.table_id ≡ mid.table_id) (view : new.me.0 ≡ mid.me.0) (strip : StripOf)
       (done : Advanced b k from to taken new strip) where
     -- so it may be given back
-    pub lies_further : IsIn b k from to new strip
+    pub lies_further : IsInSeat b k from to new strip
     lies_further = record {
       own = own ∙ took.own;
       named = ap (λ (v : View). v.card) view ∙ ap (λ m. m.0.card) took.me ∙ idle.named;
@@ -113,14 +113,14 @@ module _ (b : Board) (k from to : ℕ) (old mid new : Seat (Option StripOf) View
       met = back.met;
       view = ap (λ m. m.0) back.me ∙ ap (with_trip k from to back.met) (view ∙ ap (λ m. m.0) took.me)
           ∙ (λ i. record (with_trip k from to back.met old.me.0) { held = sym idle.held i });
-      newer = subst (λ (n : ℕ). seen k (start (card b) k) old.me.0.log ≤ n) (sym done.was) took.seen;
+      newer = subst (λ (n : ℕ). logged_version k (start_version (card b) k) old.me.0.log ≤ n) (sym done.was) took.seen;
       further = done.further;
       within = done.within;
       seen = back.seen;
     }
 
     -- and holds no strip
-    pub turn_idle : (seat : Seat (Option StripOf) View) → IsBack b k from to new seat → IsIdle b seat
+    pub turn_idle : (seat : Seat (Option StripOf) View) → IsBack b k from to new seat → IsIdleSeat b seat
     turn_idle seat back = record {
       own = back.own;
       named = ap (λ m. m.0.card) back.me ∙ ap (λ (v : View). v.card) view ∙ ap (λ m. m.0.card) took.me ∙ idle.named;
@@ -129,25 +129,25 @@ module _ (b : Board) (k from to : ℕ) (old mid new : Seat (Option StripOf) View
     }
 
     -- where it was worked on, and then given back
-    pub turn_ended : {X : Type 0} → X → (seat : Seat (Option StripOf) View) → IsBack b k from to new seat → (Tripped (card b) k from to old.me.0 seat.me.0 × X) × IsIdle b seat
+    pub turn_ended : {X : Type 0} → X → (seat : Seat (Option StripOf) View) → IsBack b k from to new seat → (Tripped (card b) k from to old.me.0 seat.me.0 × X) × IsIdleSeat b seat
     turn_ended how seat back = ((turn_tripped seat back, how), turn_idle seat back)
 
-module _ (b : Board) (k from to : ℕ) (old mid new : Seat (Option StripOf) View) (took : (taken : StripOf) × TookIn b k old mid taken) (idle : IsIdle b old)
+module _ (b : Board) (k from to : ℕ) (old mid new : Seat (Option StripOf) View) (took : (taken : StripOf) × TookIn b k old mid taken) (idle : IsIdleSeat b old)
     (own : new.table_id ≡ mid.table_id) (view : new.me.0 ≡ mid.me.0) where
   -- a turn that did all its edits
   module _ (worked : HasStrip mid.me k (λ before. HasStrip new.me k (λ after. Worked b.plan before after (Ok (from, to))))) where
-    pub lies_done : (strip : StripOf) × IsIn b k from to new strip
+    pub lies_done : (strip : StripOf) × IsInSeat b k from to new strip
     lies_done = let t = all_done b k from to old mid new took.0 took.1 worked in (t.0, lies_further b k from to old mid new took.0 took.1 idle own view t.0 t.1)
 
     pub ended_done : (seat : Seat (Option StripOf) View) → IsBack b k from to new seat
-        → (Tripped (card b) k from to old.me.0 seat.me.0 × (to ≡ min (from + 8) (last (card b)))) × IsIdle b seat
+        → (Tripped (card b) k from to old.me.0 seat.me.0 × (to ≡ min (from + 8) (last (card b)))) × IsIdleSeat b seat
     ended_done = let t = all_done b k from to old mid new took.0 took.1 worked in turn_ended b k from to old mid new took.0 took.1 idle own view t.0 t.1 t.2
 
   -- one that stopped short
   module _ (worked : HasStrip mid.me k (λ before. HasStrip new.me k (λ after. Worked b.plan before after (Err (from, to))))) where
-    pub lies_stopped : (strip : StripOf) × IsIn b k from to new strip
+    pub lies_stopped : (strip : StripOf) × IsInSeat b k from to new strip
     lies_stopped = let t = part_done b k from to old mid new took.0 took.1 worked in (t.0, lies_further b k from to old mid new took.0 took.1 idle own view t.0 t.1)
 
     pub ended_stopped : (seat : Seat (Option StripOf) View) → IsBack b k from to new seat
-        → (Tripped (card b) k from to old.me.0 seat.me.0 × (to < min (from + 8) (last (card b)))) × IsIdle b seat
+        → (Tripped (card b) k from to old.me.0 seat.me.0 × (to < min (from + 8) (last (card b)))) × IsIdleSeat b seat
     ended_stopped = let t = part_done b k from to old mid new took.0 took.1 worked in turn_ended b k from to old mid new took.0 took.1 idle own view t.0 t.1 t.2

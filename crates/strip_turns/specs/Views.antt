@@ -1,13 +1,13 @@
 -- What a pass knows, and how each kind of step changes it.
 use Rattle.std.specs.Prelude.{ℕ, ◌+◌, ◌^◌, ◌==◌, if◌then◌else◌, List, [], ◌∷◌, ◌++◌, Option, Some, None, Bool, false}
 use Rattle.strip_turns.specs.declared.view.View.{View}
-use Rattle.strip_turns.specs.declared.view.Card.{Card}
+use Rattle.strip_turns.specs.declared.view.BoardStart.{BoardStart}
 use Rattle.strip_turns.specs.declared.view.Met.{Met}
-use Rattle.strip_turns.specs.declared.view.Entry.{Entry}
-use Rattle.strip_turns.specs.declared.view.Entry.TheVariants.{Draw, Miss, Trip}
+use Rattle.strip_turns.specs.declared.view.LogEntry.{LogEntry}
+use Rattle.strip_turns.specs.declared.view.LogEntry.TheVariants.{Draw, Miss, Trip}
 
 -- a pass that did nothing yet
-abbrev pub fresh : Bool → ℕ → Option Card → View
+abbrev pub fresh : Bool → ℕ → Option BoardStart → View
 fresh first number card = record {
   card = card;
   first = first;
@@ -57,7 +57,7 @@ with_trip k from to m v = record v {
 abbrev pub with_split : View → View
 with_split v = record v { splits = v.splits + 1; out = (v.splits + 1) ∷ v.out }
 
--- the numbers but for n, where it stands first
+-- the numbers without n, where it comes first
 abbrev pub without : ℕ → List ℕ → List ℕ
 without n [] = []
 without n (x ∷ xs) = if x == n then xs else x ∷ without n xs
@@ -66,6 +66,6 @@ without n (x ∷ xs) = if x == n then xs else x ∷ without n xs
 abbrev pub with_pass : View → View → View
 with_pass v w = record v { out = without w.number v.out; met = v.met ++ w.met; log = v.log ++ w.log }
 
--- entries behind the log, and misses that were met
-abbrev pub with_log : List Entry → List Met → View → View
+-- entries after the log, and misses that were met
+abbrev pub with_log : List LogEntry → List Met → View → View
 with_log es ms v = record v { met = v.met ++ ms; log = v.log ++ es }

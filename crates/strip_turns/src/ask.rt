@@ -8,7 +8,7 @@ use crate::moves::look;
 use crate::raising::all_raised;
 use crate::reading::{counted, probed};
 use edit_plan::{Ask, Query};
-use job_facts::Answer;
+use job_counts::Answer;
 use std::sync::Wait;
 use vf_io::NoMemory;
 

@@ -4,8 +4,8 @@ ghost use Rattle.job_model.specs.Tasks.{Job};
 ghost use Rattle.turn_core.specs.World.{AreOfPlan, AreStrips};
 ghost use Rattle.strip_turns.specs.Plays.{IsAlone};
 ghost use Rattle.strip_turns.specs.Passes.{card, IsPass};
-ghost use Rattle.strip_turns.specs.Closed.{AllThere, AllOut, AllDrawn, InOrder};
-ghost use Rattle.strip_turns.specs.Sound.{word_of};
+ghost use Rattle.strip_turns.specs.Closed.{AllThere, AllOut, AllDrawn, AreBoardStrips};
+ghost use Rattle.strip_turns.specs.Sound.{strip_word};
 
 use crate::board::{Board, Pass};
 use crate::moves::{version_of, word_at};
@@ -18,11 +18,11 @@ use turn_core::AheadStrip;
 use vf_io::NoMemory;
 
 impl Board {
-    /// The strips, in order. After want of memory they are gone.
+    /// The strips, in order. When out of memory they are gone.
     pub fn close(self, alloc: Global, pass: Pass) -> Result<Vec<Strip>, NoMemory>
         requires pass { IsPass self pass }
         requires alone { IsAlone pass.seat.me.0 }
-        ensures strips { IfOk result (λ strips. InOrder (card self) pass.seat.me.0 strips.items) }
+        ensures strips { IfOk result (λ strips. AreBoardStrips (card self) pass.seat.me.0 strips.items) }
         ensures drawn { IfOk result (λ _. AllDrawn pass.seat.me.0) }
         // They are the plan's, and those of the job whose strips were put in.
         ensures plan { IfOk result (λ strips. AreOfPlan self.plan strips.items) }
@@ -71,7 +71,7 @@ impl TakenOut {
     }
 }
 
-/// Takes each strip out, so many.
+/// Takes each strip out, `count` of them.
 fn taken_out(
     mut closed: Closed<Option<AheadStrip>, Global>,
     count: u32,
@@ -79,7 +79,7 @@ fn taken_out(
 ) -> Vec<TakenOut>
     requires full { IsFull closed.slots × IsFull closed.words }
     requires count { count ≡ slots_len closed.slots }
-    requires words { slots_len closed.words ≡ word_of count }
+    requires words { slots_len closed.words ≡ strip_word count }
     requires there { AllThere (slots_items closed.words) (slots_items closed.slots) }
     requires room { (strips.items ≡ []) × (count ≤ vec_capacity strips) }
     ensures { AllOut (slots_items closed.slots) result.items count }

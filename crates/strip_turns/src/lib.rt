@@ -15,4 +15,4 @@ mod view;
 
 pub use board::{Board, Pass};
 pub use turn::Turned;
-pub use view::{Card, Entry, Held, Key, Met, View};
+pub use view::{BoardStart, HeldStrip, Key, LogEntry, Met, View};

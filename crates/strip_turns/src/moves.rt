@@ -4,8 +4,8 @@ ghost use Rattle.edit_plan.specs.Limits.{most_edits};
 ghost use Rattle.strip_journal.specs.Strips.{StripOf};
 ghost use Rattle.strip_turns.specs.Cards.{IsCase};
 ghost use Rattle.strip_turns.specs.Plays.{Missed, Looked};
-ghost use Rattle.strip_turns.specs.Sound.{word_of};
-ghost use Rattle.strip_turns.specs.Passes.{card, IsIdle, TookAt, TookOut, IsOut, IsIn, IsBack};
+ghost use Rattle.strip_turns.specs.Sound.{strip_word};
+ghost use Rattle.strip_turns.specs.Passes.{card, IsIdleSeat, TookAt, TookOut, IsOutWithSeat, IsInSeat, IsBack};
 
 use crate::board::Board;
 use crate::rule::{Adding, Giving, Looking, Trying};
@@ -18,13 +18,13 @@ use turn_core::AheadStrip;
 /// The unit of a version in a strip's word, below which misses are counted.
 const VERSION: u64 = 1 << 40;
 
-/// The words in use stand so many words apart: no two share a line of the processor's cache, nor a pair of lines, which some processors
+/// The words in use are 16 words apart: no two share a line of the processor's cache, nor a pair of lines, which some processors
 /// fetch together. So steps on different strips don't slow each other.
 pub(crate) const APART: usize = 16;
 
 /// The place of a strip's word. The first word is that of the tickets.
 pub(crate) fn word_at(strip: u32) -> usize
-    ensures { result ≡ word_of strip }
+    ensures { result ≡ strip_word strip }
 {
     (strip as usize + 1) * APART
 }
@@ -45,14 +45,14 @@ pub(crate) fn version_of(word: u64) -> u32
     (word / VERSION - 1) as u32
 }
 
-/// Takes the strip where it is home, and tells its version; else counts a miss. A strip that was taken lies in its slot, which the seat
+/// Takes the strip where it is home, and returns its version; else counts a miss. A strip that was taken lies in its slot, which the seat
 /// holds.
 pub(crate) fn hold(
     board: &Board,
     seat: &mut Seat<Option<AheadStrip>, View>,
     strip: u32,
 ) -> Option<u32>
-    requires idle { IsIdle board.now seat.old }
+    requires idle { IsIdleSeat board.now seat.old }
     requires strip { strip < length (strips_of board.now.plan.grid) }
     requires few { seat.old.me.0.missed < 2 ^ 32 }
     ensures own { seat.new.table_id ≡ seat.old.table_id }
@@ -66,14 +66,14 @@ pub(crate) fn hold(
     Some(version_of(found))
 }
 
-/// Takes the strip, and waits until it is home. Tells its version too.
+/// Takes the strip, and waits until it is home. Returns its version too.
 pub(crate) fn wait_and_take<R: Wait>(
     rt: &R,
     board: &Board,
     seat: &mut Seat<Option<AheadStrip>, View>,
     strip: u32,
 ) -> (AheadStrip, u32)
-    requires idle { IsIdle board.now seat.old }
+    requires idle { IsIdleSeat board.now seat.old }
     requires strip { strip < length (strips_of board.now.plan.grid) }
     ensures out { TookOut board.now strip seat.old seat.new result.0 }
     ensures from { result.1 ≡ result.0.done }
@@ -87,13 +87,13 @@ pub(crate) fn wait_and_take<R: Wait>(
     unreachable!()
 }
 
-/// Takes the strip where it is home, and tells its version; else does nothing.
+/// Takes the strip where it is home, and returns its version; else does nothing.
 fn try_take(
     board: &Board,
     seat: &mut Seat<Option<AheadStrip>, View>,
     strip: u32,
 ) -> Option<(AheadStrip, u32)>
-    requires idle { IsIdle board.now seat.old }
+    requires idle { IsIdleSeat board.now seat.old }
     requires strip { strip < length (strips_of board.now.plan.grid) }
     ensures own { seat.new.table_id ≡ seat.old.table_id }
     ensures told { MatchOption result (seat.new.me ≡ seat.old.me)
@@ -124,7 +124,7 @@ pub(crate) fn put(
     to: u32,
     piece: AheadStrip,
 )
-    requires out { IsOut board.now strip from seat.old }
+    requires out { IsOutWithSeat board.now strip from seat.old }
     requires strip { strip < length (strips_of board.now.plan.grid) }
     requires of_case { IsCase (card board.now) strip piece.done piece }
     requires at { piece.done ≡ to }
@@ -147,7 +147,7 @@ pub(crate) fn give_back(
     to: u32,
 )
     requires strip { strip < length (strips_of board.now.plan.grid) }
-    requires held { (piece : StripOf) × IsIn board.now strip from to seat.old piece }
+    requires held { (piece : StripOf) × IsInSeat board.now strip from to seat.old piece }
     ensures { IsBack board.now strip from to seat.old seat.new }
 {
     let word = word_at(strip);
@@ -156,8 +156,8 @@ pub(crate) fn give_back(
 
 /// Learns what the pass may know. Nothing changes.
 pub(crate) fn look(board: &Board, seat: &mut Seat<Option<AheadStrip>, View>)
-    requires idle { IsIdle board.now seat.old }
-    ensures idle { IsIdle board.now seat.new }
+    requires idle { IsIdleSeat board.now seat.old }
+    ensures idle { IsIdleSeat board.now seat.new }
     ensures looked { Looked seat.old.me seat.new.me }
 {
     board.table.shared.load::<Looking>(seat, 0);

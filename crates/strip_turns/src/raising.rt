@@ -1,6 +1,6 @@
 ghost use Rattle.std.specs.Prelude.{◌≡◌, ◌<◌, ◌≤◌, length, IfOk, IfErr};
 ghost use Rattle.ray_grid.specs.Strips.{strips_of};
-ghost use Rattle.strip_turns.specs.Passes.{card, IsIdle, RaisedOut};
+ghost use Rattle.strip_turns.specs.Passes.{card, IsIdleSeat, RaisedOut};
 ghost use Rattle.strip_turns.specs.Asks.{Short, AllRaised, SomeRaised};
 
 use crate::board::Board;
@@ -11,7 +11,7 @@ use std::sync::Wait;
 use turn_core::AheadStrip;
 use vf_io::NoMemory;
 
-/// Takes a strip and raises it to a version, and tells the version at which it was taken. After want of memory it is back.
+/// Takes a strip and raises it to a version, and returns the version at which it was taken. When out of memory it is back.
 pub(crate) fn raised<R: Wait>(
     rt: &R,
     board: &Board,
@@ -19,11 +19,11 @@ pub(crate) fn raised<R: Wait>(
     strip: u32,
     version: u32,
 ) -> Result<(AheadStrip, u32), NoMemory>
-    requires idle { IsIdle board.now seat.old }
+    requires idle { IsIdleSeat board.now seat.old }
     requires strip { strip < length (strips_of board.now.plan.grid) }
     requires version { version ≤ length board.now.plan.edits }
     ensures out { IfOk result (λ r. RaisedOut board.now strip r.1 version seat.old seat.new r.0) }
-    ensures idle { IfErr result (λ _. IsIdle board.now seat.new) }
+    ensures idle { IfErr result (λ _. IsIdleSeat board.now seat.new) }
     ensures short { IfErr result (λ _. Short (card board.now) strip version seat.old.me.0 seat.new.me.0) }
 {
     let (mut piece, from) = wait_and_take(rt, board, seat, strip);
@@ -43,9 +43,9 @@ pub(crate) fn all_raised<R: Wait>(
     seat: &mut Seat<Option<AheadStrip>, View>,
     version: u32,
 ) -> Result<(), NoMemory>
-    requires idle { IsIdle board.now seat.old }
+    requires idle { IsIdleSeat board.now seat.old }
     requires version { version ≤ length board.now.plan.edits }
-    ensures idle { IsIdle board.now seat.new }
+    ensures idle { IsIdleSeat board.now seat.new }
     ensures raised { let strips = length (strips_of board.now.plan.grid) in
         IfOk result (λ _. AllRaised (card board.now) version strips seat.old.me.0 seat.new.me.0) }
     ensures some { let strips = length (strips_of board.now.plan.grid) in

@@ -1,10 +1,11 @@
 ghost use Rattle.std.specs.Prelude.{◌≡◌, ◌<◌, ◌≤◌, length, IfOk, IfErr};
 ghost use Rattle.ray_grid.specs.Lattice.{IsRay, points_of};
 ghost use Rattle.ray_grid.specs.Strips.{strip_number, strips_of};
-ghost use Rattle.job_model.specs.Points.{left_moves, point_in, state_after, totals_after};
+ghost use Rattle.ray_grid.specs.Points.{point_in};
+ghost use Rattle.job_model.specs.Points.{left_moves, state_after, totals_after};
 ghost use Rattle.job_model.specs.Tasks.{Job};
 ghost use Rattle.turn_core.specs.World.{AreStrips};
-ghost use Rattle.strip_turns.specs.Passes.{card, IsIdle};
+ghost use Rattle.strip_turns.specs.Passes.{card, IsIdleSeat};
 ghost use Rattle.strip_turns.specs.Asks.{Raised, Short, AllRaised, SomeRaised};
 
 use crate::board::Board;
@@ -12,7 +13,7 @@ use crate::moves::put;
 use crate::raising::raised;
 use crate::view::View;
 use atomic_table::Seat;
-use job_facts::{PointState, Totals};
+use job_counts::{PointState, Totals};
 use ray_grid::Ray;
 use std::sync::Wait;
 use turn_core::AheadStrip;
@@ -27,11 +28,11 @@ pub(crate) fn probed<R: Wait>(
     l: u32,
     version: u32,
 ) -> Result<PointState, NoMemory>
-    requires idle { IsIdle board.now seat.old }
+    requires idle { IsIdleSeat board.now seat.old }
     requires ray { IsRay board.now.plan.grid ray.now }
     requires point { l < points_of board.now.plan.grid ray.now.family }
     requires version { version ≤ length board.now.plan.edits }
-    ensures idle { IsIdle board.now seat.new }
+    ensures idle { IsIdleSeat board.now seat.new }
     ensures raised { let strip = strip_number board.now.plan.grid ray.now.family ray.now.i in
         IfOk result (λ _. Raised (card board.now) strip version seat.old.me.0 seat.new.me.0) }
     ensures short { let strip = strip_number board.now.plan.grid ray.now.family ray.now.i in
@@ -53,9 +54,9 @@ pub(crate) fn counted<R: Wait>(
     seat: &mut Seat<Option<AheadStrip>, View>,
     version: u32,
 ) -> Result<Totals, NoMemory>
-    requires idle { IsIdle board.now seat.old }
+    requires idle { IsIdleSeat board.now seat.old }
     requires version { version ≤ length board.now.plan.edits }
-    ensures idle { IsIdle board.now seat.new }
+    ensures idle { IsIdleSeat board.now seat.new }
     ensures raised { let strips = length (strips_of board.now.plan.grid) in
         IfOk result (λ _. AllRaised (card board.now) version strips seat.old.me.0 seat.new.me.0) }
     ensures some { let strips = length (strips_of board.now.plan.grid) in

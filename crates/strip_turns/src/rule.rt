@@ -2,7 +2,7 @@ ghost use Rattle.std.specs.Prelude.{◌+◌, Some, true, false};
 ghost use Rattle.strip_turns.specs.Cards.{card_of};
 ghost use Rattle.strip_turns.specs.Views.{fresh, spent, with_split, with_pass};
 ghost use Rattle.strip_turns.specs.Sound.{IsSound};
-ghost use Rattle.strip_turns.specs.Plays.{Drawn, TakesOrMisses, TakesOrNot, Looks, Gives};
+ghost use Rattle.strip_turns.specs.Plays.{Drawn, TakesOrMisses, TakesOrNot, Looks, PutsBack};
 
 use crate::view::{Key, View};
 use atomic_table::{Join, Play, Split, TableRule};
@@ -49,7 +49,7 @@ impl Play<Option<AheadStrip>, View> for Looking {
 pub(crate) struct Giving;
 
 impl Play<Option<AheadStrip>, View> for Giving {
-    ghost then = { Gives };
+    ghost then = { PutsBack };
 }
 
 /// A pass is cut in two, or takes in another.

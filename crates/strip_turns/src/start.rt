@@ -1,7 +1,7 @@
 ghost use Rattle.std.specs.Prelude.{◌≡◌, [], map, length, true, IfOk, Some};
 ghost use Rattle.turn_core.specs.World.{AreOfPlan};
 ghost use Rattle.strip_turns.specs.Cards.{card_of};
-ghost use Rattle.strip_turns.specs.Sound.{word_of};
+ghost use Rattle.strip_turns.specs.Sound.{strip_word};
 ghost use Rattle.strip_turns.specs.Starts.{card_with, AreHome, AreWithin, Starts};
 ghost use Rattle.strip_turns.specs.Views.{fresh};
 
@@ -18,7 +18,7 @@ use turn_core::AheadStrip;
 use vf_io::NoMemory;
 
 impl Board {
-    /// A board on which each strip is home, and its first pass. Fails only for want of memory.
+    /// A board on which each strip is home, and its first pass. Fails only when out of memory.
     pub fn new(alloc: Global, plan: Plan, strips: Vec<Strip>) -> Result<(Board, Pass), NoMemory>
         requires { AreOfPlan plan strips.items }
         ensures { IfOk result (λ b. Starts plan strips.items b.0 b.1) }
@@ -39,7 +39,7 @@ type TableAndSeat = (
 /// A table on which each strip is home, and the first seat at it.
 fn laid_out(alloc: Global, plan: &Plan, strips: Vec<Strip>) -> Result<TableAndSeat, NoMemory>
     requires { AreOfPlan plan.now strips.items }
-    ensures words { IfOk result (λ t. t.0.shared.table_id.words ≡ word_of t.0.shared.table_id.slots) }
+    ensures words { IfOk result (λ t. t.0.shared.table_id.words ≡ strip_word t.0.shared.table_id.slots) }
     ensures slots { IfOk result (λ t. t.0.shared.table_id.slots ≡ length strips.items) }
     ensures card { IfOk result (λ t. card_of t.0.shared.key ≡ card_with plan.now strips.items) }
     ensures own { IfOk result (λ t. t.1.table_id ≡ t.0.shared.table_id) }

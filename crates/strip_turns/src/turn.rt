@@ -1,6 +1,6 @@
 ghost use Rattle.std.specs.Prelude.{◌≡◌, ◌<◌, ◌^◌, length, IsSomeAnd};
 ghost use Rattle.ray_grid.specs.Strips.{strips_of};
-ghost use Rattle.strip_turns.specs.Passes.{card, IsPass, IsTaken, HasStrip, Worked};
+ghost use Rattle.strip_turns.specs.Passes.{card, IsPass, IsTakenAt, HasStrip, Worked};
 ghost use Rattle.strip_turns.specs.Turns.{Turns};
 
 use crate::board::{Board, Pass};
@@ -54,7 +54,7 @@ fn turn_held(
     from: u32,
 ) -> Result<(u32, u32), (u32, u32)>
     requires own { seat.old.table_id ≡ board.now.table.shared.table_id }
-    requires held { HasStrip seat.old.me strip (λ piece. IsTaken board.now.plan from piece) }
+    requires held { HasStrip seat.old.me strip (λ piece. IsTakenAt board.now.plan from piece) }
     ensures own { seat.new.table_id ≡ seat.old.table_id }
     ensures view { seat.new.me.0 ≡ seat.old.me.0 }
     ensures worked { HasStrip seat.old.me strip (λ before. HasStrip seat.new.me strip (λ after.
@@ -70,7 +70,7 @@ fn turn_slot(
     plan: &Plan,
     from: u32,
 ) -> Result<(u32, u32), (u32, u32)>
-    requires { IsSomeAnd slot.old (IsTaken plan.now from) }
+    requires { IsSomeAnd slot.old (IsTakenAt plan.now from) }
     ensures { IsSomeAnd slot.old (λ before. IsSomeAnd slot.new (λ after. Worked plan.now before after result)) }
 {
     match slot {

@@ -4,7 +4,7 @@ use strip_journal::Strip;
 use strip_plan::Plan;
 
 /// What a pass did.
-pub enum Entry {
+pub enum LogEntry {
     /// It drew a ticket.
     Draw(u64),
     /// A turn found its strip out.
@@ -20,34 +20,34 @@ pub struct Met {
 }
 
 /// A strip that is out with a pass, and the version at which it was taken.
-pub struct Held {
+pub struct HeldStrip {
     pub strip: u32,
     pub at: u32,
 }
 
 /// A plan, with its strips as they were put in.
-pub struct Card {
+pub struct BoardStart {
     pub plan: Plan,
     pub strips: LinkedList<Strip>,
 }
 
-/// What a pass knows. No value of it is ever made: it is for contracts alone.
+/// What a pass knows. No value of it is ever made: it is only for contracts.
 pub struct View {
-    pub card: Option<Card>,
+    pub card: Option<BoardStart>,
     /// Whether it is the pass that the board came with.
     pub first: bool,
     pub number: u64,
-    /// Of the first pass: how often it was split, and the numbers of the passes that came of it and weren't merged.
+    /// Of the first pass: how often it was split, and the numbers of the passes that were split off and weren't merged.
     pub splits: u64,
     pub out: LinkedList<u64>,
     pub drawn: u64,
     pub missed: u64,
-    pub held: Option<Held>,
+    pub held: Option<HeldStrip>,
     pub met: LinkedList<Met>,
-    pub log: LinkedList<Entry>,
+    pub log: LinkedList<LogEntry>,
 }
 
-/// What the table is told when it is made. It has no bytes.
+/// What the table is given when it is made. It has no bytes.
 #[derive(Drop)]
 pub struct Key {
     pub plan: Snapshot<Plan>,

@@ -4,11 +4,10 @@ use Rattle.std.proofs.lemmas.Int.{ints}
 use Rattle.std.proofs.lemmas.Bool.{cases_lt}
 use Rattle.std.proofs.Math.Nat.{mul-le-mul}
 use borrow.Author.Differences.{abs_is}
-use Rattle.space.specs.Vectors.{at, dot}
+use Rattle.space.specs.Vectors.{at, difference, dot, sum}
 use Rattle.space.proofs.Naturals.{dot_natural, natural, spread_natural}
 use Rattle.space.proofs.Solver.{Term, num, add, mul, ring}
 use Rattle.space.proofs.Terms.{dots, from, sub}
-use Rattle.sweep_boxes.specs.Vectors.{difference, sum}
 use Rattle.sweep_boxes.proofs.Fat.{AllFar, doubled, first_of, first_product, last_of, last_product, middle_of, outer_product}
 use Rattle.sweep_boxes.proofs.Triangle.{difference_triangle, square_of_abs, triangle}
 
@@ -69,7 +68,7 @@ along_doubled_difference d c g = ring (twelve d c g c) (dots d' (λ k. sub (add 
 along_doubled_sum : (d c g : List ℤ) → dot d (sum (doubled c) g) ≡ pos 2 *ℤ dot d c +ℤ dot d g
 along_doubled_sum d c g = ring (twelve d c g c) (dots d' (λ k. add (add (c' k) (c' k)) (g' k))) (add (mul (num (pos 2)) (dots d' c')) (dots d' g')) refl
 
--- so much is left of it
+-- this much is left of it
 far_three : (z x y u : ℤ) (t q s : ℕ) → (z ≡ (x -ℤ y) +ℤ u) ⊎ (z ≡ (x +ℤ y) +ℤ u) → t + (q + s) < unsigned_abs x → unsigned_abs y ≤ q → unsigned_abs u ≤ s → t < unsigned_abs z
 far_three z x y u t q s is far a b = ⊎_elim (λ e. omega (arith, ints, e, far, a, b, abs_is z, abs_is x, abs_is y, abs_is u)) (λ e. omega (arith, ints, e, far, a, b, abs_is z, abs_is x, abs_is y, abs_is u)) is
 
@@ -85,8 +84,8 @@ pub record IsFarAlong (d c g h : List ℤ) (r e m n t q s : ℕ) : Type 0 where
   pub spare : (m + 2 * n) * (m + 2 * n) ≤ 3 * e
   pub change : dot g g ≤ℤ pos (m * m)
   pub bend : dot h h ≤ℤ pos (n * n)
-  pub swing : unsigned_abs (dot d g) ≤ q
-  pub bow : unsigned_abs (dot d h) ≤ s
+  pub side_change : unsigned_abs (dot d g) ≤ q
+  pub side_bend : unsigned_abs (dot d h) ≤ s
   pub far : t + (q + s) < unsigned_abs (dot d c)
 
 more_squares : (z : ℤ) (r e : ℕ) → pos (r * r + e) <ℤ z → pos (r * r) <ℤ z
@@ -106,19 +105,19 @@ pub all_far_along : (d c g h : List ℤ) (r e m n t q s : ℕ) → IsFarAlong d 
 all_far_along d c g h r e m n t q s f =
     let twice_h : dot (doubled h) (doubled h) ≤ℤ pos ((n + n) * (n + n)) = triangle h h n n f.bend f.bend in
     let twice = four_root (dot d d) r e t f.root in
-    let far = f.far in let swing = f.swing in let bow = f.bow in
+    let far = f.far in let side_change = f.side_change in let side_bend = f.side_bend in
     record {
-      xx = more_squares _ r e (long_along d (first_of c g h) (r * r + e) t f.root (far_three _ (dot d c) (dot d g) (dot d h) t q s (inl (along_first d c g h)) far swing bow));
+      xx = more_squares _ r e (long_along d (first_of c g h) (r * r + e) t f.root (far_three _ (dot d c) (dot d g) (dot d h) t q s (inl (along_first d c g h)) far side_change side_bend));
       xy =
           quarter _ _ _ r e m n (first_product c g h)
-          (long_along d (difference (doubled c) g) (4 * (r * r + e)) (2 * t) twice (far_twice _ (dot d c) (dot d g) t q s (inl (along_doubled_difference d c g)) far swing))
+          (long_along d (difference (doubled c) g) (4 * (r * r + e)) (2 * t) twice (far_twice _ (dot d c) (dot d g) t q s (inl (along_doubled_difference d c g)) far side_change))
           (difference_triangle (doubled h) g (n + n) m twice_h f.change) f.spare;
       middle =
-          outer _ _ _ _ r e m n (outer_product c g h) (long_along d (difference c h) (r * r + e) t f.root (far_two _ (dot d c) (dot d h) t q s (inl (along_difference d c h)) far bow))
-          (long_along d (sum c h) (r * r + e) t f.root (far_two _ (dot d c) (dot d h) t q s (inr (along_sum d c h)) far bow)) f.change f.spare;
+          outer _ _ _ _ r e m n (outer_product c g h) (long_along d (difference c h) (r * r + e) t f.root (far_two _ (dot d c) (dot d h) t q s (inl (along_difference d c h)) far side_bend))
+          (long_along d (sum c h) (r * r + e) t f.root (far_two _ (dot d c) (dot d h) t q s (inr (along_sum d c h)) far side_bend)) f.change f.spare;
       yz =
           quarter _ _ _ r e m n (last_product c g h)
-          (long_along d (sum (doubled c) g) (4 * (r * r + e)) (2 * t) twice (far_twice _ (dot d c) (dot d g) t q s (inr (along_doubled_sum d c g)) far swing))
+          (long_along d (sum (doubled c) g) (4 * (r * r + e)) (2 * t) twice (far_twice _ (dot d c) (dot d g) t q s (inr (along_doubled_sum d c g)) far side_change))
           (triangle (doubled h) g (n + n) m twice_h f.change) f.spare;
-      zz = more_squares _ r e (long_along d (last_of c g h) (r * r + e) t f.root (far_three _ (dot d c) (dot d g) (dot d h) t q s (inr (along_last d c g h)) far swing bow));
+      zz = more_squares _ r e (long_along d (last_of c g h) (r * r + e) t f.root (far_three _ (dot d c) (dot d g) (dot d h) t q s (inr (along_last d c g h)) far side_change side_bend));
     }

@@ -4,7 +4,8 @@ use Rattle.std.proofs.lemmas.Int.{ints}
 use Rattle.std.proofs.lemmas.Bool.{cases_lt}
 use Rattle.bern_form.specs.Slab.{SlabSize}
 use Rattle.cutter_slabs.specs.Rising.{IsRising}
-use Rattle.sweep_boxes.specs.Ladders.{IsStepAt}
+use Rattle.sweep_boxes.specs.BandTerms.{IsStepAt}
+use Rattle.sweep_boxes.specs.Intervals.{AreFrom}
 
 -- a slab begins no lower than another, and is no narrower
 record IsInOrder (upper lower : SlabSize) : Type 0 where
@@ -27,6 +28,13 @@ in_order (s ∷ rest) d e (suc i) zero rises h l = absurd (omega (arith, h))
 in_order (s ∷ rest) d e (suc i) (suc j) rises h l = in_order rest d e i j (later s rest rises) (omega (arith, h)) (omega (arith, l)) where
   later : (s : SlabSize) (rest : List SlabSize) → IsRising (s ∷ rest) → IsRising rest
   later s rest rises = rises.1.1
+
+-- the slabs begin no lower than the first
+pub from_first : (slabs : List SlabSize) (first : SlabSize) → IsRising slabs → 0 < length slabs → first ≡ get_or slabs 0 first → AreFrom first.lo slabs
+from_first slabs first rises some is s among =
+    let order : IsInOrder s first = subst (λ (x : SlabSize). IsInOrder s x) (sym is) (subst (λ (x : SlabSize). IsInOrder x (get_or slabs 0 first)) among.2
+    (in_order slabs s first 0 among.0 rises (omega arith) among.1)) in
+    order.low
 
 pub step_of : (slabs : List SlabSize) (k : ℕ) (upper lower : SlabSize) → IsRising slabs → 0 < k → k < length slabs → upper ≡ get_or slabs k upper → lower ≡ get_or slabs (k - 1) lower
     → IsStepAt upper.lo lower.dia slabs

@@ -4,8 +4,8 @@ use Rattle.std.proofs.lemmas.Int.{to_z-of_z}
 use mir.Syntax.{w32}
 use Rattle.space.specs.Ranges.{IsWithin}
 use Rattle.space.specs.Vectors.{at}
+use Rattle.sweep_boxes.specs.Intervals.{IsAmong}
 use Rattle.sweep_boxes.specs.Limits.{place_limit}
-use Rattle.sweep_boxes.specs.Pieces.{IsAmong}
 use Rattle.sweep_boxes.proofs.Boxed.{inner_range}
 use Rattle.sweep_boxes.proofs.Words.{kept_place, place_fits}
 

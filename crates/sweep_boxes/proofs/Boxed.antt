@@ -1,17 +1,16 @@
 -- The places of a point that is held, along each axis.
 use Rattle.std.proofs.Common.{◌≡◌, true, ◌&&◌, ⊎_elim, ℕ, zero, suc, ◌*◌, ◌≤◌, ◌<◌, List, ℤ, pos, ◌+ℤ◌, ◌*ℤ◌, ◌-ℤ◌, ◌≤ℤ◌, unsigned_abs, arith, ap, refl, sym, subst, ◌∙◌}
 use Rattle.std.proofs.lemmas.Int.{ints}
-use Rattle.space.specs.Motion.{Motion}
 use Rattle.space.specs.Ranges.{IsBetween}
-use Rattle.space.specs.Vectors.{at, dot}
+use Rattle.space.specs.Sweeps.{SweepOf}
+use Rattle.space.specs.Vectors.{at, cross, dot}
 use Rattle.std.proofs.lemmas.Bool.{and_parts}
 use Rattle.space.specs.Reach.{is_in_reach, is_near}
 use Rattle.space.proofs.Naturals.{square_not_negative}
 use Rattle.space.proofs.ReachLemmas.{decides_near, near_either}
-use Rattle.sweep_boxes.specs.Pieces.{IsAmong, IsBeside, IsHeldOn, middle_axis, middle_offset, offset_from}
-use Rattle.sweep_boxes.specs.Made.{IsPieceOf}
-use Rattle.sweep_boxes.specs.declared.piece.Piece.{Piece}
-use Rattle.sweep_boxes.specs.Vectors.{cross}
+use Rattle.sweep_boxes.specs.Intervals.{IsAmong, IsBeside, IsHeldOn, middle_axis, middle_offset, offset_from}
+use Rattle.sweep_boxes.specs.Made.{IsSweepInterval}
+use Rattle.sweep_boxes.specs.declared.sweep_interval.SweepInterval.{SweepInterval}
 use Rattle.sweep_boxes.proofs.Numbers.{product_mono}
 use Rattle.sweep_boxes.proofs.Sides.{aside_below}
 use Rattle.sweep_boxes.proofs.Triangle.{square_of_abs}
@@ -69,29 +68,29 @@ offsets_among s tip low high p some among = record {
 }
 
 -- a piece's own numbers give the offset from the tip in its middle
-pub offset_is : (piece : Piece) (m : Motion) (k S : ℕ) (p : List ℤ) → IsPieceOf piece m k S → offset_from (pos piece.scale) piece.tip p ≡ middle_offset m p k S
-offset_is piece m k S p of = ap (λ (s : ℕ). offset_from (pos s) piece.tip p) of.scale ∙ ap (λ (t : List ℤ). offset_from (pos (2 * S)) t p) of.tip
+pub offset_is : (interval : SweepInterval) (m : SweepOf) (k S : ℕ) (p : List ℤ) → IsSweepInterval interval m k S → offset_from (pos interval.scale) interval.tip p ≡ middle_offset m p k S
+offset_is interval m k S p of = ap (λ (s : ℕ). offset_from (pos s) interval.tip p) of.scale ∙ ap (λ (t : List ℤ). offset_from (pos (2 * S)) t p) of.tip
 
--- what a piece's hold says of a point of its region
-pub held_of : (piece : Piece) (m : Motion) (k S : ℕ) (p : List ℤ) (least most moment : ℤ) → IsPieceOf piece m k S → IsHeldOn least most moment (middle_offset m p k S) (middle_axis m k S)
-    → IsHeldOn least most moment (offset_from (pos piece.scale) piece.tip p) piece.axis
-held_of piece m k S p least most moment of held =
-    subst (λ (v : List ℤ). IsHeldOn least most moment v piece.axis) (sym (offset_is piece m k S p of))
+-- what an interval's bounds say of a point of its region
+pub held_of : (interval : SweepInterval) (m : SweepOf) (k S : ℕ) (p : List ℤ) (least most moment : ℤ) → IsSweepInterval interval m k S → IsHeldOn least most moment (middle_offset m p k S) (middle_axis m k S)
+    → IsHeldOn least most moment (offset_from (pos interval.scale) interval.tip p) interval.axis
+held_of interval m k S p least most moment of held =
+    subst (λ (v : List ℤ). IsHeldOn least most moment v interval.axis) (sym (offset_is interval m k S p of))
     (subst (λ (a : List ℤ). IsHeldOn least most moment (middle_offset m p k S) a) (sym of.axis) held)
 
-pub beside_of : (piece : Piece) (m : Motion) (k S : ℕ) (p side : List ℤ) (across : ℤ) → IsPieceOf piece m k S → IsBeside side across (middle_offset m p k S) (middle_axis m k S)
-    → IsBeside side across (offset_from (pos piece.scale) piece.tip p) piece.axis
-beside_of piece m k S p side across of beside =
-    subst (λ (v : List ℤ). IsBeside side across v piece.axis) (sym (offset_is piece m k S p of))
+pub beside_of : (interval : SweepInterval) (m : SweepOf) (k S : ℕ) (p side : List ℤ) (across : ℤ) → IsSweepInterval interval m k S → IsBeside side across (middle_offset m p k S) (middle_axis m k S)
+    → IsBeside side across (offset_from (pos interval.scale) interval.tip p) interval.axis
+beside_of interval m k S p side across of beside =
+    subst (λ (v : List ℤ). IsBeside side across v interval.axis) (sym (offset_is interval m k S p of))
     (subst (λ (a : List ℤ). IsBeside side across (middle_offset m p k S) a) (sym of.axis) beside)
 
-pub among_of : (piece : Piece) (m : Motion) (k S : ℕ) (p low high from to : List ℤ) → IsPieceOf piece m k S → from ≡ offset_from (pos piece.scale) piece.tip low → to ≡ offset_from (pos piece.scale) piece.tip high
+pub among_of : (interval : SweepInterval) (m : SweepOf) (k S : ℕ) (p low high from to : List ℤ) → IsSweepInterval interval m k S → from ≡ offset_from (pos interval.scale) interval.tip low → to ≡ offset_from (pos interval.scale) interval.tip high
     → IsAmong low high p → IsAmong from to (middle_offset m p k S)
-among_of piece m k S p low high from to of from_is to_is among =
-    subst (λ (v : List ℤ). IsAmong from to v) (offset_is piece m k S p of)
-    (subst (λ (f : List ℤ). IsAmong f to (offset_from (pos piece.scale) piece.tip p)) (sym from_is)
-    (subst (λ (t : List ℤ). IsAmong (offset_from (pos piece.scale) piece.tip low) t (offset_from (pos piece.scale) piece.tip p)) (sym to_is)
-    (offsets_among (pos piece.scale) piece.tip low high p (omega (arith, ints)) among)))
+among_of interval m k S p low high from to of from_is to_is among =
+    subst (λ (v : List ℤ). IsAmong from to v) (offset_is interval m k S p of)
+    (subst (λ (f : List ℤ). IsAmong f to (offset_from (pos interval.scale) interval.tip p)) (sym from_is)
+    (subst (λ (t : List ℤ). IsAmong (offset_from (pos interval.scale) interval.tip low) t (offset_from (pos interval.scale) interval.tip p)) (sym to_is)
+    (offsets_among (pos interval.scale) interval.tip low high p (omega (arith, ints)) among)))
 
 -- a box with ends within those of another one lies in it
 pub inner_range : (a b c d z : ℤ) → c ≤ℤ a → b ≤ℤ d → IsBetween a b z → IsBetween c d z

@@ -2,10 +2,9 @@
 -- c + g + h at its last end. Where c is long enough, all their scalar products are great.
 use Rattle.std.proofs.Common.{◌≡◌, ℕ, ◌+◌, ◌*◌, [], ◌∷◌, List, ℤ, pos, ◌+ℤ◌, ◌*ℤ◌, ◌-ℤ◌, ◌≤ℤ◌, ◌<ℤ◌, arith, refl, sym, subst}
 use Rattle.std.proofs.lemmas.Int.{ints}
-use Rattle.space.specs.Vectors.{at, dot}
+use Rattle.space.specs.Vectors.{at, difference, dot, sum}
 use Rattle.space.proofs.Solver.{Term, num, add, mul, ring}
 use Rattle.space.proofs.Terms.{dots, from, sub}
-use Rattle.sweep_boxes.specs.Vectors.{difference, sum}
 use Rattle.sweep_boxes.proofs.Triangle.{difference_far, difference_triangle, sum_far, triangle}
 
 abbrev pub first_of : List ℤ → List ℤ → List ℤ → List ℤ

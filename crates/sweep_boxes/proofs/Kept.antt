@@ -6,24 +6,23 @@ use Rattle.std.proofs.lemmas.Int.{ints}
 use Rattle.std.proofs.lemmas.Bool.{cases_lt}
 use Rattle.std.proofs.lemmas.Bool.Decides.{Decides-not}
 use Rattle.std.proofs.Math.Nat.{mul-le-mul}
-use Rattle.space.specs.Motion.{Motion, axis_at, offset_at}
-use Rattle.space.specs.Vectors.{dot}
-use Rattle.bern_form.specs.Between.{is_excluded_between, is_left_between}
+use Rattle.space.specs.Sweeps.{SweepOf, axis_at, offset_at}
+use Rattle.space.specs.Vectors.{cross, difference, dot, sum}
+use Rattle.bern_form.specs.Between.{is_excluded_between, is_unexcluded_between}
 use Rattle.bern_form.specs.Cells.{dot_on_cell, scaled_square}
 use Rattle.bern_form.specs.Slab.{SlabSize}
 use Rattle.bern_form.proofs.Decided.{decides_among}
 use Rattle.bern_form.proofs.Finer.{ExcludedBetween, ExcludedWith, decides_with}
-use Rattle.sweep_boxes.specs.Pieces.{height_change, moment_change}
-use Rattle.sweep_boxes.specs.Vectors.{cross, difference, sum}
-use Rattle.sweep_boxes.proofs.Pieces.{IsUnder, above_slab, behind_tip, beside}
+use Rattle.sweep_boxes.specs.Intervals.{height_change, moment_change}
+use Rattle.sweep_boxes.proofs.Intervals.{IsUnder, above_slab, behind_tip, beside}
 
 -- one of the slabs that isn't excluded
-pub record SomeLeft (slabs : List SlabSize) (m : Motion) (p : List ℤ) (j k S : ℕ) : Type 0 where
+pub record SomeLeft (slabs : List SlabSize) (m : SweepOf) (p : List ℤ) (j k S : ℕ) : Type 0 where
   pub slab : SlabSize
   pub among : Contains slabs slab
   pub left : ¬ ExcludedBetween slab m p j k S
 
-pub some_left : (slabs : List SlabSize) (m : Motion) (p : List ℤ) (j k S : ℕ) → is_left_between slabs m p j k S ≡ true → SomeLeft slabs m p j k S
+pub some_left : (slabs : List SlabSize) (m : SweepOf) (p : List ℤ) (j k S : ℕ) → is_unexcluded_between slabs m p j k S ≡ true → SomeLeft slabs m p j k S
 some_left slabs m p j k S h =
     let decides = λ (s : SlabSize). decides_with s S (dot_on_cell (offset_at m p (pos j) (pos S)) (offset_at m p (pos k) (pos S)) (axis_at m (pos j) (pos S)) (axis_at m (pos k) (pos S))) (dot_on_cell (axis_at m (pos j) (pos S)) (axis_at m (pos k) (pos S)) (axis_at m (pos j) (pos S)) (axis_at m (pos k) (pos S))) (dot_on_cell (offset_at m p (pos j) (pos S)) (offset_at m p (pos k) (pos S)) (offset_at m p (pos j) (pos S)) (offset_at m p (pos k) (pos S))) in
     let found = (decides_among (λ t. not (is_excluded_between t m p j k S)) (λ t. ¬ ExcludedBetween t m p j k S) slabs (λ t. Decides-not (is_excluded_between t m p j k S) (decides t))).0 h in
@@ -59,7 +58,7 @@ held_by p q a c S s r h m n v b l left =
       slope_is : (p q a c : List ℤ) (v : ℕ) → unsigned_abs (height_change (sum p q) (sum a c) (difference q p) (difference c a)) ≤ v → unsigned_abs (dot (difference q p) (sum a c) +ℤ dot (sum p q) (difference c a)) ≤ v
       slope_is p q a c v h = h
 
--- from the numbers of a piece
+-- from the numbers of an interval
 pub under_of : (scale S : ℕ) (dia widest longest n r : ℤ) → scale ≡ 2 * S → pos 0 ≤ℤ dia → dia ≤ℤ widest → pos 0 ≤ℤ n → n ≤ℤ longest
     → (((pos scale *ℤ widest) *ℤ (pos scale *ℤ widest)) *ℤ longest) ≤ℤ r → (pos 4 *ℤ (scaled_square S dia *ℤ n)) ≤ℤ r
 under_of scale S (pos d) (pos w) (pos l) (pos n) r e a b c f g =
@@ -93,8 +92,8 @@ pub record LimitsOf (v x d e a c : List ℤ) (S : ℕ) (s : SlabSize) (r h m n l
   pub bow : unsigned_abs (dot d e) ≤ b
 
 abbrev pub IsNear : List ℤ → List ℤ → ℕ → ℕ → ℕ → Type 0
-IsNear v x lift top grow =
-    ((pos 0 -ℤ pos lift) ≤ℤ dot v x) × (dot v x ≤ℤ pos top) × (dot (cross v x) (cross v x) ≤ℤ pos (grow * grow))
+IsNear v x height_slack top grow =
+    ((pos 0 -ℤ pos height_slack) ≤ℤ dot v x) × (dot v x ≤ℤ pos top) × (dot (cross v x) (cross v x) ≤ℤ pos (grow * grow))
 
 pub held_with : (p q a c v x d e : List ℤ) (S : ℕ) (s : SlabSize) (r h m n l b : ℕ) → sum p q ≡ v → sum a c ≡ x → difference q p ≡ d → difference c a ≡ e
     → LimitsOf v x d e a c S s r h m n l b → ¬ ExcludedWith s S (dot_on_cell p q a c) (dot_on_cell a c a c) (dot_on_cell p q p q)

@@ -1,4 +1,4 @@
--- Slabs that are at most so wide and so high, one more at a time.
+-- Slabs of at most a width and a height, one more at a time.
 use Rattle.std.proofs.Common.{◌≡◌, ℕ, ◌+◌, ◌<◌, List, [], ◌∷◌, ◌++◌, take, ◌∙◌, ℤ, ◌≤ℤ◌, ⊎_elim, get_or, length, arith, subst, sym}
 use Rattle.std.proofs.lemmas.Int.{ints}
 use Rattle.std.proofs.lemmas.Bool.{cases_lt}
@@ -6,7 +6,7 @@ use Rattle.bern_form.specs.Slab.{SlabSize}
 use Rattle.std.proofs.lemmas.List.{get_or_append_left, length-append, take-append-le}
 use Rattle.std.proofs.Math.Seq.{get_or-append_seam}
 use Rattle.sweep_boxes.specs.declared.point_box.PointBox.{PointBox}
-use Rattle.sweep_boxes.specs.Pieces.{IsAsLarge}
+use Rattle.sweep_boxes.specs.Intervals.{IsAsLarge}
 
 larger : (w h v g : ℤ) (s : SlabSize) → w ≤ℤ v → h ≤ℤ g → IsAsLarge w h s → IsAsLarge v g s
 larger w h v g s a b l =

@@ -1,20 +1,20 @@
--- Sums and products of the numbers that a box is reckoned from.
+-- Sums and products of the numbers that a box is computed from.
 use Rattle.std.proofs.Common.{◌≡◌, ℕ, zero, suc, negsuc, ◌+◌, ◌*◌, ◌-◌, ◌^◌, ◌≤◌, ◌<◌, List, [], ◌∷◌, ℤ, pos, ◌+ℤ◌, ◌*ℤ◌, ◌-ℤ◌, ◌≤ℤ◌, unsigned_abs, ◌⊎◌, inl, inr, ⊎_elim, FitsSigned, int_div, int_rem, arith, refl, sym, subst}
 use Rattle.std.proofs.lemmas.Int.{ints, quot-rem, rem_below}
 use Rattle.std.proofs.lemmas.Bool.{cases_lt}
 use Rattle.std.proofs.Math.Nat.{mul-le-mul}
 use mir.Syntax.{w128}
 use borrow.Author.Differences.{abs_is}
-use Rattle.space.specs.Motion.{between}
+use Rattle.space.specs.Sweeps.{between}
 use Rattle.space.proofs.Axis.{rest_is}
 use Rattle.space.proofs.Naturals.{abs_add, abs_mul, abs_sub, square_not_negative}
 use Rattle.space.proofs.Facts.{fits128}
-use Rattle.space.specs.Vectors.{at, dot}
-use Rattle.sweep_boxes.specs.Limits.{place_limit, side_limit}
-use Rattle.sweep_boxes.specs.Pieces.{IsNearer, moment_change}
-use Rattle.sweep_boxes.specs.Held.{IsGrown, IsLift}
-use Rattle.sweep_boxes.specs.Vectors.{cross, sum}
-use Rattle.sweep_boxes.specs.declared.piece.Piece.{Piece}
+use Rattle.space.specs.Vectors.{at, cross, dot, sum}
+use Rattle.sweep_boxes.specs.Limits.{place_limit}
+use Rattle.space.specs.Ranges.{vector_limit}
+use Rattle.sweep_boxes.specs.Intervals.{IsNearer, moment_change}
+use Rattle.sweep_boxes.specs.Held.{IsGrown, IsHeightSlack}
+use Rattle.sweep_boxes.specs.declared.sweep_interval.SweepInterval.{SweepInterval}
 use Rattle.sweep_boxes.proofs.Triangle.{square_of_abs}
 use Rattle.space.proofs.Solver.{var, num, add, mul, neg, ring}
 
@@ -65,14 +65,14 @@ pub record RadiusFits (x n : ℤ) : Type 0 where
   pub some : pos 0 ≤ℤ ((x *ℤ x) *ℤ n)
   pub small : unsigned_abs ((x *ℤ x) *ℤ n) ≤ 10 ^ 36
 
-pub radius_fits : (x n : ℤ) → unsigned_abs x ≤ 256 * place_limit → pos 0 ≤ℤ n → n ≤ℤ pos (3 * (side_limit * side_limit)) → RadiusFits x n
+pub radius_fits : (x n : ℤ) → unsigned_abs x ≤ 256 * place_limit → pos 0 ≤ℤ n → n ≤ℤ pos (3 * (vector_limit * vector_limit)) → RadiusFits x n
 radius_fits x n h some few =
     let square = abs_mul x x (256 * place_limit) (256 * place_limit) h h in
-    let length : unsigned_abs n ≤ 3 * (side_limit * side_limit) = omega (arith, ints, some, few, abs_is n) in
-    let whole = abs_mul (x *ℤ x) n (256 * place_limit * (256 * place_limit)) (3 * (side_limit * side_limit)) square length in
+    let length : unsigned_abs n ≤ 3 * (vector_limit * vector_limit) = omega (arith, ints, some, few, abs_is n) in
+    let whole = abs_mul (x *ℤ x) n (256 * place_limit * (256 * place_limit)) (3 * (vector_limit * vector_limit)) square length in
     record {
       square = fits128 (x *ℤ x) (256 * place_limit * (256 * place_limit)) square (omega arith);
-      whole = fits128 ((x *ℤ x) *ℤ n) (256 * place_limit * (256 * place_limit) * (3 * (side_limit * side_limit))) whole (omega arith);
+      whole = fits128 ((x *ℤ x) *ℤ n) (256 * place_limit * (256 * place_limit) * (3 * (vector_limit * vector_limit))) whole (omega arith);
       some = product_some (x *ℤ x) n (square_not_negative x) some;
       small = omega (arith, whole);
     } where
@@ -81,48 +81,48 @@ radius_fits x n h some few =
       product_some (negsuc m) d h k = absurd (omega (arith, ints, h))
       product_some (pos m) (negsuc n) h k = absurd (omega (arith, ints, k))
 
-pub dot_below : (p e far turn : List ℤ) → IsNearer p far → IsNearer e turn → pos (unsigned_abs (dot p e)) ≤ℤ dot far turn
-dot_below p e far turn h k =
-    let x = product_below (at p 0) (at e 0) (at far 0) (at turn 0) h.x k.x in
-    let y = product_below (at p 1) (at e 1) (at far 1) (at turn 1) h.y k.y in
-    let z = product_below (at p 2) (at e 2) (at far 2) (at turn 2) h.z k.z in
+pub dot_below : (p e far axis_change : List ℤ) → IsNearer p far → IsNearer e axis_change → pos (unsigned_abs (dot p e)) ≤ℤ dot far axis_change
+dot_below p e far axis_change h k =
+    let x = product_below (at p 0) (at e 0) (at far 0) (at axis_change 0) h.x k.x in
+    let y = product_below (at p 1) (at e 1) (at far 1) (at axis_change 1) h.y k.y in
+    let z = product_below (at p 2) (at e 2) (at far 2) (at axis_change 2) h.z k.z in
     omega (arith, ints, x, y, z, abs_add (at p 0 *ℤ at e 0) (at p 1 *ℤ at e 1), abs_add (at p 0 *ℤ at e 0 +ℤ at p 1 *ℤ at e 1) (at p 2 *ℤ at e 2))
 
-pub lift_below : (da pe b t : ℤ) → pos (unsigned_abs pe) ≤ℤ t → unsigned_abs (da +ℤ pe) ≤ unsigned_abs da + unsigned_abs t
-lift_below da pe b t h = omega (arith, ints, h, abs_add da pe, abs_is t)
+pub height_slack_below : (da pe b t : ℤ) → pos (unsigned_abs pe) ≤ℤ t → unsigned_abs (da +ℤ pe) ≤ unsigned_abs da + unsigned_abs t
+height_slack_below da pe b t h = omega (arith, ints, h, abs_add da pe, abs_is t)
 
--- the numbers of a piece, from what their reckoning gives
-pub lifted : (total drift swing bend da ft dt : ℤ) (piece : Piece) (far turn : List ℤ) → total ≡ drift +ℤ (swing +ℤ bend) → drift ≡ pos (unsigned_abs da) → swing ≡ pos (unsigned_abs ft) → bend ≡ pos (unsigned_abs dt)
-    → da ≡ dot piece.shift piece.axis → ft ≡ dot far turn → dt ≡ dot piece.shift piece.turn → IsNearer piece.turn turn → IsLift total piece far
-lifted total drift swing bend da ft dt piece far turn is e f g da_is ft_is dt_is near = record {
+-- the numbers of an interval, from what their computation gives
+pub lifted : (total drift swing bend da ft dt : ℤ) (interval : SweepInterval) (far axis_change : List ℤ) → total ≡ drift +ℤ (swing +ℤ bend) → drift ≡ pos (unsigned_abs da) → swing ≡ pos (unsigned_abs ft) → bend ≡ pos (unsigned_abs dt)
+    → da ≡ dot interval.offset_change interval.axis → ft ≡ dot far axis_change → dt ≡ dot interval.offset_change interval.axis_change → IsNearer interval.axis_change axis_change → IsHeightSlack total interval far
+lifted total drift swing bend da ft dt interval far axis_change is e f g da_is ft_is dt_is near = record {
   v = unsigned_abs da + unsigned_abs ft;
   b = unsigned_abs dt;
   total_is = omega (arith, ints, is, e, f, g);
   change = λ p nearer.
-      subst (λ (z : ℤ). unsigned_abs (dot piece.shift piece.axis +ℤ dot p piece.turn) ≤ unsigned_abs z + unsigned_abs ft) (sym da_is)
-      (subst (λ (z : ℤ). unsigned_abs (dot piece.shift piece.axis +ℤ dot p piece.turn) ≤ unsigned_abs (dot piece.shift piece.axis) + unsigned_abs z) (sym ft_is)
-      (lift_below (dot piece.shift piece.axis) (dot p piece.turn) (pos 0) (dot far turn) (dot_below p piece.turn far turn nearer near)));
-  bend = subst (λ (z : ℤ). unsigned_abs (dot piece.shift piece.turn) ≤ unsigned_abs z) (sym dt_is) (omega arith);
+      subst (λ (z : ℤ). unsigned_abs (dot interval.offset_change interval.axis +ℤ dot p interval.axis_change) ≤ unsigned_abs z + unsigned_abs ft) (sym da_is)
+      (subst (λ (z : ℤ). unsigned_abs (dot interval.offset_change interval.axis +ℤ dot p interval.axis_change) ≤ unsigned_abs (dot interval.offset_change interval.axis) + unsigned_abs z) (sym ft_is)
+      (height_slack_below (dot interval.offset_change interval.axis) (dot p interval.axis_change) (pos 0) (dot far axis_change) (dot_below p interval.axis_change far axis_change nearer near)));
+  bend = subst (λ (z : ℤ). unsigned_abs (dot interval.offset_change interval.axis_change) ≤ unsigned_abs z) (sym dt_is) (omega arith);
 }
 
 pub sizes_of : (a b c t : ℤ) → t ≡ a +ℤ (b +ℤ c) → pos 0 ≤ℤ a → pos 0 ≤ℤ b → pos 0 ≤ℤ c → t ≡ pos (unsigned_abs a + (unsigned_abs b + unsigned_abs c))
 sizes_of a b c t e x y z = omega (arith, ints, e, x, y, z, abs_is a, abs_is b, abs_is c)
 
-pub grown_by : (total r m n : ℤ) (piece : Piece) (widest : ℤ) (far turn drift bend : List ℤ) → total ≡ r +ℤ (m +ℤ n) → pos 0 ≤ℤ r → pos 0 ≤ℤ m → pos 0 ≤ℤ n
-    → drift ≡ cross piece.shift piece.axis → bend ≡ cross piece.shift piece.turn → IsNearer piece.turn turn
-    → (((pos piece.scale *ℤ widest) *ℤ (pos piece.scale *ℤ widest)) *ℤ piece.longest) ≤ℤ (r *ℤ r)
-    → ((v e : List ℤ) → IsNearer v far → IsNearer e turn → dot (sum drift (cross v e)) (sum drift (cross v e)) ≤ℤ (m *ℤ m))
-    → dot bend bend ≤ℤ (n *ℤ n) → IsGrown total piece widest far
-grown_by total r m n piece widest far turn drift bend is some_r some_m some_n drift_is bend_is near wide change bent = record {
+pub grown_by : (total r m n : ℤ) (interval : SweepInterval) (widest : ℤ) (far axis_change drift bend : List ℤ) → total ≡ r +ℤ (m +ℤ n) → pos 0 ≤ℤ r → pos 0 ≤ℤ m → pos 0 ≤ℤ n
+    → drift ≡ cross interval.offset_change interval.axis → bend ≡ cross interval.offset_change interval.axis_change → IsNearer interval.axis_change axis_change
+    → (((pos interval.scale *ℤ widest) *ℤ (pos interval.scale *ℤ widest)) *ℤ interval.longest) ≤ℤ (r *ℤ r)
+    → ((v e : List ℤ) → IsNearer v far → IsNearer e axis_change → dot (sum drift (cross v e)) (sum drift (cross v e)) ≤ℤ (m *ℤ m))
+    → dot bend bend ≤ℤ (n *ℤ n) → IsGrown total interval widest far
+grown_by total r m n interval widest far axis_change drift bend is some_r some_m some_n drift_is bend_is near wide change bent = record {
   r = unsigned_abs r;
   m = unsigned_abs m;
   n = unsigned_abs n;
   total_is = sizes_of r m n total is some_r some_m some_n;
-  wide = subst (λ (z : ℤ). (((pos piece.scale *ℤ widest) *ℤ (pos piece.scale *ℤ widest)) *ℤ piece.longest) ≤ℤ z) (sym (square_of_abs r)) wide;
+  wide = subst (λ (z : ℤ). (((pos interval.scale *ℤ widest) *ℤ (pos interval.scale *ℤ widest)) *ℤ interval.longest) ≤ℤ z) (sym (square_of_abs r)) wide;
   change = λ v nearer.
-      subst (λ (z : ℤ). dot (moment_change v piece.axis piece.shift piece.turn) (moment_change v piece.axis piece.shift piece.turn) ≤ℤ z) (sym (square_of_abs m))
-      (subst (λ (d : List ℤ). dot (sum d (cross v piece.turn)) (sum d (cross v piece.turn)) ≤ℤ (m *ℤ m)) drift_is (change v piece.turn nearer near));
-  bend = subst (λ (z : ℤ). dot (cross piece.shift piece.turn) (cross piece.shift piece.turn) ≤ℤ z) (sym (square_of_abs n))
+      subst (λ (z : ℤ). dot (moment_change v interval.axis interval.offset_change interval.axis_change) (moment_change v interval.axis interval.offset_change interval.axis_change) ≤ℤ z) (sym (square_of_abs m))
+      (subst (λ (d : List ℤ). dot (sum d (cross v interval.axis_change)) (sum d (cross v interval.axis_change)) ≤ℤ (m *ℤ m)) drift_is (change v interval.axis_change nearer near));
+  bend = subst (λ (z : ℤ). dot (cross interval.offset_change interval.axis_change) (cross interval.offset_change interval.axis_change) ≤ℤ z) (sym (square_of_abs n))
       (subst (λ (d : List ℤ). dot d d ≤ℤ (n *ℤ n)) bend_is bent);
 }
 
@@ -131,9 +131,6 @@ minus_fits z h = omega (arith, ints, h, abs_is z)
 
 pub sum_fits : (a b : ℤ) → unsigned_abs a ≤ 10 ^ 18 → unsigned_abs b ≤ 3 * 10 ^ 18 → FitsSigned w128 (a +ℤ b)
 sum_fits a b h k = omega (arith, ints, h, k, abs_is a, abs_is b)
-
-pub product_fits : (a b : ℤ) (m n : ℕ) → unsigned_abs a ≤ m → unsigned_abs b ≤ n → m * n < 2 ^ 127 → FitsSigned w128 (a *ℤ b)
-product_fits a b m n h k l = fits128 (a *ℤ b) (m * n) (abs_mul a b m n h k) l
 
 pub scaled_some : (s : ℕ) (n : ℤ) → 1 ≤ s → pos 1 ≤ℤ n → pos 1 ≤ℤ (pos s *ℤ n)
 scaled_some s (pos n) h k = let one : 1 ≤ n = omega (arith, ints, k) in let more : 1 * 1 ≤ s * n = mul-le-mul h one in omega (arith, ints, more)

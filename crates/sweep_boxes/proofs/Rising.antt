@@ -11,9 +11,9 @@ use Rattle.bern_form.specs.Slab.{SlabSize}
 use Rattle.bern_form.proofs.Finer.{ExcludedWith}
 use Rattle.bern_form.proofs.HalfSigns.{all_five}
 use Rattle.bern_form.proofs.Relations.{AllNegative}
+use Rattle.sweep_boxes.proofs.Intervals.{behind_tip, height, height0, height1, height2, height3, height4, height_bend, height_change, height_first, height_last, height_middle, lift_height, lift_of, lift6, six, z6}
 use Rattle.sweep_boxes.proofs.Kept.{under_or}
 use Rattle.sweep_boxes.proofs.Numbers.{most_or_more}
-use Rattle.sweep_boxes.proofs.Pieces.{behind_tip, height, height0, height1, height2, height3, height4, height_bend, height_change, height_first, height_last, height_middle, lift_height, lift_of, lift6, six, z6}
 
 -- z n is at least (r / 4)^2 at both ends, and z times the product of the axes there, so each coefficient of degree 4 is at least as
 -- many times that
@@ -31,7 +31,7 @@ ac = mul z6 (dots (from 0) (from 3))
 abbrev cc : Term
 cc = mul z6 (dots (from 3) (from 3))
 
--- a coefficient of the lift, and what a height's coefficient takes away
+-- a coefficient of the height slack, and what a height's coefficient takes away
 abbrev taken : ℤ → List ℤ → List ℤ → ℕ → ℤ
 taken z a c i = pos 4 *ℤ ((pos 4 *ℤ z) *ℤ at (lift_of a c) i)
 
@@ -99,7 +99,7 @@ below_slab p q a c z r m n least h =
     (below16 _ _ _ (4 * (r * r)) (height3 p q a c z) (four_below _ (r * r) (product_within Y1 Z1 r y e)) l.3)
     (below16 _ _ _ (r * r) (height4 p q a c z) (product_within Z1 Z1 r e e) l.4)
 
--- so a place of a slab is no lower than it begins, but for what its height may change by
+-- so a place of a slab is no lower than the slab begins, except for what its height may change by
 pub risen_by : (p q a c : List ℤ) (S : ℕ) (slab : SlabSize) (r m n : ℕ) → IsAtLeast (scaled_square S slab.lo) a c r
     → ¬ ExcludedWith slab S (dot_on_cell p q a c) (dot_on_cell a c a c) (dot_on_cell p q p q)
     → unsigned_abs (height_change p q a c) ≤ m → unsigned_abs (height_bend p q a c) ≤ n → 2 * (m + n) < r → (pos r -ℤ pos (m + n)) ≤ℤ height p q a c

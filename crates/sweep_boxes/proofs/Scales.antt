@@ -3,7 +3,7 @@ use Rattle.std.proofs.Common.{◌≡◌, ℕ, zero, suc, ◌+◌, ◌*◌, ◌�
 use Rattle.std.proofs.lemmas.Int.{ints}
 use Rattle.std.proofs.Math.Nat.{mul-le-mul}
 use Rattle.std.specs.List.{All}
-use Rattle.space.specs.Motion.{Motion, axis_at, between, offset, offset_at}
+use Rattle.space.specs.Sweeps.{SweepOf, axis_at, between, offset, offset_at}
 use Rattle.space.specs.Vectors.{at}
 use Rattle.space.proofs.Solver.{Term, var, num, add, mul, ring}
 use Rattle.space.proofs.Terms.{from, sub}
@@ -44,11 +44,11 @@ offset_grown k S t p f e =
       both : (S t p b : ℤ) → (S *ℤ t) *ℤ p -ℤ t *ℤ b ≡ t *ℤ (S *ℤ p -ℤ b)
       both S t p b = ring (S ∷ t ∷ p ∷ b ∷ []) (sub (mul (mul (var 0) (var 1)) (var 2)) (mul (var 1) (var 3))) (mul (var 1) (sub (mul (var 0) (var 2)) (var 3))) refl
 
-offsets_grown : (m : Motion) (p : List ℤ) (k S t : ℕ) → offset_at m p (pos (k * t)) (pos (S * t)) ≡ grown (pos t) (offset_at m p (pos k) (pos S))
+offsets_grown : (m : SweepOf) (p : List ℤ) (k S t : ℕ) → offset_at m p (pos (k * t)) (pos (S * t)) ≡ grown (pos t) (offset_at m p (pos k) (pos S))
 offsets_grown m p k S t =
     same3 _ _ _ _ _ _ (offset_grown k S t (at p 0) (at m.from 0) (at m.to 0)) (offset_grown k S t (at p 1) (at m.from 1) (at m.to 1)) (offset_grown k S t (at p 2) (at m.from 2) (at m.to 2))
 
-axes_grown : (m : Motion) (k S t : ℕ) → axis_at m (pos (k * t)) (pos (S * t)) ≡ grown (pos t) (axis_at m (pos k) (pos S))
+axes_grown : (m : SweepOf) (k S t : ℕ) → axis_at m (pos (k * t)) (pos (S * t)) ≡ grown (pos t) (axis_at m (pos k) (pos S))
 axes_grown m k S t =
     same3 _ _ _ _ _ _ (between_grown k S t (at m.axis_from 0) (at m.axis_to 0)) (between_grown k S t (at m.axis_from 1) (at m.axis_to 1)) (between_grown k S t (at m.axis_from 2) (at m.axis_to 2))
 
@@ -68,7 +68,7 @@ dot_grown t p q a c =
     let l = on_cell (g 0) (g 3) (g 6) (g 9) in let r = λ (k : ℕ). mul (mul T T) (on_cell (from 0) (from 3) (from 6) (from 9) k) in
     same3 _ _ _ _ _ _ (ring e (l 0) (r 0) refl) (ring e (l 1) (r 1) refl) (ring e (l 2) (r 2) refl)
 
-u_grown : (m : Motion) (p : List ℤ) (j k S t : ℕ) → u_between m p (j * t) (k * t) (S * t) ≡ scaled2 (pos t *ℤ pos t) (u_between m p j k S)
+u_grown : (m : SweepOf) (p : List ℤ) (j k S t : ℕ) → u_between m p (j * t) (k * t) (S * t) ≡ scaled2 (pos t *ℤ pos t) (u_between m p j k S)
 u_grown m p j k S t =
     ap (λ v. dot_on_cell v (offset_at m p (pos (k * t)) (pos (S * t))) (axis_at m (pos (j * t)) (pos (S * t))) (axis_at m (pos (k * t)) (pos (S * t)))) (offsets_grown m p j S t)
     ∙ ap (λ v. dot_on_cell (grown (pos t) (offset_at m p (pos j) (pos S))) v (axis_at m (pos (j * t)) (pos (S * t))) (axis_at m (pos (k * t)) (pos (S * t)))) (offsets_grown m p k S t)
@@ -76,13 +76,13 @@ u_grown m p j k S t =
     ∙ ap (λ v. dot_on_cell (grown (pos t) (offset_at m p (pos j) (pos S))) (grown (pos t) (offset_at m p (pos k) (pos S))) (grown (pos t) (axis_at m (pos j) (pos S))) v) (axes_grown m k S t)
     ∙ dot_grown (pos t) (offset_at m p (pos j) (pos S)) (offset_at m p (pos k) (pos S)) (axis_at m (pos j) (pos S)) (axis_at m (pos k) (pos S))
 
-n_grown : (m : Motion) (j k S t : ℕ) → n_between m (j * t) (k * t) (S * t) ≡ scaled2 (pos t *ℤ pos t) (n_between m j k S)
+n_grown : (m : SweepOf) (j k S t : ℕ) → n_between m (j * t) (k * t) (S * t) ≡ scaled2 (pos t *ℤ pos t) (n_between m j k S)
 n_grown m j k S t =
     let a = axis_at m (pos j) (pos S) in let c = axis_at m (pos k) (pos S) in
     ap (λ v. dot_on_cell v (axis_at m (pos (k * t)) (pos (S * t))) v (axis_at m (pos (k * t)) (pos (S * t)))) (axes_grown m j S t)
     ∙ ap (λ v. dot_on_cell (grown (pos t) a) v (grown (pos t) a) v) (axes_grown m k S t) ∙ dot_grown (pos t) a c a c
 
-d_grown : (m : Motion) (p : List ℤ) (j k S t : ℕ) → d_between m p (j * t) (k * t) (S * t) ≡ scaled2 (pos t *ℤ pos t) (d_between m p j k S)
+d_grown : (m : SweepOf) (p : List ℤ) (j k S t : ℕ) → d_between m p (j * t) (k * t) (S * t) ≡ scaled2 (pos t *ℤ pos t) (d_between m p j k S)
 d_grown m p j k S t =
     let a = offset_at m p (pos j) (pos S) in let c = offset_at m p (pos k) (pos S) in
     ap (λ v. dot_on_cell v (offset_at m p (pos (k * t)) (pos (S * t))) v (offset_at m p (pos (k * t)) (pos (S * t)))) (offsets_grown m p j S t)
@@ -180,7 +180,7 @@ excluded_grown s S t u n d some long x =
       fourth_is : (t : ℕ) → (pos t *ℤ pos t) *ℤ (pos t *ℤ pos t) ≡ pos (t * t * (t * t))
       fourth_is t = ap (λ (y : ℤ). y *ℤ y) (square_is t) ∙ square_is (t * t)
 
-pub out_grown : (slabs : List SlabSize) (m : Motion) (p : List ℤ) (j k S t : ℕ) → 0 < t → AllOut slabs m p j k S → AllOut slabs m p (j * t) (k * t) (S * t)
+pub out_grown : (slabs : List SlabSize) (m : SweepOf) (p : List ℤ) (j k S t : ℕ) → 0 < t → AllOut slabs m p j k S → AllOut slabs m p (j * t) (k * t) (S * t)
 out_grown slabs m p j k S t some out = record {
   each = λ s among.
       let T : ℤ = pos t *ℤ pos t in

@@ -1,13 +1,12 @@
--- The axis at both ends of a piece, by that in the middle and by what it turns.
+-- The axis at both ends of an interval, by that in the middle and by what it turns.
 use Rattle.std.proofs.Common.{◌≡◌, ℕ, ◌*◌, ◌≤◌, List, [], ◌∷◌, ℤ, pos, negsuc, ◌+ℤ◌, ◌*ℤ◌, ◌-ℤ◌, ◌≤ℤ◌, unsigned_abs, arith, refl, sym, subst}
 use Rattle.std.proofs.lemmas.Int.{ints}
 use Rattle.std.proofs.Math.Nat.{mul-le-mul}
-use Rattle.space.specs.Vectors.{at, dot}
+use Rattle.space.specs.Vectors.{at, difference, dot, sum}
 use Rattle.space.proofs.Solver.{Term, num, add, mul, ring}
 use Rattle.space.proofs.Terms.{dots, from, sub}
 use Rattle.bern_form.specs.Cells.{scaled_square}
-use Rattle.sweep_boxes.specs.Ladders.{IsShortest}
-use Rattle.sweep_boxes.specs.Vectors.{difference, sum}
+use Rattle.sweep_boxes.specs.BandTerms.{IsShortest}
 use Rattle.sweep_boxes.proofs.Rising.{IsAtLeast}
 use Rattle.sweep_boxes.proofs.Triangle.{square_of_abs}
 

@@ -1,11 +1,10 @@
 -- A point's place along each axis, by its height and its moment about a tip: |a|^2 p = (p.a) a + a x (p x a).
 use Rattle.std.proofs.Common.{◌≡◌, ℕ, zero, suc, ◌*◌, ◌≤◌, ◌<◌, [], ◌∷◌, List, ℤ, pos, ◌+ℤ◌, ◌*ℤ◌, ◌-ℤ◌, ◌≤ℤ◌, unsigned_abs, arith, refl, sym, subst, ◌∙◌}
 use Rattle.std.proofs.lemmas.Int.{ints}
-use Rattle.space.specs.Vectors.{at, dot}
+use Rattle.space.specs.Vectors.{at, cross, dot}
 use Rattle.space.proofs.Naturals.{square_not_negative}
 use Rattle.space.proofs.Solver.{Term, var, num, add, mul, ring}
 use Rattle.space.proofs.Terms.{dots, from, sub, square}
-use Rattle.sweep_boxes.specs.Vectors.{cross}
 use Rattle.sweep_boxes.proofs.Triangle.{schwarz}
 
 abbrev pair : List ℤ → List ℤ → List ℤ

@@ -1,14 +1,14 @@
--- The spare of a piece: how much a moment can change, with twice how far its way is bent. Its parts are lengths, as words.
+-- The spare of an interval: how much a moment can change, with twice how far its way is bent. Its parts are lengths, as words.
 use Rattle.std.proofs.Common.{◌≡◌, false, ◌≤◌, ◌<◌, ◌*◌, ◌^◌, ◌≤ℤ◌, ◌+◌, ◌+ℤ◌, ◌*ℤ◌, List, ℤ, pos, to_z, of_z, unsigned_abs, arith, ap, subst, ◌∙◌}
 use Rattle.std.specs.Int.Signed.{lt_z}
 use Rattle.std.proofs.lemmas.Int.{ints}
 use lib.Signed.{mag}
 use mir.Syntax.{w128}
-use Rattle.space.specs.Vectors.{dot}
-use Rattle.sweep_boxes.specs.Pieces.{IsNearer}
-use Rattle.sweep_boxes.specs.Vectors.{cross, sum}
-use Rattle.sweep_boxes.specs.declared.piece.Piece.{Piece}
-use Rattle.sweep_boxes.proofs.Words.{kept_some, read_out, small_up_to, summand, twice, two_read}
+use Rattle.space.specs.Vectors.{cross, dot, sum}
+use Rattle.sweep_boxes.specs.Intervals.{IsNearer}
+use Rattle.sweep_boxes.specs.declared.sweep_interval.SweepInterval.{SweepInterval}
+use Rattle.space.proofs.Words.{kept_some, read_out, two_read}
+use Rattle.sweep_boxes.proofs.Words.{small_up_to, summand, twice}
 
 pub bent_parts : (bent : ℤ) → mag bent < 2 ^ 127 → unsigned_abs bent ≤ 10 ^ 18
     → record { a : unsigned_abs (to_z w128 (of_z w128 bent)) ≤ 10 ^ 37; b : unsigned_abs (to_z w128 (of_z w128 bent)) ≤ 10 ^ 37 }
@@ -42,16 +42,16 @@ spare_thirds spare whole third fits is h =
     subst (λ (z : ℤ). (z *ℤ z) ≤ℤ (pos 3 *ℤ third)) is (read_out (λ (z : ℤ). (z *ℤ z) ≤ℤ (pos 3 *ℤ third)) spare fits h)
 
 -- what the change and the bent way bound
-pub changes_of : (piece : Piece) (far drift sizes : List ℤ) (change : ℤ) → drift ≡ cross piece.shift piece.axis
-    → IsNearer piece.turn sizes
+pub changes_of : (interval : SweepInterval) (far drift sizes : List ℤ) (change : ℤ) → drift ≡ cross interval.offset_change interval.axis
+    → IsNearer interval.axis_change sizes
     → ((v e : List ℤ) → IsNearer v far → IsNearer e sizes → dot (sum drift (cross v e)) (sum drift (cross v e)) ≤ℤ (change *ℤ change))
     → (v : List ℤ) → IsNearer v far
-    → dot (sum (cross piece.shift piece.axis) (cross v piece.turn)) (sum (cross piece.shift piece.axis) (cross v piece.turn))
+    → dot (sum (cross interval.offset_change interval.axis) (cross v interval.axis_change)) (sum (cross interval.offset_change interval.axis) (cross v interval.axis_change))
     ≤ℤ (change *ℤ change)
-changes_of piece far drift sizes change is turned below v near =
-    subst (λ (d : List ℤ). dot (sum d (cross v piece.turn)) (sum d (cross v piece.turn)) ≤ℤ (change *ℤ change)) is
-    (below v piece.turn near turned)
+changes_of interval far drift sizes change is turned below v near =
+    subst (λ (d : List ℤ). dot (sum d (cross v interval.axis_change)) (sum d (cross v interval.axis_change)) ≤ℤ (change *ℤ change)) is
+    (below v interval.axis_change near turned)
 
-pub bends_of : (piece : Piece) (bend : List ℤ) (bent : ℤ) → bend ≡ cross piece.shift piece.turn → dot bend bend ≤ℤ (bent *ℤ bent)
-    → dot (cross piece.shift piece.turn) (cross piece.shift piece.turn) ≤ℤ (bent *ℤ bent)
-bends_of piece bend bent is below = subst (λ (d : List ℤ). dot d d ≤ℤ (bent *ℤ bent)) is below
+pub bends_of : (interval : SweepInterval) (bend : List ℤ) (bent : ℤ) → bend ≡ cross interval.offset_change interval.axis_change → dot bend bend ≤ℤ (bent *ℤ bent)
+    → dot (cross interval.offset_change interval.axis_change) (cross interval.offset_change interval.axis_change) ≤ℤ (bent *ℤ bent)
+bends_of interval bend bent is below = subst (λ (d : List ℤ). dot d d ≤ℤ (bent *ℤ bent)) is below

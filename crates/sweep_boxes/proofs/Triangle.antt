@@ -4,11 +4,10 @@ use Rattle.std.proofs.lemmas.Int.{ints}
 use Rattle.std.proofs.lemmas.Bool.{cases_lt}
 use Rattle.std.proofs.Math.Nat.{mul-le-mul}
 use borrow.Author.Differences.{abs_is}
-use Rattle.space.specs.Vectors.{at, dot}
+use Rattle.space.specs.Vectors.{at, difference, dot, sum}
 use Rattle.space.proofs.Naturals.{dot_natural, natural, spread_natural}
 use Rattle.space.proofs.Solver.{num, add, mul, ring}
 use Rattle.space.proofs.Terms.{dots, from, sub}
-use Rattle.sweep_boxes.specs.Vectors.{difference, sum}
 
 -- a number whose square is at most that of another is at most the other
 root_below : (k n : ℕ) → k * k ≤ n * n → k ≤ n

@@ -1,7 +1,7 @@
 -- A box along the axes.
 use Rattle.std.specs.Prelude.{List, ℤ}
 use Rattle.sweep_boxes.specs.declared.point_box.PointBox.{PointBox}
-use Rattle.sweep_boxes.specs.Pieces.{IsAmong}
+use Rattle.sweep_boxes.specs.Intervals.{IsAmong}
 
 -- the point lies in the box, its ends included
 abbrev pub IsInBox : PointBox → List ℤ → Type 0

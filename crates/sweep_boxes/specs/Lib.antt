@@ -1,11 +1,10 @@
 pub mod Limits
-pub mod Vectors
-pub mod Pieces
+pub mod Intervals
 pub mod Made
 pub mod Boxes
 pub mod Held
-pub mod Levels
+pub mod Bands
 pub mod Lines
-pub mod Ladders
+pub mod BandTerms
 pub mod Covers
 pub mod Cylinders

@@ -5,13 +5,9 @@ use Rattle.std.specs.Prelude.{ℕ}
 abbrev pub most_level : ℕ
 most_level = 6
 
--- no component of a vector here is greater
-abbrev pub side_limit : ℕ
-side_limit = 300000000
-
 -- no component of the side that a breadth is measured along is greater
-abbrev pub aim_limit : ℕ
-aim_limit = 8
+abbrev pub side_component_limit : ℕ
+side_component_limit = 8
 
 -- no coordinate of a box is further from zero: a micrometre more than a metre, for boxes that hold no point
 abbrev pub place_limit : ℕ

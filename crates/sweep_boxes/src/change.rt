@@ -1,17 +1,15 @@
 ghost use Rattle.std.specs.Prelude.{◌≡◌, ◌*◌, ◌+◌, ◌<◌, ◌≤◌, ◌^◌, ◌*ℤ◌, ◌+ℤ◌, ◌-ℤ◌, ◌≤ℤ◌, List, ℤ, pos, unsigned_abs};
-ghost use Rattle.space.specs.Ranges.{IsWithin};
-ghost use Rattle.space.specs.Vectors.{at, dot};
-ghost use Rattle.sweep_boxes.specs.Limits.{side_limit};
-ghost use Rattle.sweep_boxes.specs.Pieces.{IsNearer};
-ghost use Rattle.sweep_boxes.specs.Vectors.{cross, sum};
+ghost use Rattle.space.specs.Ranges.{IsWithin, vector_limit};
+ghost use Rattle.space.specs.Vectors.{at, cross, dot, sum};
+ghost use Rattle.sweep_boxes.specs.Intervals.{IsNearer};
 
-use crate::vector::{length_up, product};
+use space::{length_up, product};
 
 /// How far from zero a component of a vector is.
 #[inline]
 pub fn length_along(v: &[i128; 3], i: usize) -> i128
     requires i { i < 3 }
-    requires v { unsigned_abs (at v.now i) ≤ 2 * (side_limit * side_limit) }
+    requires v { unsigned_abs (at v.now i) ≤ 2 * (vector_limit * vector_limit) }
     ensures { result ≡ pos (unsigned_abs (at v.now i)) }
 {
     if v[i] < 0 { -v[i] } else { v[i] }
@@ -22,7 +20,7 @@ pub fn length_along(v: &[i128; 3], i: usize) -> i128
 fn change_along(
     c: &[i128; 3],
     far: &[i128; 3],
-    turn: &[i128; 3],
+    axis_change: &[i128; 3],
     i: usize,
     j: usize,
     k: usize,
@@ -30,37 +28,37 @@ fn change_along(
     requires i { i < 3 }
     requires j { j < 3 }
     requires k { k < 3 }
-    requires c { unsigned_abs (at c.now i) ≤ 2 * (side_limit * side_limit) }
-    requires far_j { unsigned_abs (at far.now j) ≤ side_limit }
-    requires far_k { unsigned_abs (at far.now k) ≤ side_limit }
-    requires turn_j { unsigned_abs (at turn.now j) ≤ side_limit }
-    requires turn_k { unsigned_abs (at turn.now k) ≤ side_limit }
-    ensures value { result ≡ (pos (unsigned_abs (at c.now i)) +ℤ at far.now j *ℤ at turn.now k) +ℤ at far.now k *ℤ at turn.now j }
-    ensures small { unsigned_abs result ≤ 4 * (side_limit * side_limit) }
+    requires c { unsigned_abs (at c.now i) ≤ 2 * (vector_limit * vector_limit) }
+    requires far_j { unsigned_abs (at far.now j) ≤ vector_limit }
+    requires far_k { unsigned_abs (at far.now k) ≤ vector_limit }
+    requires axis_change_j { unsigned_abs (at axis_change.now j) ≤ vector_limit }
+    requires axis_change_k { unsigned_abs (at axis_change.now k) ≤ vector_limit }
+    ensures value { result ≡ (pos (unsigned_abs (at c.now i)) +ℤ at far.now j *ℤ at axis_change.now k) +ℤ at far.now k *ℤ at axis_change.now j }
+    ensures small { unsigned_abs result ≤ 4 * (vector_limit * vector_limit) }
 {
-    length_along(c, i) + product(far, j, turn, k) + product(far, k, turn, j)
+    length_along(c, i) + product(far, j, axis_change, k) + product(far, k, axis_change, j)
 }
 
 /// A length that no sum of c and of the cross product of two vectors has more of, by how far from zero their components are.
-pub fn change_limit(c: &[i128; 3], far: &[i128; 3], turn: &[i128; 3]) -> i128
-    requires c { IsWithin (2 * (side_limit * side_limit)) c.now }
-    requires far { IsWithin side_limit far.now }
-    requires turn { IsWithin side_limit turn.now }
-    ensures value { (v e : List ℤ) → IsNearer v far.now → IsNearer e turn.now
+pub fn change_limit(c: &[i128; 3], far: &[i128; 3], axis_change: &[i128; 3]) -> i128
+    requires c { IsWithin (2 * (vector_limit * vector_limit)) c.now }
+    requires far { IsWithin vector_limit far.now }
+    requires axis_change { IsWithin vector_limit axis_change.now }
+    ensures value { (v e : List ℤ) → IsNearer v far.now → IsNearer e axis_change.now
         → dot (sum c.now (cross v e)) (sum c.now (cross v e)) ≤ℤ (result *ℤ result) }
     ensures some { pos 0 ≤ℤ result }
     ensures small { unsigned_abs result ≤ 10 ^ 18 }
 {
     length_up(
-        change_along(c, far, turn, 0, 1, 2),
-        change_along(c, far, turn, 1, 2, 0),
-        change_along(c, far, turn, 2, 0, 1),
+        change_along(c, far, axis_change, 0, 1, 2),
+        change_along(c, far, axis_change, 1, 2, 0),
+        change_along(c, far, axis_change, 2, 0, 1),
     )
 }
 
 /// A length that a vector has no more of.
 pub fn length_limit(v: &[i128; 3]) -> i128
-    requires { IsWithin (2 * (side_limit * side_limit)) v.now }
+    requires { IsWithin (2 * (vector_limit * vector_limit)) v.now }
     ensures value { dot v.now v.now ≤ℤ (result *ℤ result) }
     ensures some { pos 0 ≤ℤ result }
     ensures small { unsigned_abs result ≤ 10 ^ 18 }

@@ -1,14 +1,15 @@
 ghost use Rattle.std.specs.Prelude.{◌≡◌, ◌+◌, ◌*◌, ◌<◌, ◌≤◌, ◌^◌, ◌≤ℤ◌, ◌*ℤ◌, ℕ, pos, unsigned_abs};
-ghost use Rattle.space.specs.Motion.{between};
-ghost use Rattle.space.specs.Ranges.{IsWithin};
+ghost use Rattle.space.specs.Ranges.{IsWithin, vector_limit};
+ghost use Rattle.space.specs.Sweeps.{between};
 ghost use Rattle.space.specs.Vectors.{at, dot};
-ghost use Rattle.sweep_boxes.specs.Limits.{most_level, place_limit, side_limit};
-ghost use Rattle.sweep_boxes.specs.Made.{IsPieceOf};
-ghost use Rattle.sweep_boxes.specs.Pieces.{between_ends};
+ghost use Rattle.sweep_boxes.specs.Intervals.{between_ends};
+ghost use Rattle.sweep_boxes.specs.Limits.{most_level, place_limit};
+ghost use Rattle.sweep_boxes.specs.Made.{IsSweepInterval};
 
-use crate::piece::Piece;
-use crate::vector::{difference, dot, weighted};
+use crate::sweep_interval::SweepInterval;
+use crate::weight::weighted;
 use axis_cells::Sweep;
+use space::{difference, dot};
 
 /// The place between two ends along an axis at the time `time` / `whole`, times `whole`.
 #[inline]
@@ -42,12 +43,12 @@ fn places(time: u32, whole: u32, from: &[i32; 3], to: &[i32; 3]) -> [i128; 3]
 
 /// The greater square of two vectors.
 fn longer(first: &[i128; 3], last: &[i128; 3]) -> i128
-    requires first { IsWithin side_limit first.now }
-    requires last { IsWithin side_limit last.now }
+    requires first { IsWithin vector_limit first.now }
+    requires last { IsWithin vector_limit last.now }
     ensures first { dot first.now first.now ≤ℤ result }
     ensures last { dot last.now last.now ≤ℤ result }
     ensures some { pos 0 ≤ℤ result }
-    ensures small { result ≤ℤ pos (3 * (side_limit * side_limit)) }
+    ensures small { result ≤ℤ pos (3 * (vector_limit * vector_limit)) }
 {
     let first = dot(first, first);
     let last = dot(last, last);
@@ -55,20 +56,20 @@ fn longer(first: &[i128; 3], last: &[i128; 3]) -> i128
 }
 
 /// Part `cell` of 2^`level` of a move.
-pub fn piece_of(sweep: &Sweep, level: u32, cell: u32) -> Piece
+pub fn interval_of(sweep: &Sweep, level: u32, cell: u32) -> SweepInterval
     requires level { level ≤ most_level }
     requires cell { cell < 2 ^ level }
-    ensures { IsPieceOf result sweep.now cell (2 ^ level) }
+    ensures { IsSweepInterval result sweep.now cell (2 ^ level) }
 {
     let parts = parts_of(level);
     let first = places(cell, parts, &sweep.axis_from, &sweep.axis_to);
     let last = places(cell + 1, parts, &sweep.axis_from, &sweep.axis_to);
-    Piece {
+    SweepInterval {
         scale: 2 * parts,
         tip: places(2 * cell + 1, 2 * parts, &sweep.from, &sweep.to),
         axis: places(2 * cell + 1, 2 * parts, &sweep.axis_from, &sweep.axis_to),
-        shift: difference(&sweep.from, &sweep.to),
-        turn: difference(&sweep.axis_to, &sweep.axis_from),
+        offset_change: difference(&sweep.from, &sweep.to),
+        axis_change: difference(&sweep.axis_to, &sweep.axis_from),
         longest: longer(&first, &last),
     }
 }

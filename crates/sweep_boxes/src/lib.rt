@@ -1,33 +1,34 @@
 //! Boxes that hold all points which a part of a move may meet.
 #![tactic(auto)]
 
-mod aim;
 mod around;
+mod band;
+mod band_terms;
+mod bands;
+mod bounds;
 mod boxes;
-mod breadth;
 mod change;
+mod clip;
 mod cut;
 mod cylinder;
-mod held;
-mod hold;
-mod ladder;
-mod level;
-mod levels;
+mod cylinder_bounds;
 mod line;
 mod narrow;
-mod near;
 mod offsets;
-mod piece;
 mod point_box;
+mod rise;
 mod shared;
 mod side;
+mod side_bound;
+mod side_direction;
 mod size;
+mod slab_step;
 mod spread;
-mod step;
-mod vector;
+mod sweep_interval;
+mod weight;
 
 pub use around::cylinder_of;
+pub use band::Band;
 pub use boxes::push_boxes;
-pub use cylinder::{BoundingCylinder, LEVELS};
-pub use level::Level;
+pub use cylinder::{BANDS, BoundingCylinder};
 pub use point_box::PointBox;

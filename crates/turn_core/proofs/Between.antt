@@ -211,7 +211,7 @@ asked_between plan job queries before after step asks of all is =
     let up = (step_up plan queries (versions_of before) step asks (strips_within plan job before of all)).up in
     subst (λ (z : List ℕ). AreBetween (versions_of before) high z) (sym is) (record { later = up; short = up_same high })
 
--- strips that were stopped at a step are between where they stood at first and where all steps lead
+-- strips that were stopped at a step are between where they were at first and where all steps lead
 pub stopped_at : (plan : PlanOf) (job : Job) (queries : List Query) (before now after : List StripOf) (steps : List Step) (k : ℕ)
     (x : Step) → k < length steps → All (IsQuery plan.grid (length plan.edits)) queries → AreOfPlan plan before → AreStrips job before
     → versions_of now ≡ after_steps plan queries (versions_of before) (take k steps)

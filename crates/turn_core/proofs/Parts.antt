@@ -10,12 +10,12 @@ use Rattle.ray_grid.specs.Grids.{GridSize}
 use Rattle.ray_grid.specs.declared.ray.Ray.{Ray}
 use Rattle.ray_grid.specs.Points.{LatticePoint, lattice_of, points_on}
 use Rattle.ray_grid.specs.Strips.{strip_at, strips_of}
-use Rattle.job_facts.specs.declared.totals.Totals.{Totals}
-use Rattle.job_facts.specs.Totals.{TotalsWithin, plus_totals}
+use Rattle.job_counts.specs.declared.totals.Totals.{Totals}
+use Rattle.job_counts.specs.Totals.{TotalsWithin, plus_totals}
 use Rattle.job_model.specs.Points.{is_stock, some_possible, some_sure, strip_points, totals_over}
 use Rattle.job_model.specs.Tasks.{Job, JobMove}
 
--- the points of the first so many strips
+-- the points of the first k strips
 abbrev pub first_points : GridSize → ℕ → List LatticePoint
 first_points grid k = flat_map (flat_map (points_on grid)) (take k (strips_of grid))
 

@@ -1,4 +1,4 @@
--- What is read of a strip after it was replaced is what is so of the strip of its number.
+-- What is read of a strip after it was replaced is what is true of the strip of its number.
 use Rattle.std.proofs.Common.{◌≡◌, ℕ, ◌<◌, List, Some, length, get_or, set, arith, sym, ap, ap₂, ◌∙◌, subst}
 use Rattle.std.specs.List.{slice_get}
 use Rattle.std.proofs.lemmas.List.{get_or-set_same}
@@ -10,7 +10,7 @@ use Rattle.ray_grid.specs.declared.ray.Ray.{Ray}
 use Rattle.ray_grid.specs.Lattice.{points_of}
 use Rattle.ray_grid.specs.Points.{LatticePoint, lattice_of}
 use Rattle.ray_grid.specs.Strips.{strip_at}
-use Rattle.job_facts.specs.Totals.{TotalsWithin}
+use Rattle.job_counts.specs.Totals.{TotalsWithin}
 use Rattle.job_model.specs.Points.{left_moves, strip_points, totals_over}
 use Rattle.job_model.specs.Tasks.{Job, PlanOf}
 use Rattle.strip_journal.specs.Strips.{StripOf}
@@ -54,7 +54,7 @@ job_set job strips k x new z all lt moved =
     ap (λ (s : StripOf). s.job) (read_set strips k new z lt) ∙ moved.job
     ∙ (all.each k (get_or strips k x) (slice_get-get_or strips k x lt)).job_is
 
--- what a strip counts, that is read after the write, is what is so of the strip of its number
+-- what a strip counts, that is read after the write, is what is true of the strip of its number
 pub counts_set : (plan : PlanOf) (job : Job) (strips : List StripOf) (k : ℕ) (x new z : StripOf) (version : ℕ) → AreOfPlan plan strips
     → AreStrips job strips → k < length strips → IsMoved (get_or strips k x) new
     → totals_over (get_or (set strips k new) k z).job

@@ -1,6 +1,6 @@
 -- A strip that is seen at an earlier version than its own: what it counts at a version, and where it is the strip that is seen.
 use Rattle.std.proofs.Common.{◌≡◌, ℕ, sym, ap, ◌∙◌, subst}
-use Rattle.job_facts.specs.declared.totals.Totals.{Totals}
+use Rattle.job_counts.specs.declared.totals.Totals.{Totals}
 use Rattle.job_model.specs.Points.{left_moves, strip_points, totals_over}
 use Rattle.strip_journal.specs.Strips.{StripOf}
 

@@ -1,4 +1,4 @@
--- The versions of the strips after one of them, or the first so many, were raised.
+-- The versions of the strips after one of them, or the first k, were raised.
 use Rattle.std.proofs.Common.{◌≡◌, ℕ, ◌+◌, ◌<◌, ◌≤◌, List, ◌++◌, length, map, take, drop, get_or, set, max, min, arith, sym, ap, ap₂, ◌∙◌}
 use Rattle.std.proofs.lemmas.List.{append-nil, drop_all, get_or-map, map-set, take_all}
 use Rattle.std.proofs.lemmas.List.Edits.{map_over_more}
@@ -12,7 +12,7 @@ pub version_at : (strips : List StripOf) (k : ℕ) (x : StripOf) → k < length 
     → (get_or strips k x).done ≡ get_or (versions_of strips) k 0
 version_at strips k x lt = sym (get_or-map (λ (z : StripOf). z.done) strips k x 0 lt)
 
--- the first so many versions raised
+-- the first k versions raised
 abbrev pub first_raised : ℕ → ℕ → List ℕ → List ℕ
 first_raised version k versions = map (λ v. max v version) (take k versions) ++ drop k versions
 

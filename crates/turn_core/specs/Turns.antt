@@ -8,7 +8,7 @@ pub record IsRaised (before after : StripOf) (version : ℕ) : Type 0 where
   pub number : after.number ≡ before.number
   pub done : after.done ≡ version
 
--- the same strip at its version or a later one, short of that which it was to come to
+-- the same strip at its version or a later one, short of the one that it was to reach
 pub record IsStopped (before after : StripOf) (version : ℕ) : Type 0 where
   pub job : after.job ≡ before.job
   pub number : after.number ≡ before.number

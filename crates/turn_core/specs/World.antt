@@ -5,7 +5,7 @@ use Rattle.ray_grid.specs.Strips.{strip_number, strips_of}
 use Rattle.edit_plan.specs.declared.query.Ask.{Ask}
 use Rattle.edit_plan.specs.declared.query.Ask.TheVariants as asks
 use Rattle.edit_plan.specs.declared.query.Query.{Query}
-use Rattle.job_facts.specs.declared.totals.Answer.{Answer}
+use Rattle.job_counts.specs.declared.totals.Answer.{Answer}
 use Rattle.job_model.specs.Points.{left_moves}
 use Rattle.job_model.specs.Answers.{answer_after}
 use Rattle.job_model.specs.Tasks.{Job, PlanOf}
@@ -34,7 +34,7 @@ pub record AreOfPlan (plan : PlanOf) (strips : List StripOf) : Type 0 where
 abbrev pub versions_of : List StripOf → List ℕ
 versions_of strips = map (λ s. s.done) strips
 
--- a step is about a strip of the plan, or one of so many queries
+-- a step is about a strip of the plan, or one of `queries` queries
 abbrev pub IsStepOf : PlanOf → ℕ → Step → Type 0
 IsStepOf plan queries (turn_step strip) = strip < length (strips_of plan.grid)
 IsStepOf plan queries (ask_step query) = query < queries

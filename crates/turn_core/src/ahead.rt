@@ -3,12 +3,13 @@ ghost use Rattle.ray_grid.specs.declared.ray.Ray.{Ray};
 ghost use Rattle.ray_grid.specs.Lattice.{points_of};
 ghost use Rattle.ray_grid.specs.Strips.{strip_at};
 ghost use Rattle.edit_plan.specs.Limits.{most_edits};
-ghost use Rattle.job_model.specs.Points.{left_moves, point_in, state_after, strip_points, totals_over};
+ghost use Rattle.ray_grid.specs.Points.{point_in};
+ghost use Rattle.job_model.specs.Points.{left_moves, state_after, strip_points, totals_over};
 ghost use Rattle.turn_core.specs.Turns.{IsRaised, IsStopped};
 
 use crate::asking::state_at;
 use crate::turning::{EDITS, raise};
-use job_facts::{PointState, Totals};
+use job_counts::{PointState, Totals};
 use std::marker::Model;
 use std::snapshot::Snapshot;
 use strip_journal::Strip;
@@ -18,7 +19,7 @@ use vf_io::NoMemory;
 /// How many edits lie between a strip's stops: that many are done in one go.
 const STRETCH: u32 = 128;
 
-/// The first of a strip's stops that isn't ahead of a version. Strips whose numbers follow one another stop at different versions: so
+/// The first of a strip's stops that isn't before a version. Strips whose numbers follow one another stop at different versions: so
 /// of those that a move enters only a few have long turns at a time, and the workers meanwhile pass over the others.
 fn stop_from(number: u32, version: u32) -> u32
     requires { version ≤ most_edits }
@@ -33,7 +34,7 @@ fn stop_from(number: u32, version: u32) -> u32
 /// changes no byte, so the lines of the cache that it reads stay with all processors.
 #[derive(Drop)]
 pub struct AheadStrip {
-    /// The version at which it is seen: for contracts alone, without a byte.
+    /// The version at which it is seen: only for contracts, without a byte.
     seen: Snapshot<u32>,
     strip: Strip,
 }
@@ -60,9 +61,9 @@ impl AheadStrip {
         }
     }
 
-    /// Comes to be seen at a version. Where the edits up to it aren't done yet, they are done up to a stop. Want of memory for an edit past
-    /// the version is no failure: whoever needs the edit tries again. Where an edit up to the version found none, the strip comes to be
-    /// seen at the version that is answered.
+    /// Moves on to be seen at a version. Where the edits up to it aren't done yet, they are done up to a stop. Running out of memory for an
+    /// edit past the version is no failure: whoever needs the edit tries again. Where an edit up to the version found none, the strip is
+    /// then seen at the version that is returned.
     fn move_on(&mut self, plan: &Plan, version: u32, stop: u32) -> Result<(), u32>
         requires plan { self.old.job.plan ≡ plan.now }
         requires further { self.old.done ≤ version }
@@ -84,8 +85,8 @@ impl AheadStrip {
         Ok(())
     }
 
-    /// Takes the strip, that is seen at `from`, to a version, unless it is there or past it. After want of memory it tells at which version
-    /// in between the strip is seen.
+    /// Takes the strip, that is seen at `from`, to a version, unless it is there or past it. When out of memory it returns the version
+    /// in between at which the strip is seen.
     pub fn raise(&mut self, plan: &Plan, from: u32, version: u32) -> Result<(), u32>
         requires plan { self.old.job.plan ≡ plan.now }
         requires from { from ≡ self.old.done }
@@ -99,8 +100,8 @@ impl AheadStrip {
         self.move_on(plan, version, version)
     }
 
-    /// Does the next edits on the strip, that is seen at `from`: at most eight, or none where they are done. Both answers tell from which
-    /// version to which; after want of memory it stands short of where the turn would end.
+    /// Does the next edits on the strip, that is seen at `from`: at most eight, or none where they are done. Both answers say from which
+    /// version to which; when out of memory it stops short of where the turn would end.
     pub fn turn(&mut self, plan: &Plan, from: u32) -> Result<(u32, u32), (u32, u32)>
         requires plan { self.old.job.plan ≡ plan.now }
         requires from { from ≡ self.old.done }

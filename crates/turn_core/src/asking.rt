@@ -4,13 +4,14 @@ ghost use Rattle.ray_grid.specs.Lattice.{IsRay, points_of};
 ghost use Rattle.ray_grid.specs.Strips.{strip_at};
 ghost use Rattle.edit_plan.specs.Queries.{IsQuery};
 ghost use Rattle.edit_plan.specs.declared.query.Ask.TheVariants.{Count, Probe};
-ghost use Rattle.job_model.specs.Points.{left_moves, point_in, state_after, totals_after};
+ghost use Rattle.ray_grid.specs.Points.{point_in};
+ghost use Rattle.job_model.specs.Points.{left_moves, state_after, totals_after};
 ghost use Rattle.job_model.specs.Tasks.{Job};
 ghost use Rattle.turn_core.specs.World.{AreBetween, AreOfPlan, AreStrips, AreStripsAt, after_ask, answer_of, versions_of};
 
 use crate::turning::raise;
 use edit_plan::{Ask, Query};
-use job_facts::{Answer, PointState, Totals};
+use job_counts::{Answer, PointState, Totals};
 use ray_grid::Ray;
 use std::marker::Brand;
 use std::sync::ledger::{Blank, Ledger};
@@ -19,7 +20,7 @@ use strip_plan::Plan;
 use vf_io::NoMemory;
 use vf_steps::Steps;
 
-/// The state of a point of a strip's ray at a version, by a counter of steps that counts for nobody.
+/// The state of a point of a strip's ray at a version, by a counter of steps that nobody reads.
 fn counted_state<L: Ledger>(strip: &Strip, version: u32, n: u32, l: u32, blank: Blank) -> PointState
     requires name { blank.name ≡ L.name }
     requires parts { blank.parts ≡ L.parts }

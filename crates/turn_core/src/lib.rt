@@ -9,7 +9,7 @@ mod turning;
 
 pub use ahead::AheadStrip;
 pub use asking::state_at;
-pub use job_facts::Answer;
+pub use job_counts::Answer;
 pub use playing::play;
 pub use step::Step;
 pub use turning::{raise, turn_strip};

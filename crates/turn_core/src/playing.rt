@@ -8,7 +8,7 @@ use crate::asking::ask;
 use crate::step::Step;
 use crate::turning::turn_strip;
 use edit_plan::Query;
-use job_facts::Answer;
+use job_counts::Answer;
 use std::alloc::Global;
 use strip_journal::Strip;
 use strip_plan::Plan;
@@ -58,11 +58,11 @@ pub fn play(
     requires strips { AreOfPlan plan.now strips.old }
     requires queries { All (IsQuery plan.now.grid (length plan.now.edits)) queries.now }
     requires steps { All (IsStepOf plan.now (length queries.now)) steps.now }
-    // Each strip stands at the version where the core has it.
+    // Each strip is at the version where the core has it.
     ensures strips { OnOk result ((job : Job) → AreStrips job strips.old
         → AreStripsAt job strips.new (after_steps plan.now queries.now (versions_of strips.old) steps.now)) }
     ensures still { (job : Job) → AreStrips job strips.old → AreStrips job strips.new }
-    // After want of memory each strip stands where it stood, or further, and not past where the steps lead.
+    // When out of memory each strip is where it was, or further, and not past where the steps lead.
     ensures stopped { OnErr result ((job : Job) → AreStrips job strips.old → AreBetween (versions_of strips.old)
         (after_steps plan.now queries.now (versions_of strips.old) steps.now) (versions_of strips.new)) }
     // Each answer is the one at its own query's version.

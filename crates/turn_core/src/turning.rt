@@ -8,7 +8,7 @@ use vf_io::NoMemory;
 /// The edits that a turn does at the most.
 pub(crate) const EDITS: u32 = 8;
 
-/// Takes a strip to a version, unless it is there or past it. After want of memory it stands at a version in between.
+/// Takes a strip to a version, unless it is there or past it. When out of memory it is at a version in between.
 pub fn raise(strip: &mut Strip, plan: &Plan, version: u32) -> Result<(), NoMemory>
     requires plan { strip.old.job.plan ≡ plan.now }
     requires version { version ≤ length plan.now.edits }
@@ -17,14 +17,14 @@ pub fn raise(strip: &mut Strip, plan: &Plan, version: u32) -> Result<(), NoMemor
 {
     while strip.done() < version {
         let left = version - strip.done();
-        if strip.pass_over(plan, left) < left {
+        if strip.skip_untouched(plan, left) < left {
             strip.advance(plan)?;
         }
     }
     Ok(())
 }
 
-/// Does the next edits on a strip, at most eight. Both answers tell from which version to which; after want of memory it stands
+/// Does the next edits on a strip, at most eight. Both answers say from which version to which; when out of memory it stops
 /// short of where the turn would end.
 pub fn turn_strip(strip: &mut Strip, plan: &Plan) -> Result<(u32, u32), (u32, u32)>
     requires plan { strip.old.job.plan ≡ plan.now }

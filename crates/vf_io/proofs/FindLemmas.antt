@@ -22,7 +22,7 @@ none_parts : (b : Bool) (x : List ℕ) (later : Option (List ℕ)) → cond b (S
 none_parts true x later none = absurd (cc)
 none_parts false x later none = (refl, none)
 
--- the files ahead of a place have other names, and the one at the place has the name
+-- the files before a place have other names, and the one at the place has the name
 pub find-at : (files : FileList) (place : ℕ) (name : List ℕ) (file : List ℕ × List ℕ) → find (slice_cmp nat_cmp) name (take place files) ≡ None → slice_get files place ≡ Some file → eq_by_cmp (slice_cmp nat_cmp) name file.0 ≡ true → find (slice_cmp nat_cmp) name files ≡ Some file.1
 find-at [] place name file none here same = absurd (cc)
 find-at (first ∷ files) zero name file none here same =
@@ -59,13 +59,13 @@ TakesBytes-front told new buffer room n some count front rest = record {
 pub contents_at-place : (files : FileList) (name : List ℕ) (place : ℕ) → IsPlaceOf files name place → contents_at files place ≡ bytes_of (finite.from_entries files) name
 contents_at-place files name place is = ap (λ o. unwrap_or o []) (sym is.first ∙ sym (finite.get-from_entries nat_list_cmp_total files name))
 
--- what is left behind more bytes, where those are no more than there are
+-- what is left after more bytes, where those are no more than there are
 drop-later : (contents : List ℕ) (taken count later : ℕ) → taken < 2 ^ 64 → length contents < 2 ^ 64 → count ≤ length contents - taken → later ≡ min (taken + count) (2 ^ 64 - 1) → drop later contents ≡ drop count (drop taken contents)
 drop-later contents taken count later small short within sum =
     let plain : later ≡ taken + count = omega arith in
     ap (λ n. drop n contents) plain ∙ sym (drop-drop count taken contents)
 
--- one read of a file of which so many bytes were taken
+-- one read of a file of which `taken` bytes were taken
 pub TakesBytes-next : (contents buffer : List ℕ) (taken later count room : ℕ) → 0 < room → taken < 2 ^ 64 → length contents < 2 ^ 64 → count ≡ min room (length (drop taken contents)) → later ≡ min (taken + count) (2 ^ 64 - 1) → take count buffer ≡ take count (drop taken contents) → TakesBytes (drop taken contents) (Some (drop later contents)) buffer count
 TakesBytes-next contents buffer taken later count room some small short is sum front =
     let len : length (drop taken contents) ≡ length contents - taken = length-drop taken contents in
@@ -85,7 +85,7 @@ TakesBytes-longer told new front more n within read = record {
   at_end = read.at_end;
 }
 
--- the same where the answer may be a failure, and what is unread may not be told
+-- the same where the answer may be a failure, and what is unread may not be known
 pub IfOk-longer : {E : Type 0} (result : Result ℕ E) (old new : Option (List ℕ)) (front more : List ℕ) → IfOk result (λ n. n ≤ length front) → IfOk result (λ n. IfSome old (λ told. TakesBytes told new front n)) → IfOk result (λ n. IfSome old (λ told. TakesBytes told new (front ++ more) n))
 IfOk-longer (Err end) old new front more within read = tt
 IfOk-longer (Ok n) None new front more within read = tt

@@ -6,7 +6,7 @@ use Rattle.std.proofs.KnownBytes.{Appends-kept}
 use Rattle.std.specs.Io.KnownBytes.{Appends, Keeps}
 use Rattle.vf_io.specs.Bytes.{AppendsFront}
 
--- told bytes that grew by none are kept
+-- known bytes that grew by none are kept
 pub Keeps-from_nil : (old new : Option (List ℕ)) → Appends old new [] → Keeps old new
 Keeps-from_nil None new grown = tt
 Keeps-from_nil (Some told) None grown = absurd grown

@@ -5,7 +5,7 @@ use Rattle.std.proofs.lemmas.Bool.{false_from_ne_true}
 use Rattle.vf_io.specs.Pieces.{pieces_of}
 use Rattle.memchr.specs.Find.{Nowhere, Passes, is_byte}
 
--- a text whose first LF stands at the place n
+-- a text whose first LF is at the place n
 pub pieces_of-at : (bytes : List ℕ) (n : ℕ) → Nowhere (Passes (is_byte 10) bytes) 0 n → n < length bytes → Passes (is_byte 10) bytes n → pieces_of bytes ≡ take (n + 1) bytes ∷ pieces_of (drop (n + 1) bytes)
 pieces_of-at [] n none lt here = absurd (omega arith)
 pieces_of-at (b ∷ bytes) zero none lt here = rw here refl

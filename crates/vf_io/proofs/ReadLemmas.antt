@@ -20,7 +20,7 @@ HasRead-ended (Some told) None new read buffer n none so_far takes = absurd (let
 HasRead-ended (Some told) (Some unread) new read buffer n none so_far takes =
     takes.rest ∙ ap (λ k. Some (drop k unread)) none ∙ ap Some (takes.at_end.0 none)
 
--- a read that took bytes, which stand behind what was read
+-- a read that took bytes, which come after what was read
 pub HasRead-more : (before now new : Option (List ℕ)) (read buffer : List ℕ) (n : ℕ) → HasRead before read now → IfSome now (λ told. TakesBytes told new buffer n) → HasRead before (read ++ take n buffer) new
 HasRead-more None now new read buffer n so_far takes = tt
 HasRead-more (Some told) None new read buffer n so_far takes = absurd (let is = so_far.1 in cc)
@@ -29,7 +29,7 @@ HasRead-more (Some told) (Some unread) new read buffer n so_far takes =
     let left : so_far.0 ≡ unread = cc in
     (drop n unread, takes.rest, append_assoc read (take n buffer) (drop n unread) ∙ ap (λ more. read ++ more) (ap (λ front. front ++ drop n unread) takes.front ∙ take-append-drop n unread) ∙ ap (λ more. read ++ more) (sym left) ∙ so_far.2)
 
--- a read beyond the limit shows that the file is longer
+-- a read past the limit shows that the file is longer
 pub HasRead-longer : (before now new : Option (List ℕ)) (read buffer : List ℕ) (n limit : ℕ) → limit < length read + n → HasRead before read now → IfSome now (λ told. TakesBytes told new buffer n) → IfSome before (λ told. limit < length told)
 HasRead-longer None now new read buffer n limit beyond so_far takes = tt
 HasRead-longer (Some told) None new read buffer n limit beyond so_far takes = absurd (let is = so_far.1 in cc)

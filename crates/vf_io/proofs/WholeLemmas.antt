@@ -9,7 +9,7 @@ use Rattle.vf_io.specs.Bytes.{AddsPieces, AppendsFront}
 use Rattle.vf_io.specs.Pieces.{pieces_of}
 use Rattle.vf_io.specs.Whole.{HasPut, StopsInPiece}
 
--- where the bytes that were left are told, these of them were read, and what follows them is left
+-- where the bytes that were left are known, these of them were read, and what follows them is left
 abbrev pub HasRead : Option (List ℕ) → List ℕ → Option (List ℕ) → Type 0
 HasRead before read now = IfSome before (λ told. (left : List ℕ) × (now ≡ Some left) × (read ++ left ≡ told))
 
@@ -20,7 +20,7 @@ pub record PutSoFar (written_old written_new : Option (List ℕ)) (pieces_old pi
   pub bytes : text ≡ flat_map (λ piece. piece) whole ++ rest
   pub put : HasPut written_old written_new pieces_old pieces_new whole
 
--- told pieces that grew, and grew again
+-- known pieces that grew, and grew again
 pub AddsPieces-append : (old mid new : Option (List (List ℕ))) (xs ys : List (List ℕ)) → AddsPieces old mid xs → AddsPieces mid new ys → AddsPieces old new (xs ++ ys)
 AddsPieces-append None mid new xs ys first then = tt
 AddsPieces-append (Some told) mid new xs ys first then =
@@ -52,7 +52,7 @@ PutSoFar-front wo wm wn po pm text rest line behind so_far cut written =
     ap (λ t. take (length whole + n) t) (so_far.bytes ∙ ap (λ r. whole ++ r) cut) ∙ take-append-add whole (line ++ behind) n ∙ ap (λ f. whole ++ f) line_front in
     (length whole + n, subst (λ (f : List ℕ). Appends wo wn f) (sym front) (Appends-trans wo wm wn whole (take written.0 line) so_far.put.written written.1))
 
--- and no piece is put behind that line
+-- and no piece is put after that line
 pub PutSoFar-stops : (written_old written_mid written_new : Option (List ℕ)) (pieces_old pieces_mid pieces_new : Option (List (List ℕ))) (text rest line behind : List ℕ)
     → PutSoFar written_old written_mid pieces_old pieces_mid text rest → pieces_of rest ≡ line ∷ pieces_of behind → AppendsFront written_mid written_new line
     → AddsPieces pieces_mid pieces_new (line ∷ []) → StopsInPiece written_old written_new pieces_old pieces_new (pieces_of text)

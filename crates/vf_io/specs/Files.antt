@@ -1,4 +1,4 @@
--- What a shelf tells of its files: a finite map from the bytes of a name to those of the file.
+-- What a shelf shows of its files: a finite map from the bytes of a name to those of the file.
 use Rattle.std.specs.Prelude.{ℕ, List, [], unwrap_or}
 use Rattle.std.specs.Ordering.{nat_cmp}
 use Rattle.std.specs.Cmp.Lexicographic.{slice_cmp}

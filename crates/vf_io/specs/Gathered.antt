@@ -7,6 +7,6 @@ use Rattle.vf_io.specs.declared.standard_sink.StdSink.{StdSink}
 abbrev pub gathered_bytes : {W : Type 0} → StdSink W → List ℕ
 gathered_bytes sink = writer_buffer sink.writer
 
--- the bytes that the writer got, where it tells them, and behind them those that are gathered
+-- the bytes that the writer got, where it shows them, and after them those that are gathered
 abbrev pub taken_bytes : {W : Type 0} → (W → Option (List ℕ)) → StdSink W → Option (List ℕ)
 taken_bytes contents sink = writer_contents contents sink.writer

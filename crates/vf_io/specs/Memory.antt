@@ -19,7 +19,7 @@ raised n = min (n + 1) most_faults
 abbrev pub fails_now : List ℕ → ℕ → Bool
 fails_now failing call = list_any (λ number. number == call) failing
 
--- the count of faults behind a call that failed or did not
+-- the count of faults after a call that failed or did not
 abbrev pub faults_behind : Bool → ℕ → ℕ
 faults_behind failed before = if failed then raised before else before
 
@@ -44,6 +44,6 @@ pub record IsPlaceOf (files : FileList) (name : List ℕ) (place : ℕ) : Type 0
   pub within : place < length files
   pub first : finite.find (slice_cmp nat_cmp) name files ≡ option_map (λ file. file.1) (slice_get files place)
 
--- the bytes of the file at a place: none where no file stands there
+-- the bytes of the file at a place: none where there is no file
 abbrev pub contents_at : FileList → ℕ → List ℕ
 contents_at files place = unwrap_or (option_map (λ file. file.1) (slice_get files place)) []

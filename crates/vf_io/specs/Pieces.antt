@@ -5,12 +5,12 @@ use Rattle.std.specs.Prelude.{ℕ, ◌==◌, List, [], ◌∷◌, if◌then◌el
 abbrev pub line_feed : ℕ
 line_feed = 10
 
--- the byte goes to the front of the first piece, or is one where there is none
+-- the byte goes to the front of the first piece, or is a piece of its own where there is none
 abbrev pub lead : ℕ → List (List ℕ) → List (List ℕ)
 lead b [] = (b ∷ []) ∷ []
 lead b (piece ∷ pieces) = (b ∷ piece) ∷ pieces
 
--- the pieces that end behind each LF, and what stands behind the last one where anything does
+-- the pieces that end after each LF, and what comes after the last one where anything does
 abbrev pub pieces_of : List ℕ → List (List ℕ)
 pieces_of [] = []
 pieces_of (b ∷ bytes) = if b == line_feed then (b ∷ []) ∷ pieces_of bytes else lead b (pieces_of bytes)

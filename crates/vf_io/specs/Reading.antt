@@ -8,6 +8,6 @@ pub record TakesBytes (old : List ℕ) (new : Option (List ℕ)) (buffer : List 
   pub rest : new ≡ Some (drop n old)
   pub at_end : (n ≡ 0) ↔ (old ≡ [])
 
--- the count of reads that took bytes rises by one at the most, and stands still where none were taken
+-- the count of reads that took bytes rises by one at the most, and stays where none were taken
 abbrev pub CountsRead : {E : Type 0} → ℕ → ℕ → Result ℕ E → Type 0
 CountsRead before now result = MatchResult result (λ n. now ≤ before + min n 1) (λ _. now ≤ before)

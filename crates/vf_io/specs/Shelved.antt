@@ -20,7 +20,7 @@ told_files shelf = Some (finite.from_entries (file_list shelf))
 abbrev pub unread_bytes : MemShelf → Option (List ℕ)
 unread_bytes shelf = if shelf.is_open then Some (drop shelf.taken (contents_at (file_list shelf) shelf.file)) else None
 
--- how many calls were made, up to the greatest count
+-- how many calls there were, up to the greatest count
 abbrev pub call_count : MemShelf → ℕ
 call_count shelf = shelf.calls
 

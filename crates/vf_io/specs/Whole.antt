@@ -3,7 +3,7 @@ use Rattle.std.specs.Prelude.{◌≡◌, ℕ, List, [], ◌∷◌, ◌++◌, Opt
 use Rattle.std.specs.Io.KnownBytes.{Appends}
 use Rattle.vf_io.specs.Bytes.{AddsPieces}
 
--- These pieces, each put as one, stand behind what was written.
+-- These pieces, each put as one, come after what was written.
 pub record HasPut (written_old written_new : Option (List ℕ)) (pieces_old pieces_new : Option (List (List ℕ)))
     (pieces : List (List ℕ)) : Type 0 where
   pub written : Appends written_old written_new (flat_map (λ piece. piece) pieces)

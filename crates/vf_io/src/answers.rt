@@ -1,6 +1,6 @@
 use std::alloc::{AllocError, AllocFailed};
 
-/// The answer for want of memory, in every crate.
+/// The answer when out of memory, in every crate.
 #[derive(Clone, Copy, Debug, PartialEq, Eq, thiserror::Error)]
 #[error("out of memory")]
 pub struct NoMemory;

@@ -10,8 +10,8 @@ use crate::shelf::Shelf;
 use std::rt::Files;
 use std::{fs, io};
 
-/// The files below the current folder. It tells of the open file what the system tells of it, which is
-/// nothing for a real one: what the system gives is trusted.
+/// The files below the current folder. Of the open file it shows what the system shows, which is
+/// nothing for a real one: what the system returns is trusted.
 #[derive(Drop)]
 pub struct FolderShelf<'a, R: Files> {
     rt: &'a R,

@@ -13,7 +13,7 @@ ghost use Rattle.vf_io.specs.Shelved.{call_count, fault_count, failing_calls, fa
 use crate::answers::Failed;
 use crate::shelf::Shelf;
 
-/// A shelf of files in memory, which it tells.
+/// A shelf of files in memory, which it shows.
 #[derive(Drop)]
 pub struct MemShelf {
     files: Vec<(String, Vec<u8>)>,
@@ -182,14 +182,14 @@ fn contents(files: &[(String, Vec<u8>)], place: usize) -> &[u8]
     }
 }
 
-/// What stands behind the first bytes.
+/// What comes after the first bytes.
 fn behind(bytes: &[u8], taken: usize) -> &[u8]
     ensures { result.now ≡ drop taken bytes.now }
 {
     &bytes[taken.min(bytes.len())..]
 }
 
-/// Copies as many bytes as the buffer has room for, and answers how many.
+/// Copies as many bytes as the buffer has room for, and returns how many.
 fn copy_front(buffer: &mut [u8], bytes: &[u8]) -> usize
     ensures count { result ≡ min (length buffer.old) (length bytes.now) }
     ensures front { take result buffer.new ≡ take result bytes.now }

@@ -3,7 +3,7 @@ ghost use Rattle.vf_io.specs.Pieces.{pieces_of};
 
 use memchr::memchr;
 
-/// The first line of a text, with its line end, and the text behind it.
+/// The first line of a text, with its line end, and the text after it.
 pub fn split_line(text: &[u8]) -> (&[u8], &[u8])
     requires { 0 < length text.now }
     ensures first { pieces_of text.now ≡ result.0.now ∷ pieces_of result.1.now }

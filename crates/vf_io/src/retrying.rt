@@ -6,7 +6,7 @@ ghost use Rattle.vf_io.specs.Bytes.{AppendsFront};
 use std::io;
 use std::io::{ErrorKind, Read, Write};
 
-/// One read, made again where a signal interrupts it.
+/// One read, repeated where a signal interrupts it.
 pub(crate) fn read_some<R: Read>(reader: &mut R, buffer: &mut [u8]) -> io::Result<usize>
     ensures bound { ReadsAtMost result buffer.new }
     ensures bytes { ReadConsumes (R.remaining reader.old) (R.remaining reader.new) result buffer.new }

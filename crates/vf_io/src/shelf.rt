@@ -7,19 +7,19 @@ use crate::answers::Failed;
 
 /// A set of named files of which one may be open.
 pub trait Shelf {
-    // The files with their bytes, where the shelf tells them.
+    // The files with their bytes, where the shelf shows them.
     ghost files: { Self → Option Files };
 
     // Whether a file is open.
     ghost is_open: { Self → Bool };
 
-    // The bytes of the open file that are still unread, where the shelf tells them.
+    // The bytes of the open file that are still unread, where the shelf shows them.
     ghost rest: { Self → Option (List ℕ) };
 
     // How many calls failed, up to the greatest count.
     ghost faults: { Self → ℕ };
 
-    // How many calls failed, where the shelf tells it: a failed call raises it by one, and no other call
+    // How many calls failed, where the shelf shows it: a failed call raises it by one, and no other call
     // changes it.
     ghost failures: { Self → Option ℕ } = { λ _. None };
 
@@ -29,7 +29,7 @@ pub trait Shelf {
     // Whether the file of this name may be opened.
     ghost allows: { Self → List ℕ → Type 0 };
 
-    /// Opens the named file, in place of the one that is open. A name that no file has stands for an
+    /// Opens the named file, in place of the one that is open. A name that no file has is taken as an
     /// empty file, or fails. Where it fails no file is open.
     fn open(&mut self, name: &str) -> Result<(), Failed>
         requires { allows self.old name.now }

@@ -7,10 +7,10 @@ use crate::answers::Failed;
 
 /// What takes the text that a program writes.
 pub trait Sink {
-    // The bytes written so far, where the sink tells them.
+    // The bytes written so far, where the sink shows them.
     ghost written: { Self → Option (List ℕ) };
 
-    // The pieces of all calls so far, of the failed ones too, where the sink tells them.
+    // The pieces of all calls so far, of the failed ones too, where the sink shows them.
     ghost pieces: { Self → Option (List (List ℕ)) } = { λ _. None };
 
     // How many calls failed, up to the greatest count.

@@ -13,7 +13,7 @@ use std::io::{BufWriter, Write};
 /// The bytes that are gathered before the writer gets them.
 const GATHERED: usize = 65536;
 
-/// A sink over a writer, as standard output is. It gathers lines, and tells what the writer tells, which
+/// A sink over a writer, as standard output is. It gathers lines, and shows what the writer shows, which
 /// is nothing for standard output: what the system takes is trusted. `flush` hands on what is still
 /// gathered.
 #[derive(Drop)]

@@ -10,7 +10,7 @@ use crate::answers::Failed;
 use crate::memory_shelf::MemShelf;
 use crate::shelf::Shelf;
 
-/// A shelf of files in memory, which it tells, and of which no call fails: an absent name stands for an
+/// A shelf of files in memory, which it shows, and of which no call fails: an absent name is taken as an
 /// empty file.
 #[derive(Drop)]
 pub struct SureShelf {

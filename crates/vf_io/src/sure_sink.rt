@@ -3,7 +3,7 @@ ghost use Rattle.std.specs.Prelude.{◌≡◌, None, false, is_err};
 use crate::answers::Failed;
 use crate::sink::Sink;
 
-/// A sink that keeps nothing, does not tell what was written, and of which no put fails.
+/// A sink that keeps nothing, doesn't show what was written, and of which no put fails.
 #[derive(Drop)]
 pub struct SureSink;
 

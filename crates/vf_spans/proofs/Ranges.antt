@@ -44,7 +44,7 @@ empty_within : (at lo hi : ℕ) (es : List ℕ) → at ≤ hi → hi ≤ at + 0 
 empty_within at lo hi [] le up b = let same : at ≡ hi = omega arith in ap (λ n. (lo, n) ∷ []) same
 empty_within at lo hi (e ∷ es) le up b = absurd (let p = b.0 in let q = b.1 in omega arith)
 
--- the same edges, seen from the next index on
+-- the same edges, from the next index on
 later : (f : Bool) (fs : List Bool) (at : ℕ) (g : ℕ → Bool) → ((k : ℕ) → k < length (f ∷ fs) → get_or (f ∷ fs) k false ≡ g (at + k)) → (k : ℕ) → k < length fs → get_or fs k false ≡ g (at + 1 + k)
 later f fs at g h k lt = h (suc k) (omega arith) ∙ ap g (omega arith)
 

@@ -18,7 +18,7 @@ use Rattle.vf_spans.proofs.Below.{more_below, same_bound_same}
 abbrev pub counts_at : List ℕ → List ℕ → List ℕ → ℕ → Bool
 counts_at a b c x = inside a x && (inside b x && not (inside c x))
 
--- the edges ahead of the place are not above the number, and the others are not below it
+-- the edges before the place are not above the number, and the others are not below it
 pub record Passed (es : List ℕ) (i from : ℕ) : Type 0 where
   pub place : i ≤ length es
   pub before : (m : ℕ) → m < i → get_or es m 0 ≤ from

@@ -9,7 +9,7 @@ combined Union p q = p || q
 combined Minus p q = p && not q
 combined Meet p q = p && q
 
--- from place i the walk goes past the edge, if it stands there, to place r
+-- from place i the walk goes past the edge, if the edge is there, to place r
 pub record PassesEdge (edges : List ℕ) (i edge r : ℕ) : Type 0 where
   pub within : r ≤ length edges
   pub moved : take r edges ≡ (if r == i then take i edges else take i edges ++ edge ∷ [])

@@ -35,7 +35,7 @@ pub fn lowest_bits(n: u32) -> u64
     u64::MAX >> (64 - n)
 }
 
-/// Those of the bits that are among so many lowest.
+/// Those of the bits that are among the `n` lowest.
 pub fn bits_below(bits: u64, n: u32) -> u64
     requires { 0 < n }
     ensures { (k : ℕ) → k < 64 → has_bit result k ≡ (has_bit bits k && nat_lt k n) }

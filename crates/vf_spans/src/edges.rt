@@ -11,8 +11,8 @@ pub struct Edges {
     alloc: Global,
 }
 
-/// How the edges are kept. Most sets have one range or none, so a list stands behind a pointer, and
-/// edges without one are no larger than need be.
+/// How the edges are kept. Most sets have one range or none, so a list is kept by a pointer, and
+/// edges without one take no more room than they need.
 #[derive(Drop)]
 enum Kept {
     /// There are none.

@@ -41,7 +41,7 @@ pub fn next_edge(a: &[u32], i: usize, b: &[u32], j: usize) -> u32
     if a[i] < b[j] { a[i] } else { b[j] }
 }
 
-/// The place after the edge, if it stands there.
+/// The place after the edge, if the edge is there.
 pub fn past(edges: &[u32], i: usize, edge: u32) -> usize
     requires ascends { Ascends edges.now }
     requires within { i ≤ length edges.now }

@@ -17,7 +17,7 @@ use vf_io::NoMemory;
 /// A set of indices below a bound, kept as words of 64 flags.
 ///
 /// To contracts it is the same list of flags as `Spans`. Bit b of word n is the index 64 n + b. Its
-/// operations go a word at a time and, but for those that make a set, take no memory.
+/// operations go a word at a time and, except those that make a set, take no memory.
 #[derive(Drop)]
 pub struct Words {
     bound: u32,

@@ -8,7 +8,7 @@ use Rattle.std.proofs.lemmas.Bool.{leb-true}
 use Rattle.vf_text.specs.Digits.{spelt}
 use Rattle.vf_text.proofs.PowerLemmas.{ten_next, ten_monotone, ten_grows}
 
--- digits behind digits
+-- digits after digits
 pub spelt-append : (n : ℕ) (xs ys : List ℕ) → spelt n (xs ++ ys) ≡ spelt (spelt n xs) ys
 spelt-append n [] ys = refl
 spelt-append n (x ∷ xs) ys = spelt-append (10 * n + (x - 48)) xs ys
@@ -37,7 +37,7 @@ first_digit d digits all =
     let below : d ≤ 57 = leb-true d 57 range.1 in
     (omega arith, parts.1)
 
--- one more digit is spelt
+-- one more digit is read
 pub record SpellsOn (digits : List ℕ) (i value total most : ℕ) : Type 0 where
   pub all : list_all is_ascii_digit (drop i digits) ≡ true
   pub spells : spelt value (drop i digits) ≡ total
@@ -64,17 +64,17 @@ SpellsOn-next digits i value total most within so_far =
       bound = spells_on value (d - 48) (10 ^ (length digits - (i + 1))) (10 ^ (length digits - i)) most (omega (arith, parts.0)) power so_far.bound;
     }
 
--- digits behind a number that fits still fit
+-- digits after a number that fits still fit
 pub fits-append : (most n w f : ℕ) → n < (0 + 1) * 10 ^ w → w + f ≤ most → (n + 1) * 10 ^ f ≤ 10 ^ most
 fits-append most n w f bound short =
     let split = pow-add 10 w f in
     let grows = mul-le-mul_right (10 ^ f) bound in
     omega (arith, ten_monotone (w + f) most short)
 
--- what was spelt so far fits, as long as all of it does
+-- what was read so far fits, as long as all of it does
 pub SpellsOn-small : (digits : List ℕ) (i value total most : ℕ) → SpellsOn digits i value total most → value + 1 ≤ most
 SpellsOn-small digits i value total most so_far = omega (arith, so_far.bound, ten_grows (value + 1) (length digits - i))
 
--- two runs of digits spell less than the power of ten of as many
+-- two runs of digits spell less than the power of ten with both their lengths
 pub fits-whole : (most n m w f : ℕ) → n < (0 + 1) * 10 ^ w → m < (n + 1) * 10 ^ f → w + f ≤ most → m < 10 ^ most
 fits-whole most n m w f bound more short = omega (arith, fits-append most n w f bound short)

@@ -21,7 +21,7 @@ is_blank_text bytes = list_all is_blank bytes
 abbrev pub behind_blanks : List ℕ → List ℕ
 behind_blanks bytes = drop (prefix_len is_blank bytes) bytes
 
--- the byte goes to the front, unless it is a blank with nothing behind it
+-- the byte goes to the front, unless it is a blank with nothing after it
 abbrev pub unless_last_blank : ℕ → List ℕ → List ℕ
 unless_last_blank b [] = if is_blank b then [] else b ∷ []
 unless_last_blank b (c ∷ bytes) = b ∷ c ∷ bytes

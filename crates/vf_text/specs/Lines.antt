@@ -2,7 +2,7 @@
 use Rattle.std.specs.Prelude.{ℕ, ◌==◌, List, [], ◌∷◌, map, if◌then◌else◌}
 use Rattle.vf_io.specs.Pieces.{pieces_of, line_feed}
 
--- the byte CR, which may stand ahead of LF
+-- the byte CR, which may come before LF
 abbrev pub carriage_return : ℕ
 carriage_return = 13
 

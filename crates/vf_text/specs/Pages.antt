@@ -7,6 +7,6 @@ use Rattle.vf_io.specs.Pieces.{line_feed}
 abbrev pub line : List ℕ → List ℕ
 line bytes = bytes ++ line_feed ∷ []
 
--- numbers, each with a space ahead
+-- numbers, each with a space before it
 abbrev pub numbers : List ℤ → List ℕ
 numbers values = flat_map (λ value. codes " " ++ signed_decimal value) values

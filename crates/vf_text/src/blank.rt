@@ -24,7 +24,7 @@ pub fn skip_blanks(text: &[u8]) -> &[u8]
     &text[blank_len(text)..]
 }
 
-/// How many blanks stand in front.
+/// How many blanks are in front.
 fn blank_len(text: &[u8]) -> usize
     ensures count { result ≡ prefix_len is_blank text.now }
     ensures within { result ≤ length text.now }

@@ -3,7 +3,7 @@ ghost use Rattle.std.specs.Char.{is_ascii_digit};
 ghost use Rattle.std.specs.List.{list_all, prefix_len};
 ghost use Rattle.vf_text.specs.Digits.{count_digits, digits_of, number_spelt, spelt};
 
-/// The number that 1 to `most` digits alone spell.
+/// The number that a text spells of 1 to `most` digits and nothing else.
 pub fn read_count(digits: &[u8], most: usize) -> Option<u32>
     requires { most ≤ count_digits }
     ensures number { result ≡ number_spelt most digits.now }
@@ -31,7 +31,7 @@ pub fn split_digits(text: &[u8]) -> (&[u8], &[u8])
     text.split_at(digit_count(text))
 }
 
-/// How many digits stand in front.
+/// How many digits are in front.
 pub fn digit_count(text: &[u8]) -> usize
     ensures count { result ≡ prefix_len is_ascii_digit text.now }
     ensures within { result ≤ length text.now }
@@ -44,7 +44,7 @@ pub fn digit_count(text: &[u8]) -> usize
     text.len()
 }
 
-/// The number that a few digits spell behind those of `n`.
+/// The number that a few digits spell after those of `n`.
 pub fn spell(n: u64, digits: &[u8]) -> u64
     requires digits { list_all is_ascii_digit digits.now ≡ true }
     requires fits { (n + 1) * 10 ^ length digits.now ≤ 10 ^ 18 }

@@ -1,7 +1,7 @@
 ghost use Rattle.std.specs.Prelude.{◌≡◌, ◌≤◌, length};
 ghost use Rattle.vf_text.specs.Lines.{line_of, without_last};
 
-/// A line without its line end: LF, and CR ahead of it or at the end of the bytes.
+/// A line without its line end: LF, and CR before it or at the end of the bytes.
 pub fn trim_line_end(piece: &[u8]) -> &[u8]
     ensures line { result.now ≡ line_of piece.now }
     ensures length { length result.now ≤ length piece.now }

@@ -8,7 +8,7 @@ use std::alloc::Global;
 use std::marker::Model;
 use vf_io::NoMemory;
 
-/// A text that grows. It is seen as its bytes.
+/// A text that grows. Its value is its bytes.
 #[derive(Drop)]
 pub struct Page {
     bytes: Vec<u8>,
@@ -32,7 +32,7 @@ impl Page {
         }
     }
 
-    /// An empty text with room for so many bytes.
+    /// An empty text with room for `room` bytes.
     pub fn with_room(alloc: Global, room: usize) -> Result<Page, NoMemory>
         ensures { IfOk result (λ page. page ≡ []) }
     {
@@ -59,7 +59,7 @@ impl Page {
         }
     }
 
-    /// Adds a space, which stands ahead of each number of a line.
+    /// Adds a space, which comes before each number of a line.
     pub fn space(&mut self) -> Result<(), NoMemory>
         ensures { OnOk result (self.new ≡ self.old ++ codes " ") }
     {
@@ -90,7 +90,7 @@ impl Page {
         self.text(Buffer::new().format(z).as_bytes())
     }
 
-    /// Adds three numbers, each with a space ahead.
+    /// Adds three numbers, each with a space before it.
     pub fn point(&mut self, point: &[i32; 3]) -> Result<(), NoMemory>
         ensures { OnOk result (self.new ≡ self.old ++ numbers point.now) }
     {

@@ -1,8 +1,8 @@
 -- What the width form of a line bends by from one point of a ray to another is the form of the way between them.
 use Rattle.std.proofs.Common.{◌≡◌, ℕ, ◌≤◌, [], ◌∷◌, List, ℤ, pos, ◌+ℤ◌, ◌*ℤ◌, ◌-ℤ◌, arith, refl, ap, ap₂, subst, sym, ◌∙◌}
 use Rattle.std.specs.List.{All}
-use Rattle.space.specs.Motion.{IsSweep, Motion, axis_at}
 use Rattle.space.specs.Ranges.{IsPoint, IsWithin}
+use Rattle.space.specs.Sweeps.{IsSweep, SweepOf, axis_at}
 use Rattle.space.specs.Vectors.{at}
 use Rattle.space.proofs.Solver.{var, add, mul, ring}
 use Rattle.space.proofs.Terms.{from, sub}
@@ -58,7 +58,7 @@ bend_is : (n v A C : List ℤ) (h : ℤ) → scaled4 (h *ℤ h) (spread_form (po
 bend_is n v A C h =
     spread_scaled n (dot_on_cell v v A C) (dot_on_cell v v v v) h ∙ ap₂ (λ x y. spread_form (pos 4) x n y y) (sym (d_scaled v h)) (sym (u_scaled v A C h))
 
-pub bend_small : (line : Line) (m : Motion) (o x y p : List ℤ) (S : ℕ) (h : ℤ) → IsThrough line m o (scaled_way (pos S) x y) S → IsAlong o x y p h
+pub bend_small : (line : Line) (m : SweepOf) (o x y p : List ℤ) (S : ℕ) (h : ℤ) → IsThrough line m o (scaled_way (pos S) x y) S → IsAlong o x y p h
     → IsSweep m → IsPoint o → IsPoint p → S ≤ scale_limit → All IsSmall (bend_over line h)
 bend_small line m o x y p S h is on sweep ho hp few =
     let v = scaled_way (pos S) x y in let V = scaled_vector h v in

@@ -60,6 +60,6 @@ set_without word others less k is set = both_first (has_bit word k) (not (has_bi
 pub set_in_both : (a b k : ℕ) → has_bit (bit_and a b) k ≡ true → has_bit a k ≡ true
 set_in_both a b k set = both_first (has_bit a k) (has_bit b k) (sym (has_bit-and a b k) ∙ set)
 
--- no bit of nothing is set
+-- no bit of 0 is set
 pub none_set : {P : Type 0} (word k : ℕ) → word ≡ 0 → has_bit word k ≡ true → P
 none_set word k none set = let not_set = ap (λ z. has_bit z k) none ∙ has_bit-zero k in absurd (cc)

@@ -88,7 +88,7 @@ over_between a b c e l x m h k first last bend =
     (subst (λ z. (((pos s +ℤ pos t) *ℤ (pos s +ℤ pos t)) *ℤ c) <ℤ ((quadratic a b c (pos l) -ℤ e) +ℤ (quadratic a b c z -ℤ e))) (sym there) bent) some))
     (λ (none : s + t ≤ 0). let same : pos l ≡ pos x = omega (arith, ints, h, none) in subst over same first) (cases_lt 0 (s + t))
 
--- the same by what is reckoned
+-- the same by what is computed
 pub over_by : (a b c e : ℤ) (l x m : ℕ) (first last bend : ℤ) → first ≡ quadratic a b c (pos l) → last ≡ quadratic a b c (pos m) → bend ≡ (pos (m - l) *ℤ pos (m - l)) *ℤ c
     → l ≤ x → x ≤ m → e <ℤ first → e <ℤ last → bend <ℤ ((first -ℤ e) +ℤ (last -ℤ e)) → e <ℤ quadratic a b c (pos x)
 over_by a b c e l x m first last bend ef el eb h k f t less =

@@ -4,8 +4,8 @@ use Rattle.std.specs.List.{All}
 use Rattle.std.proofs.lemmas.Int.{ints}
 use Rattle.std.proofs.Math.Nat.{mul-le-mul}
 use borrow.Author.Differences.{abs_is}
-use Rattle.space.specs.Motion.{IsSweep, Motion, axis_at, offset_at}
 use Rattle.space.specs.Ranges.{IsPoint, IsWithin, metre}
+use Rattle.space.specs.Sweeps.{IsSweep, SweepOf, axis_at, offset_at}
 use Rattle.space.specs.Vectors.{at, spread}
 use Rattle.space.proofs.Naturals.{spread_natural}
 use Rattle.space.proofs.Solver.{var, num, add, mul, ring}
@@ -15,9 +15,9 @@ use Rattle.bern_form.specs.Forms.{IsSmall}
 use Rattle.bern_form.specs.Sizes.{IsBounded2, axis_limit, offset_limit, scale_limit}
 use Rattle.bern_form.proofs.Sizes.{axis_within, offset_within, small_as}
 use Rattle.axis_cells.proofs.Bounds.{between_fits, cross_bounded}
-use Rattle.ray_runs.specs.Moments.{moment, vector_sum}
-use Rattle.ray_runs.specs.Sizes.{part_limit, turn_limit}
-use Rattle.ray_runs.proofs.Fits.{minor_small, two_small}
+use Rattle.moment_forms.specs.Moments.{moment, vector_sum}
+use Rattle.moment_forms.specs.Sizes.{moments_limit, part_limit}
+use Rattle.moment_forms.proofs.Fits.{minor_small, two_small}
 use Rattle.ray_grid.specs.Grids.{GridSize}
 use Rattle.ray_grid.specs.declared.ray.Family.{Family}
 use Rattle.ray_grid.specs.declared.ray.Family.TheVariants.{X, Y, Z}
@@ -87,18 +87,18 @@ point_between s first next p last l n h here there f t = (
   component_between (at s 2) (at next 2 -ℤ at first 2) (at p 2) (at last 2) l n h here.z there.z f.2 t.2,
 )
 
-pub width_small : (m : Motion) (p : List ℤ) (j k S : ℕ) → IsSweep m → IsPoint p → j ≤ S → k ≤ S → S ≤ scale_limit → All IsSmall (width_between m p j k S)
+pub width_small : (m : SweepOf) (p : List ℤ) (j k S : ℕ) → IsSweep m → IsPoint p → j ≤ S → k ≤ S → S ≤ scale_limit → All IsSmall (width_between m p j k S)
 width_small m p j k S sweep point first last few =
     (between_fits (offset_at m p (pos j) (pos S)) (offset_at m p (pos k) (pos S)) (axis_at m (pos j) (pos S)) (axis_at m (pos k) (pos S))
     (offset_within m p j S sweep point first few) (offset_within m p k S sweep point last few) (axis_within m j S sweep first few) (axis_within m k S sweep last few)).width
 
-pub heights_bounded : (m : Motion) (p : List ℤ) (j k S : ℕ) → IsSweep m → IsPoint p → j ≤ S → k ≤ S → S ≤ scale_limit → IsBounded2 (3 * (offset_limit * axis_limit)) (u_between m p j k S)
+pub heights_bounded : (m : SweepOf) (p : List ℤ) (j k S : ℕ) → IsSweep m → IsPoint p → j ≤ S → k ≤ S → S ≤ scale_limit → IsBounded2 (3 * (offset_limit * axis_limit)) (u_between m p j k S)
 heights_bounded m p j k S sweep point first last few =
     cross_bounded (offset_at m p (pos j) (pos S)) (offset_at m p (pos k) (pos S)) (axis_at m (pos j) (pos S)) (axis_at m (pos k) (pos S)) offset_limit axis_limit
     (offset_within m p j S sweep point first few) (offset_within m p k S sweep point last few) (axis_within m j S sweep first few) (axis_within m k S sweep last few)
 
 -- what a line has at a point fits
-forms_fit : (line : Line) (l : ℤ) (m : Motion) (p : List ℤ) (j k S : ℕ) → HasFormsBetween line l m p j k S → IsSweep m → IsPoint p → j ≤ S → k ≤ S → S ≤ scale_limit → FitsAt line l
+forms_fit : (line : Line) (l : ℤ) (m : SweepOf) (p : List ℤ) (j k S : ℕ) → HasFormsBetween line l m p j k S → IsSweep m → IsPoint p → j ≤ S → k ≤ S → S ≤ scale_limit → FitsAt line l
 forms_fit line l m p j k S forms sweep point first last few = record {
   width = small_as forms.width (width_small m p j k S sweep point first last few);
   height = subst (IsBounded2 (3 * (offset_limit * axis_limit))) (sym forms.height) (heights_bounded m p j k S sweep point first last few);
@@ -112,10 +112,10 @@ moment_small p a hp ha = (
   minor_small (at p 0) (at p 1) (at a 0) (at a 1) offset_limit axis_limit hp.0 hp.1 ha.0 ha.1,
 )
 
-pub outer_small : (x : List ℤ) → IsWithin (2 * part_limit) x → IsWithin turn_limit x
+pub outer_small : (x : List ℤ) → IsWithin (2 * part_limit) x → IsWithin moments_limit x
 outer_small x h = let h0 = h.0 in let h1 = h.1 in let h2 = h.2 in (omega (arith, h0), omega (arith, h1), omega (arith, h2))
 
-pub sum_small : (x y : List ℤ) → IsWithin (2 * part_limit) x → IsWithin (2 * part_limit) y → IsWithin turn_limit (vector_sum x y)
+pub sum_small : (x y : List ℤ) → IsWithin (2 * part_limit) x → IsWithin (2 * part_limit) y → IsWithin moments_limit (vector_sum x y)
 sum_small x y h k = (
   two_small (at x 0) (at y 0) (2 * part_limit) h.0 k.0,
   two_small (at x 1) (at y 1) (2 * part_limit) h.1 k.1,
@@ -123,15 +123,15 @@ sum_small x y h k = (
 )
 
 -- what is kept for the rays of a strip fits at each of them
-pub ray_fits : (sheet : Sheet) (m : Motion) (o v : List ℤ) (S : ℕ) (j : ℤ) → HasRay sheet m o v S j → IsSweep m → IsPoint o → S ≤ scale_limit → IsWithin offset_limit v → FitsOn sheet j
+pub ray_fits : (sheet : Sheet) (m : SweepOf) (o v : List ℤ) (S : ℕ) (j : ℤ) → HasRay sheet m o v S j → IsSweep m → IsPoint o → S ≤ scale_limit → IsWithin offset_limit v → FitsOn sheet j
 ray_fits sheet m o v S j ray sweep point few within =
     let P = offset_at m o (pos 0) (pos S) in let Q = offset_at m o (pos S) (pos S) in let A = axis_at m (pos 0) (pos S) in let C = axis_at m (pos S) (pos S) in
     let hP = offset_within m o 0 S sweep point (omega arith) few in let hQ = offset_within m o S S sweep point (omega arith) few in
     let hA = axis_within m 0 S sweep (omega arith) few in let hC = axis_within m S S sweep (omega arith) few in
     let height = heights_bounded m o 0 S S sweep point (omega arith) (omega arith) few in record {
-      start = subst (λ (x : List ℤ). IsWithin turn_limit x) (sym ray.start) (outer_small (moment P A) (moment_small P A hP hA));
-      middle = subst (λ (x : List ℤ). IsWithin turn_limit x) (sym ray.middle) (sum_small (moment P C) (moment Q A) (moment_small P C hP hC) (moment_small Q A hQ hA));
-      end = subst (λ (x : List ℤ). IsWithin turn_limit x) (sym ray.end) (outer_small (moment Q C) (moment_small Q C hQ hC));
+      start = subst (λ (x : List ℤ). IsWithin moments_limit x) (sym ray.start) (outer_small (moment P A) (moment_small P A hP hA));
+      middle = subst (λ (x : List ℤ). IsWithin moments_limit x) (sym ray.middle) (sum_small (moment P C) (moment Q A) (moment_small P C hP hC) (moment_small Q A hQ hA));
+      end = subst (λ (x : List ℤ). IsWithin moments_limit x) (sym ray.end) (outer_small (moment Q C) (moment_small Q C hQ hC));
       first = small_as ray.first
           (spread_fits (pos 8) (d_step m o v S) (n_between m 0 S S) (u_between m o 0 S S) (u_step m v S)
           (cross_bounded P Q v v offset_limit offset_limit hP hQ within within) (cross_bounded A C A C axis_limit axis_limit hA hC hA hC) height
@@ -143,7 +143,7 @@ four_times : (z : ℤ) → pos 0 ≤ℤ z → pos 0 ≤ℤ (pos 4 *ℤ z)
 four_times z h = omega (arith, ints, h)
 
 -- the width form at an end of the move goes with the square of the step across the axis there
-bends_up : (line : Line) (m : Motion) (o v : List ℤ) (S : ℕ) → IsThrough line m o v S → (pos 0 ≤ℤ at line.second.c 0) × (pos 0 ≤ℤ at line.second.c 4)
+bends_up : (line : Line) (m : SweepOf) (o v : List ℤ) (S : ℕ) → IsThrough line m o v S → (pos 0 ≤ℤ at line.second.c 0) × (pos 0 ≤ℤ at line.second.c 4)
 bends_up line m o v S is =
     let up = λ (a : List ℤ). four_times (spread v a) (spread_natural v a) in (
       subst (λ (c : List ℤ). pos 0 ≤ℤ at c 0) (sym is.second_is) (up (axis_at m (pos 0) (pos S))),
@@ -158,11 +158,11 @@ ray_point r l n below all first last =
     point_between o o y (point_of r.grid r.ray l) (point_of r.grid r.ray n) l n (omega (arith, below, all)) (along_ray r j l) (along_ray r j n) first last
 
 -- their forms
-pub line_of_ray : (line : Line) (r : RayOf) (k n S : ℕ) → S ≡ 2 ^ r.sweep.depth → S ≤ scale_limit → IsSweep r.sweep.motion
-    → IsThrough line r.sweep.motion (point_of r.grid r.ray 0) (scaled_way (pos S) (point_at r.grid r.ray.family r.ray.i k 0) (point_at r.grid r.ray.family r.ray.i k 1)) S
+pub line_of_ray : (line : Line) (r : RayOf) (k n S : ℕ) → S ≡ 2 ^ r.sweep.depth → S ≤ scale_limit → IsSweep r.sweep.sweep
+    → IsThrough line r.sweep.sweep (point_of r.grid r.ray 0) (scaled_way (pos S) (point_at r.grid r.ray.family r.ray.i k 0) (point_at r.grid r.ray.family r.ray.i k 1)) S
     → IsPoint (point_of r.grid r.ray 0) → IsPoint (point_of r.grid r.ray n) → points_of r.grid r.ray.family ≤ n + 1 → IsLineOf line r
 line_of_ray line r k n S e few sweep is first last all =
-    let m = r.sweep.motion in let o = point_of r.grid r.ray 0 in let x = point_at r.grid r.ray.family r.ray.i k 0 in let y = point_at r.grid r.ray.family r.ray.i k 1 in
+    let m = r.sweep.sweep in let o = point_of r.grid r.ray 0 in let x = point_at r.grid r.ray.family r.ray.i k 0 in let y = point_at r.grid r.ray.family r.ray.i k 1 in
     let forms = λ (l : ℕ). forms_are line m o x y (point_of r.grid r.ray l) S (pos l) is (along_ray r k l) in
     let point = λ (l : ℕ) (below : l < points_of r.grid r.ray.family). ray_point r l n below all first last in
     let up = bends_up line m o (scaled_way (pos S) x y) S is in record {
@@ -174,11 +174,11 @@ line_of_ray line r k n S e few sweep is first last all =
     }
 
 -- on a stretch of the move
-pub stretch_line_of_ray : (x : StretchLine) (s : OpenStretch) (r : RayOf) (n S : ℕ) → S ≡ 2 ^ r.sweep.depth → S ≤ scale_limit → IsSweep r.sweep.motion → s.first + 2 ^ s.levels ≤ S
-    → IsThroughOn x s r.sweep.motion (point_of r.grid r.ray 0) (scaled_way (pos S) (point_of r.grid r.ray 0) (point_of r.grid r.ray 1)) S
+pub stretch_line_of_ray : (x : StretchLine) (s : OpenStretch) (r : RayOf) (n S : ℕ) → S ≡ 2 ^ r.sweep.depth → S ≤ scale_limit → IsSweep r.sweep.sweep → s.first + 2 ^ s.levels ≤ S
+    → IsThroughOn x s r.sweep.sweep (point_of r.grid r.ray 0) (scaled_way (pos S) (point_of r.grid r.ray 0) (point_of r.grid r.ray 1)) S
     → IsPoint (point_of r.grid r.ray 0) → IsPoint (point_of r.grid r.ray n) → points_of r.grid r.ray.family ≤ n + 1 → IsStretchLineOf x s r
 stretch_line_of_ray x s r n S e few sweep within is first last all =
-    let m = r.sweep.motion in let o = point_of r.grid r.ray 0 in let y = point_of r.grid r.ray 1 in let j = s.first in let k = s.first + 2 ^ s.levels in
+    let m = r.sweep.sweep in let o = point_of r.grid r.ray 0 in let y = point_of r.grid r.ray 1 in let j = s.first in let k = s.first + 2 ^ s.levels in
     let forms = λ (l : ℕ). forms_between x.line m o o y (point_of r.grid r.ray l) j k S (pos l) is.line_is (along_ray r r.ray.j l) in record {
       fits = λ l below.
           forms_fit x.line (pos l) m (point_of r.grid r.ray l) j k S (forms l) sweep (ray_point r l n below all first last) (omega (arith, within)) within few;

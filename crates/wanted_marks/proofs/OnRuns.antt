@@ -1,6 +1,6 @@
 -- The points of a ray between two that are held at the first sample, or at the last one.
 use Rattle.std.proofs.Common.{◌≡◌, true, ℕ, ◌^◌, ◌≤◌, ◌<◌, List, ℤ, pos, ◌*ℤ◌, ◌≤ℤ◌, arith, refl, ap, ap₂, subst, sym, ◌∙◌}
-use Rattle.space.specs.Motion.{axis_at}
+use Rattle.space.specs.Sweeps.{axis_at}
 use Rattle.space.specs.Vectors.{at}
 use Rattle.space.proofs.Naturals.{dot_natural}
 use Rattle.cutter_slabs.specs.Rising.{IsRising}
@@ -20,7 +20,7 @@ use Rattle.wanted_marks.proofs.Holding.{first_width_is, is_removed, last_width_i
 use Rattle.wanted_marks.proofs.Running.{run_held}
 
 n_natural : (v : MoveOf) (k : ℕ) → pos 0 ≤ℤ sample_n v k
-n_natural v k = dot_natural (axis_at v.motion (pos k) (pos (2 ^ v.depth)))
+n_natural v k = dot_natural (axis_at v.sweep (pos k) (pos (2 ^ v.depth)))
 
 abbrev on_ray : RayOf → ℕ → List ℤ
 on_ray r l = point_of r.grid r.ray l
@@ -34,14 +34,14 @@ record IsConvexAt (line : Line) (r : RayOf) (k i j : ℕ) : Type 0 where
 at_first : (r : RayOf) (line : Line) → IsLineOf line r → IsConvexAt line r 0 0 0
 at_first r line is = record {
   u_is = λ l below. ap (λ c. at c 0) (is.forms l below).height;
-  width_is = λ l below. ap (λ c. at c 0) (is.forms l below).width ∙ first_width_is r.sweep.motion (on_ray r l) (2 ^ r.sweep.depth);
+  width_is = λ l below. ap (λ c. at c 0) (is.forms l below).width ∙ first_width_is r.sweep.sweep (on_ray r l) (2 ^ r.sweep.depth);
   convex = is.first_convex;
 }
 
 at_last : (r : RayOf) (line : Line) → IsLineOf line r → IsConvexAt line r (2 ^ r.sweep.depth) 2 4
 at_last r line is = record {
   u_is = λ l below. ap (λ c. at c 2) (is.forms l below).height;
-  width_is = λ l below. ap (λ c. at c 4) (is.forms l below).width ∙ last_width_is r.sweep.motion (on_ray r l) (2 ^ r.sweep.depth);
+  width_is = λ l below. ap (λ c. at c 4) (is.forms l below).width ∙ last_width_is r.sweep.sweep (on_ray r l) (2 ^ r.sweep.depth);
   convex = is.last_convex;
 }
 
@@ -109,6 +109,6 @@ held_first_on line r v held l same is below index there =
       there = subst (λ z. IsHeldIn held r.sweep (on_ray r z) 0) (sym index) (subst (λ (x : MoveOf). IsHeldIn held x (on_ray r l) 0) same (there (on_ray r l) forms));
     }
 
--- the slab that is kept of a move at the last sample, seen from a ray
+-- the slab that is kept of a move at the last sample, for a ray
 pub same_near : (b : Bounds) (v w : MoveOf) → v ≡ w → AreInnerBounds b v (2 ^ v.depth) → AreInnerBounds b w (2 ^ w.depth)
 same_near b v w same near = subst (λ (x : MoveOf). AreInnerBounds b x (2 ^ x.depth)) same near

@@ -3,8 +3,8 @@ use Rattle.std.proofs.Common.{◌≡◌, ℕ, ◌*◌, ◌^◌, ◌≤◌, ◌<�
 use Rattle.std.proofs.lemmas.Int.{ints}
 use Rattle.std.proofs.Math.IntN.{pos-*ℤ-pos}
 use Rattle.std.proofs.Math.Nat.{mul-le-mul}
-use Rattle.space.specs.Motion.{IsSweep, Motion, axis_at}
 use Rattle.space.specs.Ranges.{IsPoint, IsWithin}
+use Rattle.space.specs.Sweeps.{IsSweep, SweepOf, axis_at}
 use Rattle.space.specs.Vectors.{at}
 use Rattle.space.proofs.Naturals.{abs_mul}
 use Rattle.space.proofs.Solver.{Term, var, num, add, mul, ring}
@@ -16,8 +16,8 @@ use Rattle.bern_form.specs.Sizes.{IsBounded2, axis_limit, offset_limit, scale_li
 use Rattle.bern_form.proofs.Sizes.{axis_within, small_as}
 use Rattle.bern_form.specs.declared.form.Form4.{Form4}
 use Rattle.axis_cells.proofs.Bounds.{cross_bounded}
-use Rattle.ray_runs.specs.Moments.{middle_moment, moment}
-use Rattle.ray_runs.specs.Sizes.{turn_limit}
+use Rattle.moment_forms.specs.Moments.{middle_moment, moment}
+use Rattle.moment_forms.specs.Sizes.{moments_limit}
 use Rattle.ray_grid.specs.Grids.{GridSize}
 use Rattle.ray_grid.specs.declared.ray.Family.{Family}
 use Rattle.ray_grid.specs.declared.ray.Family.TheVariants.{X, Y, Z}
@@ -160,15 +160,15 @@ pitch_within grid Y i S is few = (near S (node_at grid 0 i), near S (place_at gr
 pitch_within grid Z i S is few = (near S (node_at grid 0 i), far S (at grid.origin 1) grid.pitch few (short_pitch grid is), near S (place_at grid 2 0))
 
 -- what is kept for the strips of one family
-record HasFamily (forms : GridForms) (m : Motion) (grid : GridSize) (f : Family) (S : ℕ) : Type 0 where
+record HasFamily (forms : GridForms) (m : SweepOf) (grid : GridSize) (f : Family) (S : ℕ) : Type 0 where
   rays : IsSheet (first_rays forms f) m grid.origin (step_way grid f S) (step_way grid (across f) S) S
   side : IsStep (beside_of forms f) m grid.origin (step_way grid (beside f) S) S
   crossed : (crossed_of forms f).c ≡ crossed_form m (step_way grid (beside f) S) (step_way grid f S) S
 
-turned : (m : Motion) (t v : List ℤ) (S : ℕ) → crossed_form m t v S ≡ crossed_form m v t S
+turned : (m : SweepOf) (t v : List ℤ) (S : ℕ) → crossed_form m t v S ≡ crossed_form m v t S
 turned m t v S = crossed_turned t v (n_between m 0 S S) (u_step m t S) (u_step m v S)
 
-rays_are : (forms : GridForms) (along across : StepForms) (crossed : Form4) (m : Motion) (grid : GridSize) (v t : List ℤ) (S : ℕ) → AreGridForms forms m grid S
+rays_are : (forms : GridForms) (along across : StepForms) (crossed : Form4) (m : SweepOf) (grid : GridSize) (v t : List ℤ) (S : ℕ) → AreGridForms forms m grid S
     → IsStep along m grid.origin v S → IsStep across m grid.origin t S → crossed.c ≡ crossed_form m t v S → IsSheet (rays_by forms along across crossed) m grid.origin v t S
 rays_are forms along across crossed m grid v t S are on beside e = record {
   start = are.start;
@@ -181,7 +181,7 @@ rays_are forms along across crossed m grid v t S are on beside e = record {
   height_side_is = beside.height_is;
 }
 
-has_family : (forms : GridForms) (m : Motion) (grid : GridSize) (f : Family) (S : ℕ) → AreGridForms forms m grid S → HasFamily forms m grid f S
+has_family : (forms : GridForms) (m : SweepOf) (grid : GridSize) (f : Family) (S : ℕ) → AreGridForms forms m grid S → HasFamily forms m grid f S
 has_family forms m grid X S are = let x = step_way grid X S in let y = step_way grid Y S in record {
   rays = rays_are forms forms.x forms.y forms.xy m grid x y S are are.x are.y (are.xy_is ∙ turned m x y S);
   side = are.z;
@@ -199,7 +199,7 @@ has_family forms m grid Z S are = let x = step_way grid X S in let z = step_way 
 }
 
 -- the first ray of strip i
-first_ray : (forms : GridForms) (m : Motion) (grid : GridSize) (f : Family) (i S : ℕ) → AreGridForms forms m grid S → IsGrid grid
+first_ray : (forms : GridForms) (m : SweepOf) (grid : GridSize) (f : Family) (i S : ℕ) → AreGridForms forms m grid S → IsGrid grid
     → HasRay (first_rays forms f) m (point_at grid f i 0 0) (step_way grid f S) S (pos (i * forms.per_node))
 first_ray forms m grid f i S are is =
     let g = across f in let pitch = pitch_is grid is ∙ ap (λ k. pos k *ℤ grid.step) (sym are.per_node_is) in
@@ -207,14 +207,14 @@ first_ray forms m grid f i S are is =
     (has_family forms m grid f S are).rays (strips_begin grid f i forms.per_node pitch)
 
 -- k steps add k times what one adds
-record AddsTimes (step : StepForms) (crossed : Form4) (m : Motion) (t v : List ℤ) (k S : ℕ) : Type 0 where
+record AddsTimes (step : StepForms) (crossed : Form4) (m : SweepOf) (t v : List ℤ) (k S : ℕ) : Type 0 where
   start : scaled_vector (pos k) step.moments.start ≡ moment t (axis_at m (pos 0) (pos S))
   middle : scaled_vector (pos k) step.moments.middle ≡ middle_moment t t (axis_at m (pos 0) (pos S)) (axis_at m (pos S) (pos S))
   end : scaled_vector (pos k) step.moments.end ≡ moment t (axis_at m (pos S) (pos S))
   first_side : scaled4 (pos k) crossed.c ≡ crossed_form m t v S
   height : scaled_vector (pos k) step.height ≡ u_step m t S
 
-adds_times : (step : StepForms) (crossed : Form4) (m : Motion) (s w v : List ℤ) (k S : ℕ) → IsStep step m s w S → crossed.c ≡ crossed_form m w v S
+adds_times : (step : StepForms) (crossed : Form4) (m : SweepOf) (s w v : List ℤ) (k S : ℕ) → IsStep step m s w S → crossed.c ≡ crossed_form m w v S
     → AddsTimes step crossed m (scaled_vector (pos k) w) v k S
 adds_times step crossed m s w v k S is across_is =
     let K = pos k in let A = axis_at m (pos 0) (pos S) in let C = axis_at m (pos S) (pos S) in record {
@@ -226,7 +226,7 @@ adds_times step crossed m s w v k S is across_is =
       height = ap (scaled_vector K) is.height_is ∙ sym (dot_times K w A C);
     }
 
-side_adds : (forms : GridForms) (m : Motion) (grid : GridSize) (f : Family) (i S : ℕ) → AreGridForms forms m grid S → IsGrid grid
+side_adds : (forms : GridForms) (m : SweepOf) (grid : GridSize) (f : Family) (i S : ℕ) → AreGridForms forms m grid S → IsGrid grid
     → AddsTimes (beside_of forms f) (crossed_of forms f) m (scaled_way (pos S) (point_at grid f i 0 0) (point_at grid f i 1 0)) (step_way grid f S) forms.per_node S
 side_adds forms m grid f i S are is =
     let k = forms.per_node in let pitch = pitch_is grid is ∙ ap (λ n. pos n *ℤ grid.step) (sym are.per_node_is) in
@@ -235,7 +235,7 @@ side_adds forms m grid f i S are is =
     (adds_times (beside_of forms f) (crossed_of forms f) m grid.origin (step_way grid (beside f) S) (step_way grid f S) k S has.side has.crossed)
 
 -- what is kept of them fits
-times_fit : (step : StepForms) (crossed : Form4) (rays : Sheet) (m : Motion) (o t v : List ℤ) (k i S : ℕ) → AddsTimes step crossed m t v k S → HasRay rays m o v S (pos (i * k))
+times_fit : (step : StepForms) (crossed : Form4) (rays : Sheet) (m : SweepOf) (o t v : List ℤ) (k i S : ℕ) → AddsTimes step crossed m t v k S → HasRay rays m o v S (pos (i * k))
     → IsSweep m → IsPoint o → S ≤ scale_limit → IsWithin offset_limit t → IsWithin offset_limit v → i * k < 2 ^ 32 → FitsStrip rays step crossed k i
 times_fit step crossed rays m o t v k i S adds ray sweep point few ht hv steps =
     let A = axis_at m (pos 0) (pos S) in let C = axis_at m (pos S) (pos S) in
@@ -243,9 +243,9 @@ times_fit step crossed rays m o t v k i S adds ray sweep point few ht hv steps =
     let height = cross_bounded t t A C offset_limit axis_limit ht ht hA hC in record {
       few = steps;
       first_ray = ray_fits rays m o v S (pos (i * k)) ray sweep point few hv;
-      side_start = subst (λ (x : List ℤ). IsWithin turn_limit x) (sym adds.start) (outer_small (moment t A) (moment_small t A ht hA));
-      side_middle = subst (λ (x : List ℤ). IsWithin turn_limit x) (sym adds.middle) (sum_small (moment t C) (moment t A) (moment_small t C ht hC) (moment_small t A ht hA));
-      side_end = subst (λ (x : List ℤ). IsWithin turn_limit x) (sym adds.end) (outer_small (moment t C) (moment_small t C ht hC));
+      side_start = subst (λ (x : List ℤ). IsWithin moments_limit x) (sym adds.start) (outer_small (moment t A) (moment_small t A ht hA));
+      side_middle = subst (λ (x : List ℤ). IsWithin moments_limit x) (sym adds.middle) (sum_small (moment t C) (moment t A) (moment_small t C ht hC) (moment_small t A ht hA));
+      side_end = subst (λ (x : List ℤ). IsWithin moments_limit x) (sym adds.end) (outer_small (moment t C) (moment_small t C ht hC));
       first_side = small_as adds.first_side
           (spread_fits (pos 8) (dot_on_cell t t v v) (n_between m 0 S S) (u_step m t S) (u_step m v S)
           (cross_bounded t t v v offset_limit offset_limit ht ht hv hv) (cross_bounded A C A C axis_limit axis_limit hA hC hA hC) height
@@ -258,7 +258,7 @@ axis_is X = omega arith
 axis_is Y = omega arith
 axis_is Z = omega arith
 
-pub strip_fits : (forms : GridForms) (m : Motion) (grid : GridSize) (f : Family) (i S : ℕ) → AreGridForms forms m grid S → IsGrid grid → i < nodes_of grid (first_axis f)
+pub strip_fits : (forms : GridForms) (m : SweepOf) (grid : GridSize) (f : Family) (i S : ℕ) → AreGridForms forms m grid S → IsGrid grid → i < nodes_of grid (first_axis f)
     → IsSweep m → IsPoint (point_at grid f i 0 0) → S ≤ scale_limit → FitsStrip (first_rays forms f) (beside_of forms f) (crossed_of forms f) forms.per_node i
 strip_fits forms m grid f i S are is node sweep point few =
     let most = (axis_of grid (first_axis f) is (axis_is f)).most in
@@ -277,7 +277,7 @@ pub has_ray : (grid : GridSize) (f : Family) (i : ℕ) → IsGrid grid → i < n
 has_ray grid f i is node = let some = (axis_of grid (second_axis f) is (second_is f)).some in record { first = node; second = omega (arith, some) }
 
 -- sheet i runs through the points of strip i
-sheet_is : (sheet rays : Sheet) (step : StepForms) (crossed : Form4) (m : Motion) (start w o t v : List ℤ) (k i S : ℕ) → IsStripSheet sheet rays step crossed k i
+sheet_is : (sheet rays : Sheet) (step : StepForms) (crossed : Form4) (m : SweepOf) (start w o t v : List ℤ) (k i S : ℕ) → IsStripSheet sheet rays step crossed k i
     → IsSheet rays m start v w S → HasRay rays m o v S (pos (i * k)) → AddsTimes step crossed m t v k S → IsSheet sheet m o v t S
 sheet_is sheet rays step crossed m start w o t v k i S on is ray adds = record {
   start = record { start_is = on.start_is ∙ ray.start; middle_is = on.middle_is ∙ ray.middle; end_is = on.end_is ∙ ray.end };
@@ -290,10 +290,10 @@ sheet_is sheet rays step crossed m start w o t v k i S on is ray adds = record {
   height_side_is = on.height_side_is ∙ adds.height;
 }
 
-pub strip_is : (sheet : Sheet) (forms : GridForms) (v : MoveOf) (grid : GridSize) (f : Family) (i : ℕ) → AreGridForms forms v.motion grid (2 ^ v.depth) → IsGrid grid → 2 ^ v.depth ≤ scale_limit
+pub strip_is : (sheet : Sheet) (forms : GridForms) (v : MoveOf) (grid : GridSize) (f : Family) (i : ℕ) → AreGridForms forms v.sweep grid (2 ^ v.depth) → IsGrid grid → 2 ^ v.depth ≤ scale_limit
     → IsStripSheet sheet (first_rays forms f) (beside_of forms f) (crossed_of forms f) forms.per_node i → IsSheetOf sheet record { sweep = v; grid = grid; family = f; i = i }
 strip_is sheet forms v grid f i are grid_is few on =
-    let S = 2 ^ v.depth in let m = v.motion in let o = point_at grid f i 0 0 in
+    let S = 2 ^ v.depth in let m = v.sweep in let o = point_at grid f i 0 0 in
     let is = sheet_is sheet (first_rays forms f) (beside_of forms f) (crossed_of forms f) m grid.origin (step_way grid (across f) S) o (scaled_way (pos S) o (point_at grid f i 1 0)) (step_way grid f S)
     forms.per_node i S on (has_family forms m grid f S are).rays (first_ray forms m grid f i S are grid_is) (side_adds forms m grid f i S are grid_is) in
     record {

@@ -12,17 +12,17 @@ use Rattle.ray_runs.specs.declared.clear.OpenStretch.{OpenStretch}
 use Rattle.width_bisect.specs.Forms.{AreWidthForms}
 use Rattle.width_bisect.specs.Parts.{IsOpenPart}
 use Rattle.wanted_marks.specs.Opens.{AreOpenAt, IsOpenAt}
-use Rattle.wanted_marks.specs.Parts.{AreAmong}
+use Rattle.wanted_marks.specs.Progress.{AreAmong}
 use Rattle.wanted_marks.specs.Rays.{IsClearOf, MoveOf, RayOf}
 
-pub part_of : (s : OpenStretch) (v : MoveOf) (p u n width : List ℤ) → IsOpenAt s v p → AreWidthForms u n width v.motion p s.first (s.first + 2 ^ s.levels) (2 ^ v.depth)
-    → IsOpenPart (outer_stack v.cutter v.slabs) u n width v.motion p (2 ^ v.depth) s.levels
+pub part_of : (s : OpenStretch) (v : MoveOf) (p u n width : List ℤ) → IsOpenAt s v p → AreWidthForms u n width v.sweep p s.first (s.first + 2 ^ s.levels) (2 ^ v.depth)
+    → IsOpenPart (outer_stack v.cutter v.slabs) u n width v.sweep p (2 ^ v.depth) s.levels
 part_of s v p u n width there forms = record { first = s.first; within = there.within; forms = forms; early = there.early; late = there.late }
 
 -- for each of the points from one index to another
 pub open_for_each : (found : Option OpenStretch) (v : MoveOf) (point : ℕ → List ℤ) (from to : ℕ)
-    → MatchOption found (AreClear record { cutter = v.cutter; slabs = v.slabs } v.motion point (2 ^ v.depth) from to)
-    (λ s. IsOpenOnly s record { cutter = v.cutter; slabs = v.slabs } v.motion point (2 ^ v.depth) from to)
+    → MatchOption found (AreClear record { cutter = v.cutter; slabs = v.slabs } v.sweep point (2 ^ v.depth) from to)
+    (λ s. IsOpenOnly s record { cutter = v.cutter; slabs = v.slabs } v.sweep point (2 ^ v.depth) from to)
     → MatchOption found ((l : ℕ) → from ≤ l → l ≤ to → IsClearOf v (point l)) (λ s. (l : ℕ) → from ≤ l → l ≤ to → IsOpenAt s v (point l))
 open_for_each None v point from to is = λ l after before. let clear = is l after before in record { not_sure = clear.0; not_possible = clear.1 }
 open_for_each (Some s) v point from to is = λ l after before. record { few = is.few; within = is.within; early = is.early l after before; late = is.late l after before }

@@ -22,7 +22,7 @@ use Rattle.cutter_slabs.specs.Rising.{IsRising}
 use Rattle.cutter_slabs.specs.Stacks.{outer_stack}
 use Rattle.axis_cells.specs.Exclusion.{squared}
 use Rattle.box_bisect.specs.SlabTests.{no_slab}
-use Rattle.box_bisect.proofs.Raised.{raised_is}
+use Rattle.ray_boxes.proofs.Raised.{raised_is}
 use Rattle.width_bisect.specs.Below.{IsBelowFrom}
 use Rattle.wanted_marks.specs.Limits.{IsNoWider, all_not_below_zero}
 use Rattle.wanted_marks.specs.Peaks.{IsLeast, IsPeak, is_under}
@@ -76,7 +76,7 @@ quarter x = let X = var 0 in let two = num (pos 2) in ring (x ∷ []) (mul (mul 
 taken_out : (b f z : ℤ) → f *ℤ (b *ℤ z) ≡ b *ℤ (f *ℤ z)
 taken_out b f z = let B = var 0 in let F = var 1 in let Z = var 2 in ring (b ∷ f ∷ z ∷ []) (mul F (mul B Z)) (mul B (mul F Z)) refl
 
--- the five coefficients, by the products that they are made of
+-- the five coefficients, by the products that they are computed from
 end_less : (x n : ℤ) (q : ℤ) → (pos 4 *ℤ x) ≤ℤ q → q <ℤ (pos 4 *ℤ n) → (x -ℤ n) <ℤ pos 0
 end_less x n q h k = omega (arith, ints, h, k)
 
@@ -153,14 +153,14 @@ out_beside S u n W most s no_wider beyond =
     over_less W limits (squared (pos S) s.dia n) ((decides_positive (difference4 W limits)).0 beyond) (within_limits S most n s no_wider).at_most
 
 pub slabs_out : (v : MoveOf) (p : List ℤ) (square least : ℤ) (j : ℕ) → IsRising (outer_stack v.cutter v.slabs)
-    → IsPeak square (u_between v.motion p 0 (2 ^ v.depth) (2 ^ v.depth)) → IsLeast least (n_between v.motion 0 (2 ^ v.depth) (2 ^ v.depth))
-    → IsOutside (outer_stack v.cutter v.slabs) (2 ^ v.depth) square least (n_between v.motion 0 (2 ^ v.depth) (2 ^ v.depth)) (whole_width v.motion p (2 ^ v.depth)) j
-    → (i : ℕ) → i < length (outer_stack v.cutter v.slabs) → ExcludedBetween (nth (outer_stack v.cutter v.slabs) i) v.motion p 0 (2 ^ v.depth) (2 ^ v.depth)
+    → IsPeak square (u_between v.sweep p 0 (2 ^ v.depth) (2 ^ v.depth)) → IsLeast least (n_between v.sweep 0 (2 ^ v.depth) (2 ^ v.depth))
+    → IsOutside (outer_stack v.cutter v.slabs) (2 ^ v.depth) square least (n_between v.sweep 0 (2 ^ v.depth) (2 ^ v.depth)) (whole_width v.sweep p (2 ^ v.depth)) j
+    → (i : ℕ) → i < length (outer_stack v.cutter v.slabs) → ExcludedBetween (nth (outer_stack v.cutter v.slabs) i) v.sweep p 0 (2 ^ v.depth) (2 ^ v.depth)
 slabs_out v p square least zero rising peak floor out i l =
-    let S = 2 ^ v.depth in let outer = outer_stack v.cutter v.slabs in let u = u_between v.motion p 0 S S in let n = n_between v.motion 0 S S in
+    let S = 2 ^ v.depth in let outer = outer_stack v.cutter v.slabs in let u = u_between v.sweep p 0 S S in let n = n_between v.sweep 0 S S in
     inr (inl (under_later S u n square least (nth outer 0) (nth outer i) peak floor (slab_in outer 0 rising (omega (arith, l))).above_tip (above outer 0 i i rising (omega arith) l).low (out.under (omega (arith, l)))))
 slabs_out v p square least (suc k) rising peak floor out i l =
-    let S = 2 ^ v.depth in let outer = outer_stack v.cutter v.slabs in let u = u_between v.motion p 0 S S in let n = n_between v.motion 0 S S in let W = whole_width v.motion p S in
+    let S = 2 ^ v.depth in let outer = outer_stack v.cutter v.slabs in let u = u_between v.sweep p 0 S S in let n = n_between v.sweep 0 S S in let W = whole_width v.sweep p S in
     ⊎_elim
     (λ (h : i < suc k).
     let b = out.beside k refl in
@@ -171,34 +171,34 @@ slabs_out v p square least (suc k) rising peak floor out i l =
     (cases_lt i (suc k))
 
 pub outside_is_clear : (v : MoveOf) (p : List ℤ) (square least : ℤ) (j : ℕ) → (is_sure_in v p ≡ true → is_possible_in v p ≡ true) → IsRising (outer_stack v.cutter v.slabs)
-    → IsPeak square (u_between v.motion p 0 (2 ^ v.depth) (2 ^ v.depth)) → IsLeast least (n_between v.motion 0 (2 ^ v.depth) (2 ^ v.depth))
-    → IsOutside (outer_stack v.cutter v.slabs) (2 ^ v.depth) square least (n_between v.motion 0 (2 ^ v.depth) (2 ^ v.depth)) (whole_width v.motion p (2 ^ v.depth)) j → IsClearOf v p
+    → IsPeak square (u_between v.sweep p 0 (2 ^ v.depth) (2 ^ v.depth)) → IsLeast least (n_between v.sweep 0 (2 ^ v.depth) (2 ^ v.depth))
+    → IsOutside (outer_stack v.cutter v.slabs) (2 ^ v.depth) square least (n_between v.sweep 0 (2 ^ v.depth) (2 ^ v.depth)) (whole_width v.sweep p (2 ^ v.depth)) j → IsClearOf v p
 outside_is_clear v p square least j both rising peak floor out =
     let S = 2 ^ v.depth in let outer = outer_stack v.cutter v.slabs in
     let all = slabs_out v p square least j rising peak floor out in
     is_clear v p both record {
-      each = λ s among. All-contains (λ x. ExcludedBetween x v.motion p 0 S S) outer s
-          (λ i d l. subst (λ x. ExcludedBetween x v.motion p 0 S S) (get_or_default outer i no_slab d l) (all i l)) among;
+      each = λ s among. All-contains (λ x. ExcludedBetween x v.sweep p 0 S S) outer s
+          (λ i d l. subst (λ x. ExcludedBetween x v.sweep p 0 S S) (get_or_default outer i no_slab d l) (all i l)) among;
     }
 
--- the same by what is reckoned
+-- the same by what is computed
 pub outside_by : (v : MoveOf) (p : List ℤ) (S j : ℕ) (outer : List SlabSize) (u n W : List ℤ) (square least : ℤ) → outer ≡ outer_stack v.cutter v.slabs → S ≡ 2 ^ v.depth
-    → u ≡ u_between v.motion p 0 (2 ^ v.depth) (2 ^ v.depth) → n ≡ n_between v.motion 0 (2 ^ v.depth) (2 ^ v.depth) → W ≡ whole_width v.motion p (2 ^ v.depth)
+    → u ≡ u_between v.sweep p 0 (2 ^ v.depth) (2 ^ v.depth) → n ≡ n_between v.sweep 0 (2 ^ v.depth) (2 ^ v.depth) → W ≡ whole_width v.sweep p (2 ^ v.depth)
     → (is_sure_in v p ≡ true → is_possible_in v p ≡ true) → IsRising (outer_stack v.cutter v.slabs) → IsPeak square u → IsLeast least n → IsOutside outer S square least n W j → IsClearOf v p
 outside_by v p S j outer u n W square least eo es eu en ew both rising peak floor out =
-    let k = 2 ^ v.depth in let slabs = outer_stack v.cutter v.slabs in let N = n_between v.motion 0 k k in
+    let k = 2 ^ v.depth in let slabs = outer_stack v.cutter v.slabs in let N = n_between v.sweep 0 k k in
     let o1 = subst (λ (l : List SlabSize). IsOutside l S square least n W j) eo out in
     let o2 = subst (λ (z : ℕ). IsOutside slabs z square least n W j) es o1 in
     let o3 = subst (λ (z : List ℤ). IsOutside slabs k square least z W j) en o2 in
     outside_is_clear v p square least j both rising (subst (IsPeak square) eu peak) (subst (IsLeast least) en floor) (subst (λ (z : List ℤ). IsOutside slabs k square least N z j) ew o3)
 
--- and it is below the slab that begins higher throughout, as a search by its width wants it
+-- and it is below the slab that begins higher throughout, as a search by its width requires
 pub below_from : (v : MoveOf) (p : List ℤ) (S j : ℕ) (outer : List SlabSize) (u n : List ℤ) (square least : ℤ) → outer ≡ outer_stack v.cutter v.slabs → S ≡ 2 ^ v.depth
-    → u ≡ u_between v.motion p 0 (2 ^ v.depth) (2 ^ v.depth) → n ≡ n_between v.motion 0 (2 ^ v.depth) (2 ^ v.depth) → IsPeak square u → IsLeast least n → j ≤ length outer
-    → (j < length outer → is_under S square least (nth outer j) ≡ true) → IsBelowFrom (outer_stack v.cutter v.slabs) v.motion p (2 ^ v.depth) j
+    → u ≡ u_between v.sweep p 0 (2 ^ v.depth) (2 ^ v.depth) → n ≡ n_between v.sweep 0 (2 ^ v.depth) (2 ^ v.depth) → IsPeak square u → IsLeast least n → j ≤ length outer
+    → (j < length outer → is_under S square least (nth outer j) ≡ true) → IsBelowFrom (outer_stack v.cutter v.slabs) v.sweep p (2 ^ v.depth) j
 below_from v p S j outer u n square least eo es eu en peak floor within under =
-    let k = 2 ^ v.depth in let U = u_between v.motion p 0 k k in let N = n_between v.motion 0 k k in
-    subst (λ (l : List SlabSize). IsBelowFrom l v.motion p k j) eo record {
+    let k = 2 ^ v.depth in let U = u_between v.sweep p 0 k k in let N = n_between v.sweep 0 k k in
+    subst (λ (l : List SlabSize). IsBelowFrom l v.sweep p k j) eo record {
       within = within;
       below = λ l.
           let s = nth outer j in let f = scaled_square k s.lo in
@@ -208,7 +208,7 @@ below_from v p S j outer u n square least eo es eu en peak floor within under =
           (under_slab f U N square least (square_not_negative (pos k *ℤ s.lo)) (subst (IsPeak square) eu peak) (subst (IsLeast least) en floor) less);
     }
 
--- the slab that is asked is the one before the number
+-- the slab that is tested is the one before the number
 pub asked_slab : (outer : List SlabSize) (j i : ℕ) (x : SlabSize) → j ≡ suc i → j ≤ length outer → x ≡ get_or outer (j - 1) x → (i < length outer) × (nth outer i ≡ x)
 asked_slab outer j i x e l is =
     let within : i < length outer = omega (arith, e, l) in let same : j - 1 ≡ i = omega (arith, e) in

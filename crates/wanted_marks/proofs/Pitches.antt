@@ -5,7 +5,7 @@ use Rattle.space.proofs.Solver.{var, add, mul, ring}
 use Rattle.space.proofs.Terms.{from, sub}
 use Rattle.bern_form.specs.Cells.{dot_on_cell}
 use Rattle.bern_form.specs.Forms.{scaled4}
-use Rattle.ray_runs.specs.Moments.{middle_moment, moment, vector_sum}
+use Rattle.moment_forms.specs.Moments.{middle_moment, moment, vector_sum}
 use Rattle.wanted_marks.specs.Ways.{scaled_vector}
 use Rattle.wanted_marks.specs.Widths.{spread_form}
 use Rattle.wanted_marks.proofs.Stepping.{cross3, dot3, same3, same5, spread}

@@ -54,7 +54,7 @@ pub sum_fits : (x y e : ℤ) → IsSmall x → IsSmall y → IsSmall e
     → FitsSigned w128 (to_z w128 (of_z w128 (to_z w128 (of_z w128 x) -ℤ to_z w128 (of_z w128 e))) +ℤ to_z w128 (of_z w128 (to_z w128 (of_z w128 y) -ℤ to_z w128 (of_z w128 e))))
 sum_fits x y e h j k = subst (FitsSigned w128) (sym (sum_back x y e h j k)) (sum_small x y e h j k)
 
--- a coefficient that is linear, or quadratic, in a number of steps, where what it is made of fits
+-- a coefficient that is linear, or quadratic, in a number of steps, where what it is computed from fits
 linear_back : (w : Width) (a b l : ℤ) → FitsSigned w a → FitsSigned w b → to_z w (of_z w a) +ℤ l *ℤ to_z w (of_z w b) ≡ a +ℤ l *ℤ b
 linear_back w a b l f g = ap₂ (λ x y. x +ℤ l *ℤ y) (to_z-of_z w a f) (to_z-of_z w b g)
 

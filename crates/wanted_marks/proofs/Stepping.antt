@@ -1,22 +1,22 @@
 -- Along a line the offset from the tip is linear in the number of steps, so the coefficients of u are linear in it and those of d
 -- and of 4 (d n - u^2) quadratic.
 use Rattle.std.proofs.Common.{◌≡◌, ℕ, zero, suc, [], ◌∷◌, List, ℤ, pos, ◌+ℤ◌, ◌*ℤ◌, ◌-ℤ◌, arith, refl, ap, ap₂, subst, sym, ◌∙◌}
-use Rattle.space.specs.Motion.{Motion, axis_at, between, offset, offset_at}
+use Rattle.space.specs.Sweeps.{SweepOf, axis_at, between, offset, offset_at}
 use Rattle.space.specs.Vectors.{at}
 use Rattle.space.proofs.Solver.{Term, var, num, add, mul, ring}
 use Rattle.space.proofs.Terms.{from, sub}
 use Rattle.bern_form.specs.Between.{d_between, n_between, u_between}
 use Rattle.bern_form.specs.Cells.{dot_on_cell}
 use Rattle.bern_form.specs.Forms.{scaled4}
-use Rattle.ray_runs.specs.Moments.{middle_moment, moment, moment_product, vector_product, vector_sum}
-use Rattle.ray_runs.proofs.Lagrange.{lagrange_at, less_squares}
+use Rattle.moment_forms.specs.Moments.{middle_moment, moment, moment_product, vector_product, vector_sum}
+use Rattle.moment_forms.proofs.Lagrange.{lagrange_at, less_squares}
 use Rattle.wanted_marks.specs.declared.line.Line.{Line}
-use Rattle.ray_runs.specs.declared.moments.Moments.{Moments}
+use Rattle.moment_forms.specs.declared.moments.Moments.{Moments}
 use Rattle.wanted_marks.specs.declared.sheet.Sheet.{Sheet}
 use Rattle.wanted_marks.specs.Lines.{HasForms, HasFormsBetween, IsLineFrom, IsThrough, IsThroughBetween, d_step, u_step}
 use Rattle.wanted_marks.specs.Sheets.{AreMoments, IsLineOn, IsSheet, end_at, first_at, middle_at, own_product, start_at}
 use Rattle.wanted_marks.specs.Ways.{IsAlong, scaled_vector, scaled_way}
-use Rattle.wanted_marks.specs.Widths.{IsTurn, moved3, moved5, quadratics, spread_form, whole_width}
+use Rattle.wanted_marks.specs.Widths.{IsAxisForms, moved3, moved5, quadratics, spread_form, whole_width}
 
 pub same3 : (a b c d e f : ℤ) → a ≡ d → b ≡ e → c ≡ f → a ∷ b ∷ c ∷ [] ≡ d ∷ e ∷ f ∷ []
 same3 a b c d e f h k l = ap (λ z. z ∷ b ∷ c ∷ []) h ∙ ap (λ z. d ∷ z ∷ c ∷ []) k ∙ ap (λ z. d ∷ e ∷ z ∷ []) l
@@ -37,7 +37,7 @@ component_moves t s f g z x y l =
     let place = add (mul (sub S T) F) (mul T G) in
     ring (t ∷ s ∷ f ∷ g ∷ z ∷ x ∷ y ∷ l ∷ []) (sub (mul S (add Z (mul L (sub Y X)))) place) (add (sub (mul S Z) place) (mul L (sub (mul S Y) (mul S X)))) refl
 
-pub offset_moves : (m : Motion) (o first next p : List ℤ) (t s l : ℤ) → IsAlong o first next p l → offset_at m p t s ≡ moved3 (offset_at m o t s) (scaled_way s first next) l
+pub offset_moves : (m : SweepOf) (o first next p : List ℤ) (t s l : ℤ) → IsAlong o first next p l → offset_at m p t s ≡ moved3 (offset_at m o t s) (scaled_way s first next) l
 offset_moves m o first next p t s l line =
     same3 _ _ _ _ _ _
     (ap (λ z. offset t s z (at m.from 0) (at m.to 0)) line.x ∙ component_moves t s (at m.from 0) (at m.to 0) (at o 0) (at first 0) (at next 0) l)
@@ -145,24 +145,24 @@ axis_last s f t =
     let S = var 0 in let F = var 1 in let T = var 2 in
     ring (s ∷ f ∷ t ∷ []) (mul S T) (add (mul (sub S S) F) (mul S T)) refl
 
-pub first_offset : (m : Motion) (p : List ℤ) (s : ℤ) → scaled_way s m.from p ≡ offset_at m p (pos 0) s
+pub first_offset : (m : SweepOf) (p : List ℤ) (s : ℤ) → scaled_way s m.from p ≡ offset_at m p (pos 0) s
 first_offset m p s =
     same3 _ _ _ _ _ _ (offset_first s (at p 0) (at m.from 0) (at m.to 0)) (offset_first s (at p 1) (at m.from 1) (at m.to 1)) (offset_first s (at p 2) (at m.from 2) (at m.to 2))
 
-pub last_offset : (m : Motion) (p : List ℤ) (s : ℤ) → scaled_way s m.to p ≡ offset_at m p s s
+pub last_offset : (m : SweepOf) (p : List ℤ) (s : ℤ) → scaled_way s m.to p ≡ offset_at m p s s
 last_offset m p s =
     same3 _ _ _ _ _ _ (offset_last s (at p 0) (at m.from 0) (at m.to 0)) (offset_last s (at p 1) (at m.from 1) (at m.to 1)) (offset_last s (at p 2) (at m.from 2) (at m.to 2))
 
-pub first_axis : (m : Motion) (s : ℤ) → scaled_vector s m.axis_from ≡ axis_at m (pos 0) s
+pub first_axis : (m : SweepOf) (s : ℤ) → scaled_vector s m.axis_from ≡ axis_at m (pos 0) s
 first_axis m s =
     same3 _ _ _ _ _ _ (axis_first s (at m.axis_from 0) (at m.axis_to 0)) (axis_first s (at m.axis_from 1) (at m.axis_to 1)) (axis_first s (at m.axis_from 2) (at m.axis_to 2))
 
-pub last_axis : (m : Motion) (s : ℤ) → scaled_vector s m.axis_to ≡ axis_at m s s
+pub last_axis : (m : SweepOf) (s : ℤ) → scaled_vector s m.axis_to ≡ axis_at m s s
 last_axis m s =
     same3 _ _ _ _ _ _ (axis_last s (at m.axis_from 0) (at m.axis_to 0)) (axis_last s (at m.axis_from 1) (at m.axis_to 1)) (axis_last s (at m.axis_from 2) (at m.axis_to 2))
 
-pub turn_is : (m : Motion) (S : ℕ) (first last n : List ℤ) → first ≡ scaled_vector (pos S) m.axis_from → last ≡ scaled_vector (pos S) m.axis_to → n ≡ dot_on_cell first last first last → IsTurn first last n m S
-turn_is m S first last n ef el en =
+pub axis_forms_are : (m : SweepOf) (S : ℕ) (first last n : List ℤ) → first ≡ scaled_vector (pos S) m.axis_from → last ≡ scaled_vector (pos S) m.axis_to → n ≡ dot_on_cell first last first last → IsAxisForms first last n m S
+axis_forms_are m S first last n ef el en =
     let f = ef ∙ first_axis m (pos S) in let l = el ∙ last_axis m (pos S) in record {
       first_is = f;
       last_is = l;
@@ -170,7 +170,7 @@ turn_is m S first last n ef el en =
     }
 
 -- the forms of the point l steps on
-pub forms_between : (line : Line) (m : Motion) (o first next p : List ℤ) (j k S : ℕ) (l : ℤ) → IsThroughBetween line m o (scaled_way (pos S) first next) j k S
+pub forms_between : (line : Line) (m : SweepOf) (o first next p : List ℤ) (j k S : ℕ) (l : ℤ) → IsThroughBetween line m o (scaled_way (pos S) first next) j k S
     → IsAlong o first next p l → HasFormsBetween line l m p j k S
 forms_between line m o first next p j k S l is on =
     let s = pos S in let v = scaled_way s first next in
@@ -185,7 +185,7 @@ forms_between line m o first next p j k S l is on =
       height = ap₂ (λ x y. moved3 x y l) is.height_is is.height_step_is ∙ sym U;
     }
 
-pub forms_are : (line : Line) (m : Motion) (o first next p : List ℤ) (S : ℕ) (l : ℤ) → IsThrough line m o (scaled_way (pos S) first next) S → IsAlong o first next p l → HasForms line l m p S
+pub forms_are : (line : Line) (m : SweepOf) (o first next p : List ℤ) (S : ℕ) (l : ℤ) → IsThrough line m o (scaled_way (pos S) first next) S → IsAlong o first next p l → HasForms line l m p S
 forms_are line m o first next p S l is on = forms_between line m o first next p 0 S S l is on
 
 -- a line by offsets and axes as they are kept
@@ -242,7 +242,7 @@ moments_are x p q a c P Q A C are ep eq ea ec =
     let m2 = subst (λ (z : List ℤ). AreMoments x P Q z c) ea m1 in subst (λ (z : List ℤ). AreMoments x P Q A z) ec m2
 
 -- line j of a sheet, as what its parts are
-pub record HasRay (sheet : Sheet) (m : Motion) (o v : List ℤ) (S : ℕ) (j : ℤ) : Type 0 where
+pub record HasRay (sheet : Sheet) (m : SweepOf) (o v : List ℤ) (S : ℕ) (j : ℤ) : Type 0 where
   pub start : start_at sheet j ≡ moment (offset_at m o (pos 0) (pos S)) (axis_at m (pos 0) (pos S))
   pub middle : middle_at sheet j ≡ middle_moment (offset_at m o (pos 0) (pos S)) (offset_at m o (pos S) (pos S)) (axis_at m (pos 0) (pos S)) (axis_at m (pos S) (pos S))
   pub end : end_at sheet j ≡ moment (offset_at m o (pos S) (pos S)) (axis_at m (pos S) (pos S))
@@ -250,7 +250,7 @@ pub record HasRay (sheet : Sheet) (m : Motion) (o v : List ℤ) (S : ℕ) (j : �
   pub first : first_at sheet j ≡ spread_form (pos 8) (d_step m o v S) (n_between m 0 S S) (u_between m o 0 S S) (u_step m v S)
   pub height : moved3 sheet.height sheet.height_side j ≡ u_between m o 0 S S
 
-pub ray_by : (sheet : Sheet) (m : Motion) (start first next v o : List ℤ) (S : ℕ) (j : ℤ) → IsSheet sheet m start v (scaled_way (pos S) first next) S → IsAlong start first next o j → HasRay sheet m o v S j
+pub ray_by : (sheet : Sheet) (m : SweepOf) (start first next v o : List ℤ) (S : ℕ) (j : ℤ) → IsSheet sheet m start v (scaled_way (pos S) first next) S → IsAlong start first next o j → HasRay sheet m o v S j
 ray_by sheet m start first next v o S j is on =
     let s = pos S in let t = scaled_way s first next in
     let P = offset_at m start (pos 0) s in let Q = offset_at m start s s in let A = axis_at m (pos 0) s in let C = axis_at m s s in
@@ -272,10 +272,10 @@ ray_by sheet m start first next v o S j is on =
       height = ap₂ (λ x y. moved3 x y j) is.height_is is.height_side_is ∙ sym U;
     }
 
-pub ray_is : (sheet : Sheet) (m : Motion) (start beside v o : List ℤ) (S : ℕ) (j : ℤ) → IsSheet sheet m start v (scaled_way (pos S) start beside) S → IsAlong start start beside o j → HasRay sheet m o v S j
+pub ray_is : (sheet : Sheet) (m : SweepOf) (start beside v o : List ℤ) (S : ℕ) (j : ℤ) → IsSheet sheet m start v (scaled_way (pos S) start beside) S → IsAlong start start beside o j → HasRay sheet m o v S j
 ray_is sheet m start beside v o S j is on = ray_by sheet m start start beside v o S j is on
 
-pub line_is : (line : Line) (sheet : Sheet) (m : Motion) (start v t o : List ℤ) (S : ℕ) (j : ℤ) → IsSheet sheet m start v t S → HasRay sheet m o v S j → IsLineOn line sheet j → IsThrough line m o v S
+pub line_is : (line : Line) (sheet : Sheet) (m : SweepOf) (start v t o : List ℤ) (S : ℕ) (j : ℤ) → IsSheet sheet m start v t S → HasRay sheet m o v S j → IsLineOn line sheet j → IsThrough line m o v S
 line_is line sheet m start v t o S j is ray on = record {
   constant_is = on.constant_is ∙ ray.constant;
   first_is = on.first_is ∙ ray.first;

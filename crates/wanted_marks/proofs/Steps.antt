@@ -1,9 +1,9 @@
 -- What a step adds on a whole move, from the forms of it by the axes at both ends.
 use Rattle.std.proofs.Common.{◌≡◌, ℕ, [], ◌∷◌, List, ℤ, pos, ◌*ℤ◌, ap₂, ◌∙◌}
-use Rattle.space.specs.Motion.{Motion, axis_at, offset_at}
+use Rattle.space.specs.Sweeps.{SweepOf, axis_at, offset_at}
 use Rattle.space.specs.Vectors.{at}
 use Rattle.bern_form.specs.Cells.{dot_on_cell}
-use Rattle.ray_runs.specs.declared.moments.Moments.{Moments}
+use Rattle.moment_forms.specs.declared.moments.Moments.{Moments}
 use Rattle.ray_grid.specs.Grids.{GridSize}
 use Rattle.ray_grid.specs.declared.ray.Family.TheVariants.{X, Y, Z}
 use Rattle.ray_grid.specs.Lattice.{node_at}
@@ -13,7 +13,7 @@ use Rattle.wanted_marks.specs.Sheets.{AreMoments}
 use Rattle.wanted_marks.proofs.OnStrips.{none_is, way_is}
 use Rattle.wanted_marks.proofs.Stepping.{moments_are, product_is, same3}
 
-pub step_is : (step : StepForms) (m : Motion) (s w v : List ℤ) (start : Moments) (a c : List ℤ) (S : ℕ) → IsStepBy step w start a c → w ≡ v
+pub step_is : (step : StepForms) (m : SweepOf) (s w v : List ℤ) (start : Moments) (a c : List ℤ) (S : ℕ) → IsStepBy step w start a c → w ≡ v
     → a ≡ axis_at m (pos 0) (pos S) → c ≡ axis_at m (pos S) (pos S)
     → AreMoments start (offset_at m s (pos 0) (pos S)) (offset_at m s (pos S) (pos S)) (axis_at m (pos 0) (pos S)) (axis_at m (pos S) (pos S)) → IsStep step m s v S
 step_is step m s w v start a c S is ew ea ec from =
@@ -27,7 +27,7 @@ step_is step m s w v start a c S is ew ea ec from =
       height_is = is.height_is ∙ ap₂ (λ p q. dot_on_cell p q a c) ew ew ∙ ap₂ (λ p q. dot_on_cell v v p q) ea ec;
     }
 
-pub crossed_is : (x y : StepForms) (m : Motion) (s t v : List ℤ) (S : ℕ) → IsStep x m s t S → IsStep y m s v S → moments_product (pos 8) x.moments y.moments ≡ crossed_form m t v S
+pub crossed_is : (x y : StepForms) (m : SweepOf) (s t v : List ℤ) (S : ℕ) → IsStep x m s t S → IsStep y m s v S → moments_product (pos 8) x.moments y.moments ≡ crossed_form m t v S
 crossed_is x y m s t v S is_x is_y =
     let A = axis_at m (pos 0) (pos S) in let C = axis_at m (pos S) (pos S) in let p = x.moments in let q = y.moments in
     product_is (pos 8) p.start p.middle p.end q.start q.middle q.end t t v v A C is_x.moments.start_is is_x.moments.middle_is is_x.moments.end_is

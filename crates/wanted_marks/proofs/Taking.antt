@@ -53,7 +53,7 @@ pub told_of : (told o s p w sure possible : Bool) → told ≡ (if o then s else
 told_of told true s p w sure possible e es ep = e ∙ es
 told_of told false s p w sure possible e es ep = e ∙ ep refl
 
--- where no wanted point is told
+-- where no wanted point is reported
 pub none_told : (none w t : Bool) → none ≡ false → (w ≡ true → t ≡ false) → none ≡ (w && t)
 none_told none true t e h = e ∙ sym (h refl)
 none_told none false t e h = e
@@ -62,7 +62,7 @@ pub neither : (o s p : Bool) → s ≡ false → p ≡ false → (if o then s el
 neither true s p es ep = es
 neither false s p es ep = ep
 
--- all that are left are told
+-- all that are left are reported
 left_taken : (w r t : Bool) → (r ≡ true → w ≡ true) → (r ≡ true → t ≡ true) → (((w && not r) && t) || r) ≡ ((w && not false) && t)
 left_taken true true true h k = refl
 left_taken true true false h k = let e = k refl in cc
@@ -79,7 +79,7 @@ rest_taken now word wanted left rest test first k before is none is_wanted is_tr
     is ∙ ap (λ x. x || has_bit left k) before ∙ left_taken (has_bit wanted k) (has_bit left k) (test (first + k)) is_wanted is_true
     ∙ ap (λ x. (has_bit wanted k && not x) && test (first + k)) (sym none)
 
--- those of a run among what is left are told
+-- those of a run among what is left are reported
 both_true : (e t : Bool) → (e ≡ true → t ≡ true) → e ≡ (e && t)
 both_true true t h = sym (h refl)
 both_true false t h = refl

@@ -1,7 +1,7 @@
 -- The forms of a grid's points on a move: those of its first point, and what a step of the lattice along each axis adds.
 use Rattle.std.specs.Prelude.{◌≡◌, ℕ, ◌*◌, ◌^◌, ◌<◌, List, ℤ, pos, All}
-use Rattle.space.specs.Motion.{Motion, axis_at, offset_at}
 use Rattle.space.specs.Ranges.{IsWithin}
+use Rattle.space.specs.Sweeps.{SweepOf, axis_at, offset_at}
 use Rattle.bern_form.specs.Between.{n_between, u_between}
 use Rattle.bern_form.specs.Cells.{dot_on_cell}
 use Rattle.bern_form.specs.Forms.{IsSmall, scaled4}
@@ -11,9 +11,9 @@ use Rattle.ray_grid.specs.Grids.{GridSize}
 use Rattle.ray_grid.specs.declared.ray.Family.{Family}
 use Rattle.ray_grid.specs.declared.ray.Family.TheVariants.{X, Y, Z}
 use Rattle.ray_grid.specs.Lattice.{per_node, point_at}
-use Rattle.ray_runs.specs.Moments.{vector_product}
-use Rattle.ray_runs.specs.Sizes.{turn_limit}
-use Rattle.ray_runs.specs.declared.moments.Moments.{Moments}
+use Rattle.moment_forms.specs.Moments.{vector_product}
+use Rattle.moment_forms.specs.Sizes.{moments_limit}
+use Rattle.moment_forms.specs.declared.moments.Moments.{Moments}
 use Rattle.wanted_marks.specs.declared.grid_forms.GridForms.{GridForms}
 use Rattle.wanted_marks.specs.declared.sheet.Sheet.{Sheet}
 use Rattle.wanted_marks.specs.declared.step_forms.StepForms.{StepForms}
@@ -34,7 +34,7 @@ pub record IsStepBy (step : StepForms) (v : List ℤ) (start : Moments) (a c : L
   pub height_is : step.height ≡ dot_on_cell v v a c
 
 -- on a move it is the vector v, from the point s
-pub record IsStep (step : StepForms) (m : Motion) (s v : List ℤ) (S : ℕ) : Type 0 where
+pub record IsStep (step : StepForms) (m : SweepOf) (s v : List ℤ) (S : ℕ) : Type 0 where
   pub moments : AreSteps step.moments m v S
   pub first_is : step.first.c ≡ spread_form (pos 8) (d_step m s v S) (n_between m 0 S S) (u_between m s 0 S S) (u_step m v S)
   pub second_is : step.second.c ≡ spread_form (pos 4) (dot_on_cell v v v v) (n_between m 0 S S) (u_step m v S) (u_step m v S)
@@ -45,11 +45,11 @@ abbrev pub step_way : GridSize → Family → ℕ → List ℤ
 step_way grid f S = scaled_way (pos S) (point_at grid f 0 0 0) (point_at grid f 0 0 1)
 
 -- eight times the scalar product of what the steps t and v add to the moment
-abbrev pub crossed_form : Motion → List ℤ → List ℤ → ℕ → List ℤ
+abbrev pub crossed_form : SweepOf → List ℤ → List ℤ → ℕ → List ℤ
 crossed_form m t v S = spread_form (pos 8) (dot_on_cell t t v v) (n_between m 0 S S) (u_step m t S) (u_step m v S)
 
 -- the first point is the grid's origin, and the steps are those of the grid
-pub record AreGridForms (forms : GridForms) (m : Motion) (grid : GridSize) (S : ℕ) : Type 0 where
+pub record AreGridForms (forms : GridForms) (m : SweepOf) (grid : GridSize) (S : ℕ) : Type 0 where
   pub per_node_is : forms.per_node ≡ per_node grid
   pub start : AreMoments forms.start (offset_at m grid.origin (pos 0) (pos S)) (offset_at m grid.origin (pos S) (pos S))
       (axis_at m (pos 0) (pos S)) (axis_at m (pos S) (pos S))
@@ -74,7 +74,7 @@ rays_by forms along across crossed = record {
   height_side = across.height;
 }
 
--- those of a family, across the strips: every so many of them is the first ray of a strip
+-- those of a family, across the strips: at equal distances one of them is the first ray of a strip
 abbrev pub first_rays : GridForms → Family → Sheet
 first_rays forms X = rays_by forms forms.x forms.y forms.xy
 first_rays forms Y = rays_by forms forms.y forms.x forms.xy
@@ -91,13 +91,13 @@ crossed_of forms X = forms.zx
 crossed_of forms Y = forms.yz
 crossed_of forms Z = forms.yz
 
--- what a strip's sheet is made of fits, where a pitch has k steps
+-- what a strip's sheet is computed from fits, where a pitch has k steps
 pub record FitsStrip (rays : Sheet) (beside : StepForms) (crossed : Form4) (k i : ℕ) : Type 0 where
   pub few : i * k < 2 ^ 32
   pub first_ray : FitsOn rays (pos (i * k))
-  pub side_start : IsWithin turn_limit (scaled_vector (pos k) beside.moments.start)
-  pub side_middle : IsWithin turn_limit (scaled_vector (pos k) beside.moments.middle)
-  pub side_end : IsWithin turn_limit (scaled_vector (pos k) beside.moments.end)
+  pub side_start : IsWithin moments_limit (scaled_vector (pos k) beside.moments.start)
+  pub side_middle : IsWithin moments_limit (scaled_vector (pos k) beside.moments.middle)
+  pub side_end : IsWithin moments_limit (scaled_vector (pos k) beside.moments.end)
   pub first_side : All IsSmall (scaled4 (pos k) crossed.c)
   pub height_side : IsBounded2 (3 * (offset_limit * axis_limit)) (scaled_vector (pos k) beside.height)
 

@@ -7,7 +7,7 @@ pub mod Samples
 pub mod Nears
 pub mod Runs
 pub mod Peaks
-pub mod Parts
+pub mod Progress
 pub mod Sheets
 pub mod GridForms
 pub mod Limits

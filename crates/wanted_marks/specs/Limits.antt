@@ -33,4 +33,4 @@ pub record IsWithinLimits (limits n : List ℤ) (S : ℕ) (s : SlabSize) : Type 
 abbrev pub AreLimits : List ℤ → MoveOf → Type 0
 AreLimits limits v =
     let S = 2 ^ v.depth in
-    All (IsWithinLimits limits (n_between v.motion 0 S S) S) (outer_stack v.cutter v.slabs)
+    All (IsWithinLimits limits (n_between v.sweep 0 S S) S) (outer_stack v.cutter v.slabs)

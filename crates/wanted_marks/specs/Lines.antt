@@ -1,6 +1,6 @@
 -- The forms of the points of a line on a move, as they are kept, and at the point l steps on.
 use Rattle.std.specs.Prelude.{◌≡◌, ℕ, ◌*◌, ◌^◌, ◌<◌, List, ℤ, pos, ◌+ℤ◌, ◌*ℤ◌, ◌≤ℤ◌, All}
-use Rattle.space.specs.Motion.{Motion, axis_at, offset_at}
+use Rattle.space.specs.Sweeps.{SweepOf, axis_at, offset_at}
 use Rattle.space.specs.Vectors.{at}
 use Rattle.bern_form.specs.Between.{u_between}
 use Rattle.bern_form.specs.Cells.{dot_on_cell}
@@ -36,17 +36,17 @@ pub record FitsAt (line : Line) (l : ℤ) : Type 0 where
   pub height : IsBounded2 (3 * (offset_limit * axis_limit)) (heights_at line l)
 
 -- they are those of the point p between the samples j and k of S
-pub record HasFormsBetween (line : Line) (l : ℤ) (m : Motion) (p : List ℤ) (j k S : ℕ) : Type 0 where
+pub record HasFormsBetween (line : Line) (l : ℤ) (m : SweepOf) (p : List ℤ) (j k S : ℕ) : Type 0 where
   pub width : width_at line l ≡ width_between m p j k S
   pub height : heights_at line l ≡ u_between m p j k S
 
 -- on the whole move
-abbrev pub HasForms : Line → ℤ → Motion → List ℤ → ℕ → Type 0
+abbrev pub HasForms : Line → ℤ → SweepOf → List ℤ → ℕ → Type 0
 HasForms line l m p S = HasFormsBetween line l m p 0 S S
 
 -- on a move of a cutter, at the cells of its depth
 abbrev pub HasFormsIn : Line → ℤ → MoveOf → List ℤ → Type 0
-HasFormsIn line l v p = HasForms line l v.motion p (2 ^ v.depth)
+HasFormsIn line l v p = HasForms line l v.sweep p (2 ^ v.depth)
 
 -- The line runs through the points of the ray, and what the width form bends by from one of them to another fits. At the first sample and
 -- at the last one it bends upwards.
@@ -57,11 +57,11 @@ pub record IsLineOf (line : Line) (r : RayOf) : Type 0 where
   pub first_convex : pos 0 ≤ℤ at line.second.c 0
   pub last_convex : pos 0 ≤ℤ at line.second.c 4
 
--- what u grows by with a step v, which is taken times S; and half of what d grows by, from the point s on, but for |v|^2
-abbrev pub u_step : Motion → List ℤ → ℕ → List ℤ
+-- what u grows by with a step v, which is taken times S; and half of what d grows by, from the point s on, except for |v|^2
+abbrev pub u_step : SweepOf → List ℤ → ℕ → List ℤ
 u_step m v S = dot_on_cell v v (axis_at m (pos 0) (pos S)) (axis_at m (pos S) (pos S))
 
-abbrev pub d_step : Motion → List ℤ → List ℤ → ℕ → List ℤ
+abbrev pub d_step : SweepOf → List ℤ → List ℤ → ℕ → List ℤ
 d_step m s v S = dot_on_cell (offset_at m s (pos 0) (pos S)) (offset_at m s (pos S) (pos S)) v v
 
 -- The line goes on by the step v from a point whose offsets from the tip at two samples are p and q; a and c are the axes there.
@@ -75,11 +75,11 @@ pub record IsLineFrom (line : Line) (p q v a c : List ℤ) : Type 0 where
   pub height_step_is : line.height_step ≡ dot_on_cell v v a c
 
 -- between the samples j and k of S it begins at the point s
-abbrev pub IsThroughBetween : Line → Motion → List ℤ → List ℤ → ℕ → ℕ → ℕ → Type 0
+abbrev pub IsThroughBetween : Line → SweepOf → List ℤ → List ℤ → ℕ → ℕ → ℕ → Type 0
 IsThroughBetween line m s v j k S =
     IsLineFrom line (offset_at m s (pos j) (pos S)) (offset_at m s (pos k) (pos S)) v
     (axis_at m (pos j) (pos S)) (axis_at m (pos k) (pos S))
 
 -- on the whole move
-abbrev pub IsThrough : Line → Motion → List ℤ → List ℤ → ℕ → Type 0
+abbrev pub IsThrough : Line → SweepOf → List ℤ → List ℤ → ℕ → Type 0
 IsThrough line m s v S = IsThroughBetween line m s v 0 S S

@@ -11,8 +11,8 @@ use Rattle.wanted_marks.specs.Rays.{MoveOf, RayOf}
 pub record IsOpenAt (s : OpenStretch) (v : MoveOf) (p : List ℤ) : Type 0 where
   pub few : s.levels ≤ 10
   pub within : s.first + 2 ^ s.levels ≤ 2 ^ v.depth
-  pub early : IsOutWithin (outer_stack v.cutter v.slabs) v.motion p 0 s.first (2 ^ v.depth)
-  pub late : IsOutWithin (outer_stack v.cutter v.slabs) v.motion p (s.first + 2 ^ s.levels) (2 ^ v.depth) (2 ^ v.depth)
+  pub early : IsOutWithin (outer_stack v.cutter v.slabs) v.sweep p 0 s.first (2 ^ v.depth)
+  pub late : IsOutWithin (outer_stack v.cutter v.slabs) v.sweep p (s.first + 2 ^ s.levels) (2 ^ v.depth) (2 ^ v.depth)
 
 -- for each point of these bits
 pub record AreOpenAt (s : OpenStretch) (r : RayOf) (first bits : ℕ) : Type 0 where

@@ -1,6 +1,6 @@
 -- The points of one ray against one move of a cutter.
 use Rattle.std.specs.Prelude.{◌≡◌, ℕ, ◌+◌, ◌^◌, ◌<◌, Bool, true, false, ◌&&◌, if◌then◌else◌, List, ℤ}
-use Rattle.space.specs.Motion.{Motion}
+use Rattle.space.specs.Sweeps.{SweepOf}
 use Rattle.cutter_slabs.specs.Cutter.{CutterSize}
 use Rattle.cutter_slabs.specs.Stacks.{StacksOf}
 use Rattle.cutter_marks.specs.MarkBy.{is_possible_by, is_sure_by}
@@ -13,19 +13,19 @@ use Rattle.vf_spans.specs.Words.{has_bit}
 pub record MoveOf : Type 0 where
   pub cutter : CutterSize
   pub slabs : ℕ
-  pub motion : Motion
+  pub sweep : SweepOf
   pub depth : ℕ
 
 -- by the stacks of the cutter
-abbrev pub move_of : StacksOf → Motion → ℕ → MoveOf
-move_of stacks motion depth = record { cutter = stacks.cutter; slabs = stacks.slabs; motion = motion; depth = depth }
+abbrev pub move_of : StacksOf → SweepOf → ℕ → MoveOf
+move_of stacks sweep depth = record { cutter = stacks.cutter; slabs = stacks.slabs; sweep = sweep; depth = depth }
 
 -- the point p is sure to be cut by the move, and it may be met by it
 abbrev pub is_sure_in : MoveOf → List ℤ → Bool
-is_sure_in v p = is_sure_by v.cutter v.slabs v.motion p (2 ^ v.depth)
+is_sure_in v p = is_sure_by v.cutter v.slabs v.sweep p (2 ^ v.depth)
 
 abbrev pub is_possible_in : MoveOf → List ℤ → Bool
-is_possible_in v p = is_possible_by v.cutter v.slabs v.motion p (2 ^ v.depth)
+is_possible_in v p = is_possible_by v.cutter v.slabs v.sweep p (2 ^ v.depth)
 
 -- a ray of a grid, and a move of a cutter
 pub record RayOf : Type 0 where
@@ -55,7 +55,7 @@ is_sure_at r l = is_sure_in r.sweep (point_of r.grid r.ray l)
 abbrev pub is_possible_at : RayOf → ℕ → Bool
 is_possible_at r l = is_possible_in r.sweep (point_of r.grid r.ray l)
 
--- it is told as possible: where only the sure ones are asked for, a sure one alone
+-- it is reported as possible: where only the sure ones are wanted, only a sure one
 abbrev pub is_told_at : RayOf → Bool → ℕ → Bool
 is_told_at r sure_only l = if sure_only then is_sure_at r l else is_possible_at r l
 
@@ -70,6 +70,6 @@ is_sure_bit r first wanted b = has_bit wanted b && is_sure_at r (first + b)
 abbrev pub is_possible_bit : RayOf → ℕ → ℕ → ℕ → Bool
 is_possible_bit r first wanted b = has_bit wanted b && is_possible_at r (first + b)
 
--- bit b is told as possible
+-- bit b is reported as possible
 abbrev pub is_told_bit : RayOf → ℕ → ℕ → ℕ → ℕ → Bool
 is_told_bit r first wanted sure_only b = has_bit wanted b && is_told_at r (has_bit sure_only b) (first + b)

@@ -1,19 +1,19 @@
 -- A point at a sample of a move.
 use Rattle.std.specs.Prelude.{◌≡◌, ℕ, ◌^◌, List, ℤ, pos, ◌*ℤ◌}
-use Rattle.space.specs.Motion.{axis_at, offset_at}
+use Rattle.space.specs.Sweeps.{axis_at, offset_at}
 use Rattle.space.specs.Vectors.{dot, spread}
 use Rattle.width_bisect.specs.declared.sample.Sample.{Sample}
 use Rattle.wanted_marks.specs.Rays.{MoveOf}
 
 -- u and the width of the point p at the sample k, and n
 abbrev pub sample_u : MoveOf → List ℤ → ℕ → ℤ
-sample_u v p k = let S = pos (2 ^ v.depth) in dot (offset_at v.motion p (pos k) S) (axis_at v.motion (pos k) S)
+sample_u v p k = let S = pos (2 ^ v.depth) in dot (offset_at v.sweep p (pos k) S) (axis_at v.sweep (pos k) S)
 
 abbrev pub sample_width : MoveOf → List ℤ → ℕ → ℤ
-sample_width v p k = let S = pos (2 ^ v.depth) in pos 4 *ℤ spread (offset_at v.motion p (pos k) S) (axis_at v.motion (pos k) S)
+sample_width v p k = let S = pos (2 ^ v.depth) in pos 4 *ℤ spread (offset_at v.sweep p (pos k) S) (axis_at v.sweep (pos k) S)
 
 abbrev pub sample_n : MoveOf → ℕ → ℤ
-sample_n v k = let S = pos (2 ^ v.depth) in dot (axis_at v.motion (pos k) S) (axis_at v.motion (pos k) S)
+sample_n v k = let S = pos (2 ^ v.depth) in dot (axis_at v.sweep (pos k) S) (axis_at v.sweep (pos k) S)
 
 -- it is the sample k of the move for the point p
 pub record IsSampleOf (sample : Sample) (v : MoveOf) (p : List ℤ) (k : ℕ) : Type 0 where

@@ -1,15 +1,15 @@
 -- The forms of rays side by side on a whole move: lines whose first points lie on a line, and which all go on by the same step.
 use Rattle.std.specs.Prelude.{◌≡◌, ℕ, ◌*◌, List, ℤ, pos, All}
-use Rattle.space.specs.Motion.{Motion, axis_at, offset_at}
 use Rattle.space.specs.Ranges.{IsWithin}
+use Rattle.space.specs.Sweeps.{SweepOf, axis_at, offset_at}
 use Rattle.bern_form.specs.Between.{n_between, u_between}
 use Rattle.bern_form.specs.Cells.{dot_on_cell}
 use Rattle.bern_form.specs.Forms.{IsSmall, scaled4}
 use Rattle.bern_form.specs.Sizes.{IsBounded2, axis_limit, offset_limit}
-use Rattle.ray_runs.specs.Moments.{middle_moment, moment, vector_product}
-use Rattle.ray_runs.specs.Sizes.{turn_limit}
+use Rattle.moment_forms.specs.Moments.{middle_moment, moment, vector_product}
+use Rattle.moment_forms.specs.Sizes.{moments_limit}
 use Rattle.wanted_marks.specs.declared.line.Line.{Line}
-use Rattle.ray_runs.specs.declared.moments.Moments.{Moments}
+use Rattle.moment_forms.specs.declared.moments.Moments.{Moments}
 use Rattle.wanted_marks.specs.declared.sheet.Sheet.{Sheet}
 use Rattle.wanted_marks.specs.Lines.{d_step, u_step}
 use Rattle.wanted_marks.specs.Ways.{scaled_way}
@@ -22,11 +22,11 @@ pub record AreMoments (x : Moments) (p q a c : List ℤ) : Type 0 where
   pub end_is : x.end ≡ moment q c
 
 -- those of a step v, which both offsets grow by
-abbrev pub AreSteps : Moments → Motion → List ℤ → ℕ → Type 0
+abbrev pub AreSteps : Moments → SweepOf → List ℤ → ℕ → Type 0
 AreSteps x m v S = AreMoments x v v (axis_at m (pos 0) (pos S)) (axis_at m (pos S) (pos S))
 
 -- the sheet begins at the point s; along a line it goes on by the step v, from a line to the next by the step t
-pub record IsSheet (sheet : Sheet) (m : Motion) (s v t : List ℤ) (S : ℕ) : Type 0 where
+pub record IsSheet (sheet : Sheet) (m : SweepOf) (s v t : List ℤ) (S : ℕ) : Type 0 where
   pub start : AreMoments sheet.start (offset_at m s (pos 0) (pos S)) (offset_at m s (pos S) (pos S))
       (axis_at m (pos 0) (pos S)) (axis_at m (pos S) (pos S))
   pub side : AreSteps sheet.side m t S
@@ -38,7 +38,7 @@ pub record IsSheet (sheet : Sheet) (m : Motion) (s v t : List ℤ) (S : ℕ) : T
   pub height_side_is : sheet.height_side ≡ u_step m t S
 
 -- the sheet begins at the point `start`; a line goes on to `next`, and the next line begins at `beside`
-abbrev pub IsSheetThrough : Sheet → Motion → List ℤ → List ℤ → List ℤ → ℕ → Type 0
+abbrev pub IsSheetThrough : Sheet → SweepOf → List ℤ → List ℤ → List ℤ → ℕ → Type 0
 IsSheetThrough sheet m start next beside S =
     IsSheet sheet m start (scaled_way (pos S) start next) (scaled_way (pos S) start beside) S
 
@@ -64,9 +64,9 @@ first_at sheet j = moved5 sheet.first.c sheet.first_side.c j
 
 -- what differs from line to line of a sheet fits, at line j
 pub record FitsOn (sheet : Sheet) (j : ℤ) : Type 0 where
-  pub start : IsWithin turn_limit (start_at sheet j)
-  pub middle : IsWithin turn_limit (middle_at sheet j)
-  pub end : IsWithin turn_limit (end_at sheet j)
+  pub start : IsWithin moments_limit (start_at sheet j)
+  pub middle : IsWithin moments_limit (middle_at sheet j)
+  pub end : IsWithin moments_limit (end_at sheet j)
   pub first : All IsSmall (first_at sheet j)
   pub height : IsBounded2 (3 * (offset_limit * axis_limit)) (moved3 sheet.height sheet.height_side j)
 

@@ -32,7 +32,7 @@ way_to s j l S = scaled_way (pos S) (strip_point s 0 0) (strip_point s j l)
 
 -- the sheet runs through the points of the strip, by steps that are no longer than an offset can be
 pub record IsSheetOf (sheet : Sheet) (s : StripOf) : Type 0 where
-  pub forms : IsSheetThrough sheet s.sweep.motion (strip_point s 0 0) (strip_point s 0 1) (strip_point s 1 0) (2 ^ s.sweep.depth)
+  pub forms : IsSheetThrough sheet s.sweep.sweep (strip_point s 0 0) (strip_point s 0 1) (strip_point s 1 0) (2 ^ s.sweep.depth)
   pub within : IsWithin offset_limit (way_to s 0 1 (2 ^ s.sweep.depth))
 
 -- it is a strip of the grid, and the sheet runs through its points

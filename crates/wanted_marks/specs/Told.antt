@@ -1,4 +1,4 @@
--- What a mark tells of a point.
+-- What a mark says of a point.
 use Rattle.std.specs.Prelude.{ℕ, Bool, true, false, ◌&&◌, ◌||◌, nat_eq}
 use Rattle.axis_cells.specs.declared.mark.Mark.{Mark}
 use Rattle.axis_cells.specs.declared.mark.Mark.TheVariants.{Clear, Possible, Removed}
@@ -18,11 +18,11 @@ tells_possible Removed = true
 tells_possible Possible = true
 tells_possible Clear = false
 
--- bit k of the word, where a fact is told of bit b
+-- bit k of the word, where a fact is reported of bit b
 abbrev pub with_told : ℕ → ℕ → Bool → ℕ → Bool
 with_told word b told k = has_bit word k || (nat_eq k b && told)
 
--- what is asked of a point of which it may be asked only whether it is sure
+-- the question about a point, which may be only whether it is sure
 abbrev pub asked_at : Bool → Asked
 asked_at true = Sure
 asked_at false = Whole

@@ -1,7 +1,7 @@
--- How wide of the axis a point stands on a whole move: the form 4 (d n - u^2), which is four times the squared distance from the
+-- How far from the axis a point is on a whole move: the form 4 (d n - u^2), which is four times the squared distance from the
 -- axis times n. Along a line it is a quadratic in the number of steps, coefficient by coefficient.
 use Rattle.std.specs.Prelude.{◌≡◌, ℕ, List, [], ◌∷◌, ℤ, pos, ◌+ℤ◌, ◌*ℤ◌}
-use Rattle.space.specs.Motion.{Motion, axis_at}
+use Rattle.space.specs.Sweeps.{SweepOf, axis_at}
 use Rattle.space.specs.Vectors.{at}
 use Rattle.bern_form.specs.Between.{d_between, n_between, u_between}
 use Rattle.bern_form.specs.Forms.{difference4, product22, scaled4}
@@ -11,7 +11,7 @@ abbrev pub spread_form : ℤ → List ℤ → List ℤ → List ℤ → List ℤ
 spread_form by d n u v = scaled4 by (difference4 (product22 d n) (product22 u v))
 
 -- the width form of the point p on a move of S cells
-abbrev pub whole_width : Motion → List ℤ → ℕ → List ℤ
+abbrev pub whole_width : SweepOf → List ℤ → ℕ → List ℤ
 whole_width m p S = spread_form (pos 4) (d_between m p 0 S S) (n_between m 0 S S) (u_between m p 0 S S) (u_between m p 0 S S)
 
 -- a + b l, for three numbers
@@ -43,7 +43,7 @@ quadratics a b c l =
     ∷ []
 
 -- the axis times S at both ends of a move of S cells, and n
-pub record IsTurn (first last n : List ℤ) (m : Motion) (S : ℕ) : Type 0 where
+pub record IsAxisForms (first last n : List ℤ) (m : SweepOf) (S : ℕ) : Type 0 where
   pub first_is : first ≡ axis_at m (pos 0) (pos S)
   pub last_is : last ≡ axis_at m (pos S) (pos S)
   pub n_is : n ≡ n_between m 0 S S

@@ -2,17 +2,17 @@ ghost use Rattle.std.specs.Prelude.{◌≡◌, ◌≤◌, IsTrue};
 ghost use Rattle.bern_form.specs.Sizes.{scale_limit};
 ghost use Rattle.ray_grid.specs.Lattice.{per_node};
 ghost use Rattle.wanted_marks.specs.GridForms.{AreGridForms, FitsStrip, IsStripSheet, beside_of, crossed_of, first_rays, rays_by};
-ghost use Rattle.wanted_marks.specs.Widths.{IsTurn};
+ghost use Rattle.wanted_marks.specs.Widths.{IsAxisForms};
 
+use crate::axis_forms::AxisForms;
 use crate::moments::{eight_products, heights_moved, heights_times, moved, times};
 use crate::scaled::{scaled_step, scaled_way};
 use crate::sheet::{Sheet, moved4, times4};
 use crate::step_forms::StepForms;
-use crate::turn::Turn;
 use axis_cells::Sweep;
 use bern_form::Form4;
+use moment_forms::{Moments, heights};
 use ray_grid::{Family, Grid};
-use ray_runs::{Moments, heights};
 
 /// How many steps of a grid make its pitch.
 fn steps_of(grid: &Grid) -> u32
@@ -22,7 +22,7 @@ fn steps_of(grid: &Grid) -> u32
 }
 
 /// The steps by which the strips of a family are laid out: one along the rays, one across, from a strip towards the next, and one from a
-/// ray of a strip towards the ray beside it; with eight times the scalar products of what the first adds to the moment and what each of
+/// ray of a strip towards the next ray; with eight times the scalar products of what the first adds to the moment and what each of
 /// the others adds.
 #[derive(Drop)]
 struct StripSteps<'a> {
@@ -51,24 +51,25 @@ pub struct GridForms {
 }
 
 impl GridForms {
-    pub fn of_grid(grid: &Grid, sweep: &Sweep, turn: &Turn, scale: u32) -> GridForms
-        requires turn { IsTurn turn.now.first turn.now.last turn.now.n.c sweep.now scale }
+    /// Of a grid on a move of `scale` cells, at most 1024, on which the axis turns in this way.
+    pub fn of_grid(grid: &Grid, sweep: &Sweep, axis_forms: &AxisForms, scale: u32) -> GridForms
+        requires axis_forms { IsAxisForms axis_forms.now.first axis_forms.now.last axis_forms.now.n.c sweep.now scale }
         requires scale { scale ≤ scale_limit }
         ensures grid { result.grid ≡ grid.now }
         ensures forms { AreGridForms result sweep.now grid.now scale }
     {
         let from = scaled_way(scale, &sweep.from, &grid.origin);
         let to = scaled_way(scale, &sweep.to, &grid.origin);
-        let start = Moments::between(&from, &to, &turn.first, &turn.last);
+        let start = Moments::between(&from, &to, &axis_forms.first, &axis_forms.last);
         let step = scaled_step(scale, grid.step);
-        let x = StepForms::along(&[step, 0, 0], &start, &turn.first, &turn.last);
-        let y = StepForms::along(&[0, step, 0], &start, &turn.first, &turn.last);
-        let z = StepForms::along(&[0, 0, step], &start, &turn.first, &turn.last);
+        let x = StepForms::along(&[step, 0, 0], &start, &axis_forms.first, &axis_forms.last);
+        let y = StepForms::along(&[0, step, 0], &start, &axis_forms.first, &axis_forms.last);
+        let z = StepForms::along(&[0, 0, step], &start, &axis_forms.first, &axis_forms.last);
         GridForms {
             grid: *grid,
             per_node: steps_of(grid),
             start,
-            height: heights(&from, &to, &turn.first, &turn.last),
+            height: heights(&from, &to, &axis_forms.first, &axis_forms.last),
             xy: Form4 {
                 c: eight_products(&x.moments, &y.moments),
             },

@@ -4,7 +4,7 @@ use axis_cells::Mark;
 use width_bisect::{Bounds, Sample};
 
 /// A point of a ray that an inner slab holds at the first sample of a move, or at the last one: its index, that sample, and what the slab
-/// asks of a point there.
+/// requires of a point there.
 #[derive(Drop)]
 pub struct Held {
     pub index: u32,
@@ -22,7 +22,7 @@ impl Held {
     }
 }
 
-/// What is told of a point: its mark, and what is known of it where an inner slab holds it at its last sample.
+/// What is reported of a point: its mark, and what is known of it where an inner slab holds it at its last sample.
 #[derive(Drop)]
 pub struct Told {
     pub mark: Mark,

@@ -6,7 +6,7 @@ ghost use Rattle.wanted_marks.specs.Lines.{FitsAt, bend_over, coefficient_at, he
 use crate::line::Line;
 
 /// Whether each coefficient of u is below 0 at all points from the one l steps on to the one m steps on. Each is linear in the
-/// number of steps, so both ends tell.
+/// number of steps, so both ends decide.
 #[inline]
 pub fn are_behind(line: &Line, l: u32, m: u32) -> bool
     requires first { FitsAt line.now (pos l) }
@@ -45,7 +45,7 @@ fn is_above_on(line: &Line, k: usize, l: u32, m: u32, limit: i128) -> bool
     i128::from(steps * steps) * line.second.c[k] < (first - limit) + (last - limit)
 }
 
-/// Whether each coefficient of the width form is above its limit at all these points. The last one is looked at first, for it is
+/// Whether each coefficient of the width form is above its limit at all these points. The last one is tested first, for it is
 /// the one that most often isn't.
 pub fn are_beside(line: &Line, l: u32, m: u32, limits: &[i128; 5]) -> bool
     requires order { l ≤ m }

@@ -1,6 +1,7 @@
 //! The marks of a ray's wanted points, a word of 64 at a time.
 #![tactic(auto)]
 
+mod axis_forms;
 mod grid_forms;
 mod held;
 mod hull;
@@ -11,7 +12,6 @@ mod moments;
 mod move_marker;
 mod near;
 mod on_stretch;
-mod part;
 mod peak;
 mod ray_marker;
 mod ready_move;
@@ -21,8 +21,8 @@ mod sides;
 mod slab_table;
 mod step_forms;
 mod strip_marker;
-mod turn;
 mod word;
+mod word_progress;
 
 pub use move_marker::MoveMarker;
 pub use near::LOW_SLAB;

@@ -5,7 +5,7 @@ ghost use Rattle.space.specs.Ranges.{IsWithin};
 ghost use Rattle.space.specs.Vectors.{at};
 ghost use Rattle.bern_form.specs.Forms.{IsSmall, all_negative, all_positive, difference4, scaled4};
 ghost use Rattle.bern_form.specs.Sizes.{axis_limit, offset_limit};
-ghost use Rattle.ray_runs.specs.Sizes.{turn_limit};
+ghost use Rattle.moment_forms.specs.Sizes.{moments_limit};
 ghost use Rattle.wanted_marks.specs.Lines.{FitsAt, IsLineFrom, coefficient_at, height_at, heights_at, width_at};
 ghost use Rattle.wanted_marks.specs.Peaks.{IsPeak};
 ghost use Rattle.wanted_marks.specs.Widths.{quadratic};
@@ -13,7 +13,7 @@ ghost use Rattle.wanted_marks.specs.Widths.{quadratic};
 use crate::moments::{eight_products, linear};
 use crate::peak::peak_of;
 use bern_form::Form4;
-use ray_runs::{Moments, heights};
+use moment_forms::{Moments, heights};
 use width_bisect::product;
 
 /// a + l x, or what is left of it in 128 bits.
@@ -24,7 +24,7 @@ pub fn wrapped(a: i128, l: i128, x: i128) -> i128
     l.wrapping_mul(x).wrapping_add(a)
 }
 
-/// a + b l + c l^2. The parts may be larger than what fits: where the whole fits, what wrapped comes back.
+/// a + b l + c l^2. The parts may be larger than what fits: where the whole fits, wrapping gives back the exact sum.
 #[inline]
 pub fn quadratic(a: i128, b: i128, c: i128, l: u32) -> i128
     requires { IsSmall (quadratic a b c (pos l)) }
@@ -100,7 +100,7 @@ impl Line {
         limit < self.width(k, l)
     }
 
-    /// Whether each coefficient at the point l steps on is above its limit, where `last` is the last one. That is looked at first, for
+    /// Whether each coefficient at the point l steps on is above its limit, where `last` is the last one. That is tested first, for
     /// it is the one that most often isn't.
     #[inline]
     pub fn exceed(&self, l: u32, last: i128, limits: &[i128; 5]) -> bool
@@ -119,7 +119,7 @@ impl Line {
         true
     }
 
-    /// The same where each limit is a number taken times the factor, which is done for those alone that are looked at.
+    /// The same where each limit is a number taken times the factor, which is computed only for those that are compared.
     #[inline]
     pub fn exceed_times(&self, l: u32, last: i128, factor: i64, limits: &[i64; 5]) -> bool
         requires fits { FitsAt self.now (pos l) }
@@ -141,7 +141,7 @@ impl Line {
     #[inline]
     fn height(&self, k: usize, l: u32) -> i64
         requires place { k < 3 }
-        requires small { unsigned_abs (height_at self.now k (pos l)) ≤ 2 * turn_limit }
+        requires small { unsigned_abs (height_at self.now k (pos l)) ≤ 2 * moments_limit }
         ensures { result ≡ height_at self.now k (pos l) }
     {
         linear(self.height[k], self.height_step[k], l)
@@ -173,7 +173,7 @@ impl Line {
         self.height(1, l)
     }
 
-    /// Whether each coefficient of u is below 0 at the point l steps on, where `last` is the last one. That is looked at first, for
+    /// Whether each coefficient of u is below 0 at the point l steps on, where `last` is the last one. That is tested first, for
     /// most points of a line are ahead of the tip at the last sample or behind it throughout.
     #[inline]
     pub fn is_behind(&self, l: u32, last: i64) -> bool

@@ -2,29 +2,29 @@ ghost use Rattle.std.specs.Prelude.{◌≡◌, ◌*◌, ◌≤◌, pos, ◌+ℤ�
 ghost use Rattle.space.specs.Ranges.{IsWithin};
 ghost use Rattle.bern_form.specs.Forms.{scaled4};
 ghost use Rattle.bern_form.specs.Sizes.{IsBounded2, axis_limit, offset_limit};
-ghost use Rattle.ray_runs.specs.Moments.{vector_product};
-ghost use Rattle.ray_runs.specs.Sizes.{turn_limit};
+ghost use Rattle.moment_forms.specs.Moments.{vector_product};
+ghost use Rattle.moment_forms.specs.Sizes.{moments_limit};
 ghost use Rattle.wanted_marks.specs.Ways.{scaled_vector};
 ghost use Rattle.wanted_marks.specs.Widths.{moved3};
 
-use ray_runs::Moments;
+use moment_forms::Moments;
 
 /// A component of a coefficient, or a coefficient of u, j steps on. The parts may be larger than what fits: where the whole fits,
-/// what wrapped comes back.
+/// wrapping gives back the exact sum.
 #[inline]
 pub fn linear(a: i64, b: i64, j: u32) -> i64
-    requires { unsigned_abs (a +ℤ pos j *ℤ b) ≤ 2 * turn_limit }
+    requires { unsigned_abs (a +ℤ pos j *ℤ b) ≤ 2 * moments_limit }
     ensures { result ≡ a +ℤ pos j *ℤ b }
 {
     i64::from(j).wrapping_mul(b).wrapping_add(a)
 }
 
-/// A coefficient that goes on by another one with each step, j steps on.
+/// A coefficient that grows by another one with each step, j steps on.
 #[inline]
 fn vector_moved(a: &[i64; 3], b: &[i64; 3], j: u32) -> [i64; 3]
-    requires { IsWithin turn_limit (moved3 a.now b.now (pos j)) }
+    requires { IsWithin moments_limit (moved3 a.now b.now (pos j)) }
     ensures value { result ≡ moved3 a.now b.now (pos j) }
-    ensures small { IsWithin turn_limit result }
+    ensures small { IsWithin moments_limit result }
 {
     [
         linear(a[0], b[0], j),
@@ -33,7 +33,7 @@ fn vector_moved(a: &[i64; 3], b: &[i64; 3], j: u32) -> [i64; 3]
     ]
 }
 
-/// u of the point j steps on, where that of a point goes on by another form with each step.
+/// u of the point j steps on, where that of a point grows by another form with each step.
 pub fn heights_moved(a: &[i64; 3], b: &[i64; 3], j: u32) -> [i64; 3]
     requires { IsBounded2 (3 * (offset_limit * axis_limit)) (moved3 a.now b.now (pos j)) }
     ensures { result ≡ moved3 a.now b.now (pos j) }
@@ -45,12 +45,12 @@ pub fn heights_moved(a: &[i64; 3], b: &[i64; 3], j: u32) -> [i64; 3]
     ]
 }
 
-/// The moment of the point j steps on, where that of a point goes on by another one with each step.
+/// The moment of the point j steps on, where that of a point grows by another one with each step.
 #[inline]
 pub fn moved(x: &Moments, side: &Moments, j: u32) -> Moments
-    requires start { IsWithin turn_limit (moved3 x.now.start side.now.start (pos j)) }
-    requires middle { IsWithin turn_limit (moved3 x.now.middle side.now.middle (pos j)) }
-    requires end { IsWithin turn_limit (moved3 x.now.end side.now.end (pos j)) }
+    requires start { IsWithin moments_limit (moved3 x.now.start side.now.start (pos j)) }
+    requires middle { IsWithin moments_limit (moved3 x.now.middle side.now.middle (pos j)) }
+    requires end { IsWithin moments_limit (moved3 x.now.end side.now.end (pos j)) }
     ensures start { result.start ≡ moved3 x.now.start side.now.start (pos j) }
     ensures middle { result.middle ≡ moved3 x.now.middle side.now.middle (pos j) }
     ensures end { result.end ≡ moved3 x.now.end side.now.end (pos j) }
@@ -65,7 +65,7 @@ pub fn moved(x: &Moments, side: &Moments, j: u32) -> Moments
 /// A component of a coefficient, or a coefficient of u, taken k times.
 #[inline]
 fn taken(b: i64, k: u32) -> i64
-    requires { unsigned_abs (pos k *ℤ b) ≤ 2 * turn_limit }
+    requires { unsigned_abs (pos k *ℤ b) ≤ 2 * moments_limit }
     ensures { result ≡ pos k *ℤ b }
 {
     linear(0, b, k)
@@ -74,9 +74,9 @@ fn taken(b: i64, k: u32) -> i64
 /// A coefficient taken k times.
 #[inline]
 fn vector_times(b: &[i64; 3], k: u32) -> [i64; 3]
-    requires { IsWithin turn_limit (scaled_vector (pos k) b.now) }
+    requires { IsWithin moments_limit (scaled_vector (pos k) b.now) }
     ensures value { result ≡ scaled_vector (pos k) b.now }
-    ensures small { IsWithin turn_limit result }
+    ensures small { IsWithin moments_limit result }
 {
     [taken(b[0], k), taken(b[1], k), taken(b[2], k)]
 }
@@ -92,9 +92,9 @@ pub fn heights_times(b: &[i64; 3], k: u32) -> [i64; 3]
 /// What k steps add to a moment, where one adds another one.
 #[inline]
 pub fn times(x: &Moments, k: u32) -> Moments
-    requires start { IsWithin turn_limit (scaled_vector (pos k) x.now.start) }
-    requires middle { IsWithin turn_limit (scaled_vector (pos k) x.now.middle) }
-    requires end { IsWithin turn_limit (scaled_vector (pos k) x.now.end) }
+    requires start { IsWithin moments_limit (scaled_vector (pos k) x.now.start) }
+    requires middle { IsWithin moments_limit (scaled_vector (pos k) x.now.middle) }
+    requires end { IsWithin moments_limit (scaled_vector (pos k) x.now.end) }
     ensures start { result.start ≡ scaled_vector (pos k) x.now.start }
     ensures middle { result.middle ≡ scaled_vector (pos k) x.now.middle }
     ensures end { result.end ≡ scaled_vector (pos k) x.now.end }
@@ -109,7 +109,7 @@ pub fn times(x: &Moments, k: u32) -> Moments
 /// Eight times a coefficient of degree 4.
 #[inline]
 fn eight(x: i128) -> i128
-    requires { unsigned_abs x ≤ 9 * (turn_limit * turn_limit) }
+    requires { unsigned_abs x ≤ 9 * (moments_limit * moments_limit) }
     ensures { result ≡ pos 8 *ℤ x }
 {
     8 * x

@@ -10,16 +10,14 @@ use crate::ray_marker::RayMarker;
 use crate::ready_move::ReadyMove;
 use crate::sheet::{Sheet, heights_on, width_on};
 use crate::strip_marker::StripMarker;
-use axis_cells::{Mark, Sweep};
+use axis_cells::{Mark, Sweep, short_scaled_square};
 use cutter_slabs::Stacks;
 use ray_grid::{Family, Grid, Ray};
 use ray_runs::{OpenStretch, Run, open_stretch, sure_run};
 use std::marker::Model;
-use width_bisect::{
-    Asked, Sample, WholeForms, mark_below, mark_by_forms, mark_on_part, scaled_square,
-};
+use width_bisect::{Asked, Sample, WholeForms, mark_below, mark_by_forms, mark_on_part};
 
-/// A move of a cutter, ready to mark points of rays, by what is reckoned of it once and is the same for all of them.
+/// A move of a cutter, ready to mark points of rays, by what is computed of it once and is the same for all of them.
 #[derive(Drop)]
 pub struct MoveMarker<'a> {
     sweep: &'a Sweep,
@@ -63,7 +61,7 @@ impl<'a> MoveMarker<'a> {
     ghost use Rattle.wanted_marks.specs.Strips.{IsSheetOf};
     ghost use Rattle.wanted_marks.specs.Told.{tells_possible, tells_sure};
 
-    /// For marks by the stacks and the reach of a cutter, at the samples and on the cells of a depth, by what was reckoned of that move.
+    /// For marks by the stacks and the reach of a cutter, at the samples and on the cells of a depth, by what was computed of that move.
     pub fn of_ready(
         sweep: &'a Sweep,
         stacks: &'a Stacks,
@@ -114,7 +112,7 @@ impl<'a> MoveMarker<'a> {
         ensures sure { IfSome result (λ run. (l : ℕ) → run.first ≤ l → l ≤ run.last
             → IsRemovedBy self.now (point_of grid.now ray.now l)) }
     {
-        // A move is valid by its type, which is known where a field of it is seen.
+        // Reading a field of the move gives the prover its invariant.
         let _valid = &self.depth;
         sure_run(self.sweep, self.stacks, self.depth, grid, ray, from, to)
     }
@@ -135,12 +133,12 @@ impl<'a> MoveMarker<'a> {
             ((l : ℕ) → from ≤ l → l ≤ to → IsClearOf self.now (point_of grid.now ray.now l))
             (λ s. (l : ℕ) → from ≤ l → l ≤ to → IsOpenAt s self.now (point_of grid.now ray.now l)) }
     {
-        // A move is valid by its type, which is known where a field of it is seen.
+        // Reading a field of the move gives the prover its invariant.
         let _valid = &self.depth;
         open_stretch(self.sweep, self.stacks, self.depth, grid, ray, from, to)
     }
 
-    /// Whether a stretch is no longer than half of the move, so that it pays to mark each point on it alone.
+    /// Whether a stretch is no longer than half of the move, so that it pays to mark each point only on it.
     #[inline]
     pub(crate) fn is_short(&self, stretch: &OpenStretch) -> bool {
         stretch.levels <= self.depth.saturating_sub(1)
@@ -170,9 +168,9 @@ impl<'a> MoveMarker<'a> {
         Some(StretchLine::through(&start, &next, self.sweep, stretch, self.ready.scale))
     }
 
-    /// What is asked of the point l steps on along a line, by the forms that the line has there on the stretch outside of which the point
-    /// is clear. `near` is the number of a slab to look from, in whose place comes that of the slab at the point's height, where it is
-    /// looked for.
+    /// The answer for the point l steps on along a line, by the forms that the line has there on the stretch outside of which the point
+    /// is clear. `near` is the number of a slab to look from; where the slab at the point's height is looked for, its number
+    /// replaces `near`.
     #[inline]
     pub(crate) fn mark_on_stretch(
         &self,
@@ -203,9 +201,9 @@ impl<'a> MoveMarker<'a> {
         )
     }
 
-    /// What is asked of the point l steps on along a line, by the forms that the line has there. The point is below the outer slab with the
-    /// number `high` throughout the move, where there is one. Where it is only asked whether the point is sure, that is all that the mark
-    /// tells.
+    /// The answer for the point l steps on along a line, by the forms that the line has there. The point is below the outer slab with the
+    /// number `high` throughout the move, where there is one. Where only whether the point is sure is wanted, that is all that the mark
+    /// says.
     pub(crate) fn mark_on(
         &self,
         line: &Line,
@@ -217,16 +215,16 @@ impl<'a> MoveMarker<'a> {
         requires point { IsPoint point }
         requires fits { FitsAt line.now (pos l) }
         requires forms { HasFormsIn line.now (pos l) self.now point }
-        requires below { let v = self.now in IsBelowFrom (outer_stack v.cutter v.slabs) v.motion point (2 ^ v.depth) high }
+        requires below { let v = self.now in IsBelowFrom (outer_stack v.cutter v.slabs) v.sweep point (2 ^ v.depth) high }
         ensures sure { tells_sure result ≡ is_sure_in self.now point }
         ensures possible { asked ≡ Asked.Whole → tells_possible result ≡ is_possible_in self.now point }
     {
         let forms = WholeForms {
             u: heights_on(line, l),
-            n: self.ready.turn.n,
+            n: self.ready.axis_forms.n,
             width: width_on(line, l),
         };
-        if self.depth == 0 || !self.ready.turn.is_open() {
+        if self.depth == 0 || !self.ready.axis_forms.is_open() {
             return mark_by_forms(
                 self.sweep,
                 self.stacks,
@@ -252,24 +250,24 @@ impl<'a> MoveMarker<'a> {
     #[inline(always)]
     fn sheet_on(&self, forms: &GridForms, grid: &Grid, family: Family, i: u32) -> Sheet
         requires strip { i < nodes_of grid.now (first_axis family) }
-        requires forms { AreGridForms forms.now self.now.motion grid.now (2 ^ self.now.depth) }
+        requires forms { AreGridForms forms.now self.now.sweep grid.now (2 ^ self.now.depth) }
         ensures { IsSheetOf result record { sweep = self.now; grid = grid.now; family = family; i = i } }
     {
-        // The first point of the strip lies within a metre; a grid, which has a point on each ray, and a move are valid by their types.
+        // The first point of the strip lies within a metre. The fields that are read give the prover the invariants of grid and move.
         let _sized = &grid.origin;
         let _first = grid.point(&Ray { family, i, j: 0 }, 0);
         let _valid = &self.depth;
         forms.strip(family, i)
     }
 
-    /// The sheet through the points of a strip of another grid than the one whose forms are ready: the forms of that grid's points are made
-    /// first. It stands apart, for `verify` has one grid.
+    /// The sheet through the points of a strip of another grid than the one whose forms are ready: the forms of that grid's points are
+    /// computed first. It is a function of its own, for `verify` has one grid.
     #[inline(never)]
     fn made_sheet(&self, grid: &Grid, family: Family, i: u32) -> Sheet
         requires { i < nodes_of grid.now (first_axis family) }
         ensures { IsSheetOf result record { sweep = self.now; grid = grid.now; family = family; i = i } }
     {
-        let forms = GridForms::of_grid(grid, self.sweep, &self.ready.turn, self.ready.scale);
+        let forms = GridForms::of_grid(grid, self.sweep, &self.ready.axis_forms, self.ready.scale);
         self.sheet_on(&forms, grid, family, i)
     }
 
@@ -292,8 +290,8 @@ impl<'a> MoveMarker<'a> {
         requires sheet { IsSheetOf sheet.now record { sweep = self.now; grid = grid.now; family = ray.now.family; i = ray.now.i } }
         ensures { IsLineOf result record { sweep = self.now; grid = grid.now; ray = ray.now } }
     {
-        // The points between the first and the last lie within a metre as these two do; a grid, which has a point on each ray, and a move
-        // are valid by their types.
+        // The points between the first and the last lie within a metre as these two do. Reading a field of the grid, which has a point on
+        // each ray, and of the move gives the prover their invariants.
         let _sized = &grid.origin;
         let points = grid.points(ray.family);
         let _start = grid.point(ray, 0);
@@ -323,7 +321,7 @@ impl<'a> MoveMarker<'a> {
         Sample {
             scale: self.ready.scale,
             u: line.last_height(l),
-            n: self.ready.turn.last_square(),
+            n: self.ready.axis_forms.last_square(),
             width: line.last_width(l),
         }
     }
@@ -338,7 +336,7 @@ impl<'a> MoveMarker<'a> {
         Sample {
             scale: self.ready.scale,
             u: line.first_height(l),
-            n: self.ready.turn.first_square(),
+            n: self.ready.axis_forms.first_square(),
             width: line.first_width(l),
         }
     }
@@ -346,7 +344,7 @@ impl<'a> MoveMarker<'a> {
     /// Whether the point l steps on is behind the tip throughout the move, or beside every outer slab, by its last sample first. It is
     /// then neither sure nor possible.
     #[inline]
-    pub(crate) fn is_apart(&self, line: &Line, l: u32, last: &Sample) -> bool
+    pub(crate) fn is_missed(&self, line: &Line, l: u32, last: &Sample) -> bool
         requires fits { FitsAt line.now (pos l) }
         requires u { last.now.u ≡ height_at line.now 2 (pos l) }
         requires width { last.now.width ≡ at (width_at line.now (pos l)) 4 }
@@ -375,20 +373,20 @@ impl<'a> MoveMarker<'a> {
         ensures { let v = self.now in MatchOption result
             ((p : List ℤ) → HasFormsIn line.now (pos l) v p → IsClearOf v p)
             (λ high. (p : List ℤ) → HasFormsIn line.now (pos l) v p
-            → IsBelowFrom (outer_stack v.cutter v.slabs) v.motion p (2 ^ v.depth) high) }
+            → IsBelowFrom (outer_stack v.cutter v.slabs) v.sweep p (2 ^ v.depth) high) }
     {
         let outer = self.stacks.outer();
         let peak = Peak {
             scale: self.ready.scale,
             square: line.peak(l, last.u),
-            least: self.ready.turn.least,
+            least: self.ready.axis_forms.least,
         };
         let reached = peak.reached(outer, near);
         if reached == 0 {
             return None;
         }
-        let factor = scaled_square(self.ready.scale, diameter_of(&outer[reached - 1]));
-        if line.exceed_times(l, last.width, factor, &self.ready.turn.raised) {
+        let factor = short_scaled_square(self.ready.scale, diameter_of(&outer[reached - 1]));
+        if line.exceed_times(l, last.width, factor, &self.ready.axis_forms.raised) {
             return None;
         }
         Some(reached)
@@ -396,7 +394,7 @@ impl<'a> MoveMarker<'a> {
 
     /// Whether the points from the one l steps on to the one m steps on are all behind the tip throughout the move, or all beside
     /// every outer slab.
-    pub(crate) fn are_apart(&self, line: &Line, l: u32, m: u32) -> bool
+    pub(crate) fn are_missed(&self, line: &Line, l: u32, m: u32) -> bool
         requires order { l ≤ m }
         requires few { m - l < 64 }
         requires first { FitsAt line.now (pos l) }
@@ -412,7 +410,7 @@ impl<'a> MoveMarker<'a> {
         are_beside(line, l, m, limits)
     }
 
-    /// The inner slab at a point's height at a sample, and what it asks of a point there. It is looked for from the number `near` on.
+    /// The inner slab at a point's height at a sample, and what it requires of a point there. It is looked for from the number `near` on.
     #[inline]
     fn inner_near(&self, sample: &Sample, near: usize) -> Near
         ensures { (k : ℕ) → IsSampleAt sample.now self.now k → AreInnerBounds result.bounds self.now k }
@@ -439,7 +437,7 @@ impl<'a> MoveMarker<'a> {
         *near = self.inner_near(last, self.ready.table.near(last.u));
     }
 
-    /// Whether some inner slab holds a point at its last sample. It is then sure. The slab at its height comes in the place of the one that
+    /// Whether some inner slab holds a point at its last sample. It is then sure. The slab at its height replaces the one that
     /// was looked for last.
     #[inline]
     pub(crate) fn is_held_last(&self, last: &Sample, near: &mut Near) -> bool
@@ -450,7 +448,7 @@ impl<'a> MoveMarker<'a> {
         ensures met { IsTrue result → meets near.new.bounds last.now.u last.now.width ≡ true }
         ensures held { IsTrue result → (p : List ℤ) → IsLastOf last.now self.now p → IsRemovedBy self.now p }
     {
-        // A move is valid by its type, which is known where a field of it is seen.
+        // Reading a field of the move gives the prover its invariant.
         let _valid = &self.depth;
         if last.u < 0 {
             return false;
@@ -460,7 +458,7 @@ impl<'a> MoveMarker<'a> {
     }
 
     /// Whether some inner slab holds the point l steps on at its first sample. It is then sure. `near` is the number of a slab to look
-    /// from. A wide cutter still holds there what it leaves behind; a point that is beside every outer slab there isn't looked at further.
+    /// from. A wide cutter still holds there what it leaves behind; a point that is beside every outer slab there isn't tested further.
     pub(crate) fn is_held_first(&self, line: &Line, l: u32, near: usize) -> bool
         requires { FitsAt line.now (pos l) }
         ensures { IsTrue result → (p : List ℤ) → HasFormsIn line.now (pos l) self.now p → IsRemovedBy self.now p }
@@ -473,14 +471,14 @@ impl<'a> MoveMarker<'a> {
     }
 
     /// What is known of the point l steps on where an inner slab holds it at its first sample. It is then sure. `near` is the number of a
-    /// slab to look from, in whose place comes that of the slab at the point's height, where it is looked for.
+    /// slab to look from; where the slab at the point's height is looked for, its number replaces `near`.
     pub(crate) fn held_first(&self, line: &Line, l: u32, near: &mut usize) -> Option<Held>
         requires { FitsAt line.now (pos l) }
         ensures index { IfSome result (λ held. held.index ≡ l) }
         ensures held { (p : List ℤ) → HasFormsIn line.now (pos l) self.now p → IfSome result (λ held. IsHeldIn held self.now p 0) }
         ensures sure { (p : List ℤ) → HasFormsIn line.now (pos l) self.now p → IfSome result (λ _held. IsRemovedBy self.now p) }
     {
-        // A move is valid by its type, which is known where a field of it is seen.
+        // Reading a field of the move gives the prover its invariant.
         let _valid = &self.depth;
         let sample = self.first_sample(line, l);
         if sample.u < 0 {
@@ -509,7 +507,7 @@ impl<'a> MoveMarker<'a> {
         ensures last { IsTrue result → (r : RayOf) (line : Line) → r.sweep ≡ self.now → IsLineOf line r
             → IsHeldLast low.now r → IsHeldLast high.now r → IsRun r low.now.index high.now.index }
     {
-        // A stack rises, which is known where a field of the move is seen.
+        // Reading a field of the move gives the prover its invariant: the stacks rise.
         let _rising = &self.depth;
         low.is_narrow(high) && high.is_narrow(low)
     }

@@ -3,8 +3,9 @@ ghost use Rattle.bern_form.specs.Sizes.{IsBounded2, axis_limit, offset_limit, sc
 ghost use Rattle.box_bisect.specs.SlabTests.{no_slab};
 ghost use Rattle.wanted_marks.specs.Peaks.{IsLeast, IsPeak, is_under};
 
+use axis_cells::short_scaled_square;
 use bern_form::{Form2, Slab};
-use width_bisect::{product, scaled_square};
+use width_bisect::product;
 
 /// The greater of two numbers.
 #[inline]
@@ -94,7 +95,7 @@ impl Peak {
     fn is_under(&self, slab: &Slab) -> bool
         ensures { let at = self.now in result ≡ is_under at.scale at.square at.least slab.now }
     {
-        self.square < product(scaled_square(self.scale, slab.lo), self.least)
+        self.square < product(short_scaled_square(self.scale, slab.lo), self.least)
     }
 
     /// From a number downwards to one before which the slab begins no higher.

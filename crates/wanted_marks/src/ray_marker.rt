@@ -3,9 +3,9 @@ use crate::line::Line;
 use crate::move_marker::MoveMarker;
 use crate::near::Near;
 use crate::on_stretch::StretchLine;
-use crate::part::Part;
 use crate::sides::{Sides, are_many, is_few};
 use crate::word::{WordMarks, asked_at, bits_between, bits_without, chosen_bits};
+use crate::word_progress::WordProgress;
 use axis_cells::Mark;
 use ray_grid::{Grid, Ray};
 use ray_runs::OpenStretch;
@@ -42,7 +42,7 @@ impl<'a> RayMarker<'a> {
     ghost use Rattle.wanted_marks.specs.Lines.{IsLineOf, height_at, width_at};
     ghost use Rattle.wanted_marks.specs.Nears.{IsNear};
     ghost use Rattle.wanted_marks.specs.Opens.{AreOpenAt, IsOpenAt};
-    ghost use Rattle.wanted_marks.specs.Parts.{AreAmong, AreFrom, AreRemoved, FollowsFrom};
+    ghost use Rattle.wanted_marks.specs.Progress.{AreAmong, AreFrom, AreRemoved, FollowsFrom};
     ghost use Rattle.wanted_marks.specs.Rays.{AreOnRay, IsClearOf, IsRemovedBy};
     ghost use Rattle.wanted_marks.specs.Runs.{IsHeldFirst, IsHeldLast, IsRun};
     ghost use Rattle.wanted_marks.specs.Rays.{is_possible_at, is_possible_bit, is_sure_at, is_sure_bit, is_told_bit};
@@ -79,32 +79,32 @@ impl<'a> RayMarker<'a> {
 
     /// Whether the points from one index to another are all behind the tip throughout the move, or all beside every outer slab.
     #[inline]
-    fn are_apart(&self, l: u32, m: u32) -> bool
+    fn are_missed(&self, l: u32, m: u32) -> bool
         requires order { l ≤ m }
         requires few { m - l < 64 }
         requires within { m < points_of self.now.grid self.now.ray.family }
         ensures { IsTrue result → (x : ℕ) → l ≤ x → x ≤ m → IsClearOf self.now.sweep (point_of self.now.grid self.now.ray x) }
     {
-        self.mover.are_apart(&self.line, l, m)
+        self.mover.are_missed(&self.line, l, m)
     }
 
     /// Whether the points of these bits are apart, for which all points from the lowest of them to the highest have to be.
     #[inline]
-    fn are_bits_apart(&self, first: u32, bits: u64) -> bool
+    fn are_bits_missed(&self, first: u32, bits: u64) -> bool
         requires { AreOnRay self.now first bits }
         ensures { IsTrue result → (b : ℕ) → b < 64 → has_bit bits b ≡ true
             → IsClearOf self.now.sweep (point_of self.now.grid self.now.ray (first + b)) }
     {
-        // The points are few by the type, which is known where a field is seen.
+        // Reading a field gives the prover the type's invariant: the points are few.
         let _few = &self.ray;
         if bits == 0 {
             return true;
         }
-        self.are_apart(first + lowest_bit(bits), first + highest_bit(bits))
+        self.are_missed(first + lowest_bit(bits), first + highest_bit(bits))
     }
 
-    /// The mark of the point at an index, which its last sample doesn't tell, by the line through the points. `near` is the number of
-    /// a slab to look from. It stands by itself, for most points are told before.
+    /// The mark of the point at an index, which its last sample doesn't decide, by the line through the points. `near` is the number of
+    /// a slab to look from. It is a function of its own, for most points are decided before.
     #[inline(never)]
     fn mark_further(&self, line: &Line, l: u32, last: &Sample, near: usize, asked: Asked) -> Mark
         requires within { l < points_of self.now.grid self.now.ray.family }
@@ -124,8 +124,8 @@ impl<'a> RayMarker<'a> {
         self.mover.mark_on(line, l, point, high, asked)
     }
 
-    /// What is asked of the point at an index. `near` is the slab that was looked for last, in
-    /// whose place comes that at the point's height, where it is looked for.
+    /// The answer for the point at an index. `near` is the slab that was looked for last; where the
+    /// slab at the point's height is looked for, it replaces `near`.
     #[inline]
     fn mark_at(&self, l: u32, near: &mut Near, asked: Asked) -> Told
         requires within { l < points_of self.now.grid self.now.ray.family }
@@ -138,7 +138,7 @@ impl<'a> RayMarker<'a> {
     {
         let line = &self.line;
         let last = self.mover.last_sample(line, l);
-        if self.mover.is_apart(line, l, &last) {
+        if self.mover.is_missed(line, l, &last) {
             return Told {
                 mark: Mark::Clear,
                 held: None,
@@ -167,29 +167,36 @@ impl<'a> RayMarker<'a> {
         requires high { IsHeldLast high.now self.now }
         ensures { IsTrue result → IsRun self.now low.now.index high.now.index }
     {
-        // A line runs through the points by the type, which is known where a field is seen.
+        // Reading a field gives the prover the type's invariant: a line runs through the points.
         let _line = &self.line;
         self.mover.is_run(low, high)
     }
 
-    /// Marks one of the points that are left, and gives what is told of it.
+    /// Marks one of the points that are left, and returns what is known of it.
     #[inline(always)]
-    fn mark_one(&self, first: u32, b: u32, sure_only: u64, part: &mut Part, near: &mut Near) -> Told
+    fn mark_one(
+        &self,
+        first: u32,
+        b: u32,
+        sure_only: u64,
+        progress: &mut WordProgress,
+        near: &mut Near,
+    ) -> Told
         requires bit { b < 64 }
-        requires left { has_bit part.old.rest b ≡ true }
-        requires on_ray { AreOnRay self.now first part.old.rest }
+        requires left { has_bit progress.old.rest b ≡ true }
+        requires on_ray { AreOnRay self.now first progress.old.rest }
         requires near { IsNear near.old self.now.sweep }
         ensures near { IsNear near.new self.now.sweep }
-        ensures rest { (k : ℕ) → k < 64 → has_bit part.new.rest k ≡ (has_bit part.old.rest k && not (nat_eq k b)) }
-        ensures less { part.new.rest < part.old.rest }
-        ensures part { FollowsFrom part.new part.old self.now first sure_only }
+        ensures rest { (k : ℕ) → k < 64 → has_bit progress.new.rest k ≡ (has_bit progress.old.rest k && not (nat_eq k b)) }
+        ensures less { progress.new.rest < progress.old.rest }
+        ensures progress { FollowsFrom progress.new progress.old self.now first sure_only }
         ensures index { IfSome result.held (λ held. held.index ≡ first + b) }
         ensures held { IfSome result.held (λ held. IsHeldLast held self.now) }
     {
-        // The points are few by the type, which is known where a field is seen.
+        // Reading a field gives the prover the type's invariant: the points are few.
         let _few = &self.ray;
         let told = self.mark_at(first + b, near, asked_at(sure_only, b));
-        *part = part.with_mark(b, told.mark);
+        *progress = progress.with_mark(b, told.mark);
         told
     }
 
@@ -206,8 +213,8 @@ impl<'a> RayMarker<'a> {
         }
     }
 
-    /// The index of a point up to which all are sure, from one on that is held at its first sample, as far as another, which is tried
-    /// first: mostly the run goes as far. Else its end is looked for by halves, down to two points, which are told as fast by themselves.
+    /// The index of a point up to which all are sure, from one on that is held at its first sample, as far as another, which is tested
+    /// first: mostly the run goes that far. Else its end is found by halves, down to two points, which are marked as fast by themselves.
     fn last_of_run(&self, line: &Line, low: &Held, top: u32, near: &mut usize) -> u32
         requires order { low.now.index ≤ top }
         requires within { top < points_of self.now.grid self.now.ray.family }
@@ -218,7 +225,7 @@ impl<'a> RayMarker<'a> {
         ensures to { result ≤ top }
         ensures run { IsRun self.now low.now.index result }
     {
-        // The points are few by the type, which is known where a field is seen.
+        // Reading a field gives the prover the type's invariant: the points are few.
         let _few = &self.ray;
         let mut last = low.index;
         let mut end = top + 1;
@@ -235,8 +242,8 @@ impl<'a> RayMarker<'a> {
     }
 
     /// Some of the points that are left, which are above the one of bit b: those of a run from that one on, where it is held at its first
-    /// sample. A wide cutter leaves many such behind. It stands by itself, for most points are told by their last sample. `near` is the
-    /// number of a slab to look from.
+    /// sample. A wide cutter leaves many such behind. It is a function of its own, for most points are decided by their last sample. `near`
+    /// is the number of a slab to look from.
     #[cold]
     #[inline(never)]
     fn first_run_bits(&self, first: u32, b: u32, rest: u64, near: usize) -> u64
@@ -246,7 +253,7 @@ impl<'a> RayMarker<'a> {
         ensures among { AreAmong result rest }
         ensures sure { AreRemoved self.now first result }
     {
-        // The points are few by the type, which is known where a field is seen.
+        // Reading a field gives the prover the type's invariant: the points are few.
         let _few = &self.ray;
         let line = &self.line;
         let top = first + highest_bit(rest);
@@ -259,31 +266,31 @@ impl<'a> RayMarker<'a> {
     }
 
     /// Marks the points that are left from the lowest upwards, as far as the first that is held at its last sample. Where one is sure
-    /// without that, those of a run from it on at their first samples are told at once.
+    /// without that, those of a run from it on at their first samples are marked at once.
     fn mark_to_held(
         &self,
         first: u32,
         sure_only: u64,
-        part: &mut Part,
+        progress: &mut WordProgress,
         near: &mut Near,
     ) -> Option<Held>
-        requires on_ray { AreOnRay self.now first part.old.rest }
+        requires on_ray { AreOnRay self.now first progress.old.rest }
         requires near { IsNear near.old self.now.sweep }
         ensures near { IsNear near.new self.now.sweep }
-        ensures fewer { AreAmong part.new.rest part.old.rest }
-        ensures part { FollowsFrom part.new part.old self.now first sure_only }
+        ensures fewer { AreAmong progress.new.rest progress.old.rest }
+        ensures progress { FollowsFrom progress.new progress.old self.now first sure_only }
         ensures held { IfSome result (λ held. IsHeldLast held self.now) }
-        ensures above { MatchOption result (part.new.rest ≡ 0) (λ held. AreFrom held.index first part.new.rest) }
+        ensures above { MatchOption result (progress.new.rest ≡ 0) (λ held. AreFrom held.index first progress.new.rest) }
     {
-        while part.rest != 0 {
-            let b = lowest_bit(part.rest);
-            let told = self.mark_one(first, b, sure_only, part, near);
+        while progress.rest != 0 {
+            let b = lowest_bit(progress.rest);
+            let told = self.mark_one(first, b, sure_only, progress, near);
             if let Some(held) = told.held {
                 return Some(held);
             }
-            if matches!(told.mark, Mark::Removed) && part.rest != 0 {
-                let run = self.first_run_bits(first, b, part.rest, near.reached);
-                *part = part.with_run(run);
+            if matches!(told.mark, Mark::Removed) && progress.rest != 0 {
+                let run = self.first_run_bits(first, b, progress.rest, near.reached);
+                *progress = progress.with_run(run);
             }
         }
         None
@@ -291,19 +298,26 @@ impl<'a> RayMarker<'a> {
 
     /// Marks the points that are left, which are above a held one, from the highest downwards, as far as one that is held too, so that
     /// all between both are sure.
-    fn mark_down_to(&self, low: &Held, first: u32, sure_only: u64, part: &mut Part, near: &mut Near)
+    fn mark_down_to(
+        &self,
+        low: &Held,
+        first: u32,
+        sure_only: u64,
+        progress: &mut WordProgress,
+        near: &mut Near,
+    )
         requires low { IsHeldLast low.now self.now }
-        requires above { AreFrom low.now.index first part.old.rest }
-        requires on_ray { AreOnRay self.now first part.old.rest }
+        requires above { AreFrom low.now.index first progress.old.rest }
+        requires on_ray { AreOnRay self.now first progress.old.rest }
         requires near { IsNear near.old self.now.sweep }
-        ensures all { part.new.rest ≡ 0 }
-        ensures part { FollowsFrom part.new part.old self.now first sure_only }
+        ensures all { progress.new.rest ≡ 0 }
+        ensures progress { FollowsFrom progress.new progress.old self.now first sure_only }
     {
-        while part.rest != 0 {
-            let b = highest_bit(part.rest);
-            if let Some(high) = self.mark_one(first, b, sure_only, part, near).held {
+        while progress.rest != 0 {
+            let b = highest_bit(progress.rest);
+            if let Some(high) = self.mark_one(first, b, sure_only, progress, near).held {
                 if self.is_run(low, &high) {
-                    *part = part.with_rest_removed();
+                    *progress = progress.with_rest_removed();
                     return;
                 }
             }
@@ -311,7 +325,7 @@ impl<'a> RayMarker<'a> {
     }
 
     /// Which of the wanted points are sure, and which of those that are not in `sure_only` are possible. `slab` is the number of an inner
-    /// slab to look from, in whose place comes that of the one that holds the lowest point at its last sample.
+    /// slab to look from; that of the slab that holds the lowest point at its last sample replaces it.
     fn mark_each(&self, first: u32, wanted: u64, sure_only: u64, slab: &mut usize) -> WordMarks
         requires { AreOnRay self.now first wanted }
         ensures sure { (b : ℕ) → b < 64 → has_bit result.sure b ≡ is_sure_bit self.now first wanted b }
@@ -319,13 +333,13 @@ impl<'a> RayMarker<'a> {
             → has_bit result.possible b ≡ is_possible_bit self.now first wanted b }
     {
         let mut near = Near::from_slab(*slab);
-        let mut part = Part::of_word(wanted);
-        match self.mark_to_held(first, sure_only, &mut part, &mut near) {
-            None => part.marks,
+        let mut progress = WordProgress::of_word(wanted);
+        match self.mark_to_held(first, sure_only, &mut progress, &mut near) {
+            None => progress.marks,
             Some(low) => {
                 *slab = near.reached;
-                self.mark_down_to(&low, first, sure_only, &mut part, &mut near);
-                part.marks
+                self.mark_down_to(&low, first, sure_only, &mut progress, &mut near);
+                progress.marks
             }
         }
     }
@@ -337,7 +351,7 @@ impl<'a> RayMarker<'a> {
         ensures sure { (b : ℕ) → b < 64 → has_bit result b ≡ true
             → IsRemovedBy self.now.sweep (point_of self.now.grid self.now.ray (first + b)) }
     {
-        // The points are few by the type, which is known where a field is seen.
+        // Reading a field gives the prover the type's invariant: the points are few.
         let _few = &self.ray;
         if wanted == 0 || is_few(wanted) {
             return 0;
@@ -386,7 +400,7 @@ impl<'a> RayMarker<'a> {
             ((b : ℕ) → b < 64 → has_bit bits b ≡ true → IsClearOf self.now.sweep (point_of self.now.grid self.now.ray (first + b)))
             (λ s. AreOpenAt s self.now first bits) }
     {
-        // The points are few by the type, which is known where a field is seen.
+        // Reading a field gives the prover the type's invariant: the points are few.
         let _few = &self.ray;
         if bits == 0 {
             return None;
@@ -396,7 +410,7 @@ impl<'a> RayMarker<'a> {
         self.mover.open_stretch(self.grid, &self.ray, from, to)
     }
 
-    /// What is asked of the point at an index, by the line through the points on the stretch outside of which it is clear.
+    /// The answer for the point at an index, by the line through the points on the stretch outside of which it is clear.
     #[inline]
     fn mark_on_stretch(
         &self,
@@ -434,20 +448,20 @@ impl<'a> RayMarker<'a> {
         ensures possible { (b : ℕ) → b < 64 → has_bit sure_only b ≡ false
             → has_bit result.possible b ≡ is_possible_bit self.now first wanted b }
     {
-        // The points are few by the type, which is known where a field is seen.
+        // Reading a field gives the prover the type's invariant: the points are few.
         let _few = &self.ray;
         let mut near = 0;
-        let mut part = Part::of_word(wanted);
-        while part.rest != 0 {
-            let b = lowest_bit(part.rest);
+        let mut progress = WordProgress::of_word(wanted);
+        while progress.rest != 0 {
+            let b = lowest_bit(progress.rest);
             let asked = asked_at(sure_only, b);
             let mark = self.mark_on_stretch(stretch, line, first + b, &mut near, asked);
-            part = part.with_mark(b, mark);
+            progress = progress.with_mark(b, mark);
         }
-        part.marks
+        progress.marks
     }
 
-    /// The same, on the stretch alone where that is short.
+    /// The same, only on the stretch where that is short.
     fn mark_open(
         &self,
         stretch: &OpenStretch,
@@ -471,8 +485,8 @@ impl<'a> RayMarker<'a> {
         }
     }
 
-    /// The same as `mark_each` for a long move: where the halves of the time show that the points are clear but for a short part of it,
-    /// they are marked on that part alone.
+    /// The same as `mark_each` for a long move: where the halves of the time show that the points are clear except for a short part of it,
+    /// they are marked only on that part.
     fn mark_by_parts(&self, first: u32, wanted: u64, sure_only: u64, slab: &mut usize) -> WordMarks
         requires { AreOnRay self.now first wanted }
         ensures sure { (b : ℕ) → b < 64 → has_bit result.sure b ≡ is_sure_bit self.now first wanted b }
@@ -516,7 +530,7 @@ impl<'a> RayMarker<'a> {
         }
     }
 
-    /// The same, where what some samples show to be sure isn't asked point by point.
+    /// The same, where what some samples show to be sure isn't tested point by point.
     fn mark_by_runs(&self, first: u32, wanted: u64, sure_only: u64, slab: &mut usize) -> WordMarks
         requires { AreOnRay self.now first wanted }
         ensures sure { (b : ℕ) → b < 64 → has_bit result.sure b ≡ is_sure_bit self.now first wanted b }
@@ -546,21 +560,21 @@ impl<'a> RayMarker<'a> {
         self.mark_by_runs(first, wanted, sure_only, slab)
     }
 
-    /// Whether it pays to ask first whether all points of a word are apart: of a few that a short move is near, each is told as fast.
+    /// Whether it pays to test first whether all points of a word are apart: of a few that a short move is near, each is marked as fast.
     #[inline]
     fn is_asked_at_once(&self, wanted: u64) -> bool {
         self.mover.is_long() || are_many(wanted)
     }
 
     /// The marks of the wanted points of a word: bit b is the point at the index `first + b`. Each wanted bit is a point of the
-    /// ray. Of those in `sure_only` it is told only whether they are sure: both words have the same bit there. `slab` is the number of
-    /// an inner slab to look from, such as `LOW_SLAB`: any is right, best that which a call for a ray beside it left there.
+    /// ray. Of those in `sure_only` only whether they are sure is reported: both words have the same bit there. `slab` is the number of
+    /// an inner slab to look from, such as `LOW_SLAB`: any is right, best that which a call for a ray next to it left there.
     pub fn mark(&self, first: u32, wanted: u64, sure_only: u64, slab: &mut usize) -> WordMarks
         requires { AreOnRay self.now first wanted }
         ensures sure { (b : ℕ) → b < 64 → has_bit result.sure b ≡ is_sure_bit self.now first wanted b }
         ensures possible { (b : ℕ) → b < 64 → has_bit result.possible b ≡ is_told_bit self.now first wanted sure_only b }
     {
-        if self.is_asked_at_once(wanted) && self.are_bits_apart(first, wanted) {
+        if self.is_asked_at_once(wanted) && self.are_bits_missed(first, wanted) {
             return WordMarks {
                 sure: 0,
                 possible: 0,

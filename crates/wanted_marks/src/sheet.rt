@@ -7,9 +7,9 @@ ghost use Rattle.wanted_marks.specs.Widths.{moved5};
 use crate::line::{Line, quadratic, wrapped};
 use crate::moments::{heights_moved, moved};
 use bern_form::{Form2, Form4};
-use ray_runs::Moments;
+use moment_forms::Moments;
 
-/// a + b l. The parts may be larger than what fits: where the whole fits, what wrapped comes back.
+/// a + b l. The parts may be larger than what fits: where the whole fits, wrapping gives back the exact sum.
 #[inline]
 fn linear(a: i128, b: i128, l: u32) -> i128
     requires { IsSmall (a +ℤ pos l *ℤ b) }

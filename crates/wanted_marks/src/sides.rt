@@ -26,7 +26,7 @@ fn place_of(left: u64, known: u64) -> u32
 }
 
 impl Sides {
-    /// The bits that are left beside some that are known.
+    /// The bits that are left below and above some that are known.
     #[inline]
     pub fn beside(left: u64, known: u64) -> Sides
         ensures below { (k : ℕ) → k < 64 → has_bit result.below k ≡ true → has_bit left k ≡ true }
@@ -41,13 +41,13 @@ impl Sides {
     }
 }
 
-/// Whether so many bits are set that it pays to ask of all their points at once whether they are apart.
+/// Whether enough bits are set that it pays to test for all their points at once whether they are apart. Any limit is right.
 #[inline]
 pub fn are_many(bits: u64) -> bool {
     16 <= bits.count_ones()
 }
 
-/// Whether so few bits are set that a sample for all of them isn't worth its price.
+/// Whether so few bits are set that a sample for all of them isn't worth its price. Any limit is right: it only matters for speed.
 #[inline]
 pub fn is_few(bits: u64) -> bool {
     bits.count_ones() < 4

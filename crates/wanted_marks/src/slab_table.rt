@@ -2,8 +2,9 @@ ghost use Rattle.std.specs.Prelude.{◌≤◌, ◌<◌, ◌≤ℤ◌, pos, lengt
 ghost use Rattle.bern_form.specs.Sizes.{scale_limit};
 
 use crate::peak::Peak;
+use axis_cells::short_scaled_square;
 use bern_form::Slab;
-use width_bisect::{product, scaled_square};
+use width_bisect::product;
 
 /// The numbers of slabs of a stack to look from at a sample, by u: entry i has one for the heights whose u, shifted, is i. Those that are
 /// higher have the last entry, and where the highest slab begins is in the upper half of the table.
@@ -53,12 +54,12 @@ fn middle_of(entry: usize, shift: u32) -> i64
 impl SlabTable {
     /// Of the slabs of a stack, at a sample with the scale and n. Each number is that of the slab above the highest that is reached in the
     /// middle of its entry, or 255 where that is more. It is looked for from the one before it on, so a table takes no more steps than it
-    /// has entries and slabs. How near a number is, is a hint of which no clause speaks: every number is right to look from.
+    /// has entries and slabs. Any number is right to look from: a near one only saves time.
     pub fn of_slabs(slabs: &[Slab], scale: u32, n: i64) -> SlabTable
         requires { scale ≤ scale_limit }
         ensures { All (λ number. number ≤ length slabs.now) result.numbers }
     {
-        let shift = shift_of(product(scaled_square(scale, highest_low(slabs)), n));
+        let shift = shift_of(product(short_scaled_square(scale, highest_low(slabs)), n));
         let mut numbers = [0; 64];
         let mut reached = 0;
         for i in 0..64 {

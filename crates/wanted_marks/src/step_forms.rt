@@ -4,7 +4,7 @@ ghost use Rattle.wanted_marks.specs.GridForms.{IsStepBy};
 
 use crate::moments::eight_products;
 use bern_form::Form4;
-use ray_runs::{Moments, heights};
+use moment_forms::{Moments, heights};
 
 /// What a step of the lattice along an axis adds on a whole move: to the moment, and to u; eight times the scalar product of the moment
 /// of the first point and what the step adds to it; and four times the square of the latter.
@@ -17,8 +17,8 @@ pub struct StepForms {
 }
 
 impl StepForms {
-    /// Of a way, where the moment of the first point is given, and the axes a and c at both ends of the move. It is written into its
-    /// calls, so that nothing is reckoned of the components of a way that are 0.
+    /// Of a way, where the moment of the first point is given, and the axes a and c at both ends of the move. It is inlined into its
+    /// calls, so that nothing is computed of the components of a way that are 0.
     #[inline(always)]
     pub fn along(way: &[i64; 3], start: &Moments, a: &[i64; 3], c: &[i64; 3]) -> StepForms
         requires way { IsWithin offset_limit way.now }

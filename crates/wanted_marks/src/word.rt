@@ -42,7 +42,7 @@ pub fn chosen_bits(elsewhere: u64, there: u64, places: u64) -> u64
     elsewhere & !places | there & places
 }
 
-/// What is asked of the point at bit b, where of those with a bit in `sure_only` it is only asked whether they are sure.
+/// The question about the point at bit b: of those with a bit in `sure_only` it is only whether they are sure.
 #[inline]
 pub fn asked_at(sure_only: u64, b: u32) -> Asked
     requires { b < 64 }
@@ -63,7 +63,7 @@ pub struct WordMarks {
 }
 
 impl WordMarks {
-    /// The same with these points told as sure, and so as possible.
+    /// The same with these points marked as sure, and so as possible.
     #[inline]
     pub(crate) fn with_sure(self, bits: u64) -> WordMarks
         ensures sure { (k : ℕ) → k < 64 → has_bit result.sure k ≡ (has_bit self.sure k || has_bit bits k) }

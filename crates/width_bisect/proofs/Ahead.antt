@@ -1,7 +1,7 @@
 -- The answer for a point that isn't behind the tip throughout, from its forms on a part of the move.
 use Rattle.std.proofs.Common.{◌≡◌, true, ℕ, ◌+◌, ◌*◌, ◌^◌, ◌<◌, ◌≤◌, List, ℤ, pos, arith, ap, refl, sym, ◌∙◌}
-use Rattle.space.specs.Motion.{Motion, IsSweep}
 use Rattle.space.specs.Ranges.{IsPoint}
+use Rattle.space.specs.Sweeps.{SweepOf, IsSweep}
 use Rattle.bern_form.specs.Marks.{some_holds}
 use Rattle.bern_form.specs.Sizes.{IsBounded2, axis_limit, scale_limit}
 use Rattle.bern_form.specs.Slab.{SlabSize}
@@ -21,7 +21,7 @@ use Rattle.width_bisect.proofs.Closing.{forms_small}
 use Rattle.width_bisect.proofs.Parts.{answered_on_part, part_kept}
 
 -- the forms are small enough for a stretch
-pub part_small : (slabs : List SlabSize) (u n width : List ℤ) (m : Motion) (p : List ℤ) (S T levels : ℕ) → IsSweep m → IsPoint p → S ≡ T
+pub part_small : (slabs : List SlabSize) (u n width : List ℤ) (m : SweepOf) (p : List ℤ) (S T levels : ℕ) → IsSweep m → IsPoint p → S ≡ T
     → S ≤ scale_limit
     → IsOpenPart slabs u n width m p T levels
     → record { u : IsBounded2 height_limit u; n : IsBounded2 (3 * (axis_limit * axis_limit)) n; width : IsWeighted4 width_limit width }
@@ -31,9 +31,9 @@ part_small slabs u n width m p S T levels sweep point cells few kept =
     record { u = small.u_small; n = small.n_small; width = small.width_small }
 
 -- a mark that is right on the part answers
-pub answered_ahead : (asked : Asked) (given : Mark) (c : CutterSize) (b : ℕ) (inner slabs : List SlabSize) (u n width : List ℤ) (m : Motion) (p : List ℤ) (S levels : ℕ)
+pub answered_ahead : (asked : Asked) (given : Mark) (c : CutterSize) (b : ℕ) (inner slabs : List SlabSize) (u n width : List ℤ) (m : SweepOf) (p : List ℤ) (S levels : ℕ)
     → 0 < S → inner ≡ inner_stack c b → slabs ≡ slabs_for asked (inner_stack c b) (outer_stack c b)
-    → ((q : Motion) (r : List ℤ) (i s : ℕ) → some_holds inner q r i s ≡ true → some_holds (outer_stack c b) q r i s ≡ true)
+    → ((q : SweepOf) (r : List ℤ) (i s : ℕ) → some_holds inner q r i s ≡ true → some_holds (outer_stack c b) q r i s ≡ true)
     → IsOpenPart (outer_stack c b) u n width m p S levels
     → ((j : ℕ) → AreWidthForms u n width m p j (j + 2 ^ levels) S → ((i : ℕ) → some_holds inner m p i S ≡ true → some_holds slabs m p i S ≡ true)
     → IsMarkBetween given inner slabs m p j (j + 2 ^ levels) S)

@@ -1,7 +1,7 @@
 -- Where a search of a whole move begins, and its mark.
 use Rattle.std.proofs.Common.{◌≡◌, Bool, true, false, not, ℕ, ◌+◌, ◌^◌, ◌<◌, ◌≤◌, List, get_or, ℤ, pos, ◌*ℤ◌, ◌≤ℤ◌, arith, subst, sym, ap, ◌∙◌}
 use Rattle.std.proofs.lemmas.Int.{ints}
-use Rattle.space.specs.Motion.{Motion}
+use Rattle.space.specs.Sweeps.{SweepOf}
 use Rattle.space.specs.Vectors.{at}
 use Rattle.space.proofs.Tests.{decides_le}
 use Rattle.bern_form.specs.Cells.{scaled_square}
@@ -37,7 +37,7 @@ begins_at slabs S kept scale j x y raised height u n eS er eh es ex ey turns =
     }
 
 -- a stretch of it
-pub search_of_stretch : (inner outer : List SlabSize) (u n width : List ℤ) (m : Motion) (p : List ℤ) (S high levels j : ℕ) → 0 < S → AreWidthForms u n width m p j (j + 2 ^ levels) S
+pub search_of_stretch : (inner outer : List SlabSize) (u n width : List ℤ) (m : SweepOf) (p : List ℤ) (S high levels j : ℕ) → 0 < S → AreWidthForms u n width m p j (j + 2 ^ levels) S
     → ((i : ℕ) → some_holds inner m p i S ≡ true → some_holds outer m p i S ≡ true) → all_positive (lifted n) ≡ true → TurnsBetween (is_not_below S u n) outer 0 high
     → some_holds inner m p (j + 2 ^ levels) S ≡ false → some_holds inner m p j S ≡ false → IsWidthSearch inner outer u n width m p S high levels j
 search_of_stretch inner outer u n width m p S high levels j some f enclosed above turns last first = record {
@@ -53,8 +53,8 @@ search_of_stretch inner outer u n width m p S high levels j some f enclosed abov
   turns = turns;
 }
 
-pub last_is_held : (inner outer : List SlabSize) (m : Motion) (p : List ℤ) (j k S : ℕ) → j ≤ k → some_holds inner m p k S ≡ true → IsMarkBetween Removed inner outer m p j k S
+pub last_is_held : (inner outer : List SlabSize) (m : SweepOf) (p : List ℤ) (j k S : ℕ) → j ≤ k → some_holds inner m p k S ≡ true → IsMarkBetween Removed inner outer m p j k S
 last_is_held inner outer m p j k S h held = record { sample = k; after = h; before = omega arith; held = held }
 
-pub first_is_held : (inner outer : List SlabSize) (m : Motion) (p : List ℤ) (j k S : ℕ) → j ≤ k → some_holds inner m p j S ≡ true → IsMarkBetween Removed inner outer m p j k S
+pub first_is_held : (inner outer : List SlabSize) (m : SweepOf) (p : List ℤ) (j k S : ℕ) → j ≤ k → some_holds inner m p j S ≡ true → IsMarkBetween Removed inner outer m p j k S
 first_is_held inner outer m p j k S h held = record { sample = j; after = omega arith; before = h; held = held }

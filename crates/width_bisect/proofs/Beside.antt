@@ -11,7 +11,7 @@ use Rattle.bern_form.specs.Forms.{all_positive, difference4, scaled4}
 use Rattle.bern_form.specs.Slab.{SlabSize}
 use Rattle.bern_form.proofs.Decided.{decides_positive}
 use Rattle.cutter_slabs.specs.Rising.{IsRising}
-use Rattle.box_bisect.specs.SlabTests.{TurnsAt, TurnsBetween, is_below_by, is_excluded_by, is_left_by, no_slab}
+use Rattle.box_bisect.specs.SlabTests.{TurnsAt, TurnsBetween, is_below_by, is_excluded_by, is_unexcluded_by, no_slab}
 use Rattle.box_bisect.proofs.Deciding.{none_reached, one_decides}
 use Rattle.box_bisect.proofs.Leaving.{cell_goes_up}
 use Rattle.box_bisect.proofs.Raised.{all_over, less_or_not, not_over}
@@ -95,7 +95,7 @@ beside_out false false w e = ap not e
 
 pub none_beside : (S : ℕ) (raised height width : List ℤ) (slabs : List SlabSize) (high h : ℕ) (x : SlabSize) → high ≡ h + 1 → x ≡ get_or slabs h x → IsRising slabs → all_positive raised ≡ true
     → all_positive (difference4 width (scaled4 (scaled_square S x.dia) raised)) ≡ true → TurnsBetween (λ s. not (is_below_by S raised height s)) slabs 0 high
-    → is_left_by S false raised height width slabs ≡ false
+    → is_unexcluded_by S false raised height width slabs ≡ false
 none_beside S raised height width slabs high h x eh is rising above beside turns =
     let reached = λ (s : SlabSize). not (is_below_by S raised height s) in let kept = λ (s : SlabSize). not (is_excluded_by S false raised height width s) in
     let up = cell_goes_up S false raised height width above in
@@ -112,7 +112,7 @@ none_beside S raised height width slabs high h x eh is rising above beside turns
     (cases_lt 0 low.number)
 
 pub none_at_all : (S : ℕ) (raised height width : List ℤ) (slabs : List SlabSize) (high : ℕ) → high ≡ 0 → IsRising slabs → all_positive raised ≡ true
-    → TurnsBetween (λ s. not (is_below_by S raised height s)) slabs 0 high → is_left_by S false raised height width slabs ≡ false
+    → TurnsBetween (λ s. not (is_below_by S raised height s)) slabs 0 high → is_unexcluded_by S false raised height width slabs ≡ false
 none_at_all S raised height width slabs high e rising above turns =
     let reached = λ (s : SlabSize). not (is_below_by S raised height s) in let kept = λ (s : SlabSize). not (is_excluded_by S false raised height width s) in
     none_reached kept reached (cell_goes_up S false raised height width above) slabs high rising (subst (λ k. TurnsBetween reached slabs k high) (sym e) turns) e

@@ -1,9 +1,9 @@
 -- The bounds of a point's forms on a whole move, and the mark of the point by the stacks of a cutter.
 use Rattle.std.proofs.Common.{◌≡◌, Bool, true, false, ℕ, ◌+◌, ◌*◌, ◌^◌, ◌<◌, ◌≤◌, List, ℤ, pos, ◌+ℤ◌, ◌*ℤ◌, ◌-ℤ◌, unsigned_abs, arith, subst, sym, ap, ◌∙◌, ⊎_elim}
 use Rattle.std.proofs.lemmas.Bool.{cases_Bool}
-use Rattle.space.specs.Motion.{IsSweep, Motion, axis_at, offset_at}
 use Rattle.space.specs.Ranges.{IsPoint}
 use Rattle.space.specs.Reach.{is_in_reach}
+use Rattle.space.specs.Sweeps.{IsSweep, SweepOf, axis_at, offset_at}
 use Rattle.space.specs.Vectors.{at}
 use Rattle.space.proofs.Naturals.{abs_add, abs_mul, abs_sub}
 use Rattle.bern_form.specs.Between.{d_between, n_between, u_between}
@@ -68,7 +68,7 @@ pub record AreSmall (u n width : List ℤ) : Type 0 where
   pub n_small : IsBounded2 (3 * (axis_limit * axis_limit)) n
   pub width_small : IsWeighted4 width_limit width
 
-pub forms_small : (u n width : List ℤ) (m : Motion) (p : List ℤ) (j k S : ℕ) → IsSweep m → IsPoint p → j ≤ k → k ≤ S → S ≤ scale_limit → AreWidthForms u n width m p j k S → AreSmall u n width
+pub forms_small : (u n width : List ℤ) (m : SweepOf) (p : List ℤ) (j k S : ℕ) → IsSweep m → IsPoint p → j ≤ k → k ≤ S → S ≤ scale_limit → AreWidthForms u n width m p j k S → AreSmall u n width
 forms_small u n width m p j k S sweep point order within few f =
     let P = offset_at m p (pos j) (pos S) in let Q = offset_at m p (pos k) (pos S) in let A = axis_at m (pos j) (pos S) in let C = axis_at m (pos k) (pos S) in
     let hP = offset_within m p j S sweep point (omega (arith, order, within)) few in let hQ = offset_within m p k S sweep point within few in
@@ -89,20 +89,20 @@ forms_small u n width m p j k S sweep point order within few f =
 no_both : (b : Bool) → b ≡ true → b ≡ false → ⊥
 no_both b e f = cc
 
-pub clear_is : (inner outer : List SlabSize) (reach : ℤ) (m : Motion) (p : List ℤ) (S : ℕ) → IsMarkBetween Clear inner outer m p 0 S S → Clear ≡ mark_from inner outer reach m p S
+pub clear_is : (inner outer : List SlabSize) (reach : ℤ) (m : SweepOf) (p : List ℤ) (S : ℕ) → IsMarkBetween Clear inner outer m p 0 S S → Clear ≡ mark_from inner outer reach m p S
 clear_is inner outer reach m p S found =
     let none : held_at_sample inner m p S ≡ false = none_below (λ k. some_holds inner m p k S) (S + 1) (λ k l. found.0.none k (omega arith) (omega (arith, l))) in
     ⊎_elim (λ near. mark_is Clear inner outer reach m p S near found)
     (λ far. far_mark inner outer reach m p S far (λ held. absurd (no_both (held_at_sample inner m p S) held none))) (cases_Bool (is_in_reach reach m.from m.to p))
 
 -- the mark by the stacks of a cutter
-pub marked_by : (mark : Mark) (c : CutterSize) (slabs : ℕ) (inner : List SlabSize) (m : Motion) (p : List ℤ) (S : ℕ) → inner ≡ inner_stack c slabs
+pub marked_by : (mark : Mark) (c : CutterSize) (slabs : ℕ) (inner : List SlabSize) (m : SweepOf) (p : List ℤ) (S : ℕ) → inner ≡ inner_stack c slabs
     → mark ≡ mark_from inner (outer_stack c slabs) (pos (reach_of c)) m p S → mark ≡ mark_by c slabs m p S
 unfolding mark_by
 marked_by mark c slabs inner m p S stack is = is ∙ ap (λ l. mark_from l (outer_stack c slabs) (pos (reach_of c)) m p S) stack
 
 -- where the point is behind the tip throughout a stretch no slab of either list holds it or is left there
-pub behind_dropped : (inner outer : List SlabSize) (u n width : List ℤ) (m : Motion) (p : List ℤ) (S levels j : ℕ) → 0 < S → AreWidthForms u n width m p j (j + 2 ^ levels) S → all_negative u ≡ true
+pub behind_dropped : (inner outer : List SlabSize) (u n width : List ℤ) (m : SweepOf) (p : List ℤ) (S levels j : ℕ) → 0 < S → AreWidthForms u n width m p j (j + 2 ^ levels) S → all_negative u ≡ true
     → IsMarkBetween Clear inner outer m p j (j + 2 ^ levels) S
 behind_dropped inner outer u n width m p S levels j some f behind =
     let k = j + 2 ^ levels in let d = d_between m p j k S in let forms = forms_by u n width m p j k S f in

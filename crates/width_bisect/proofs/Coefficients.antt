@@ -2,7 +2,7 @@
 use Rattle.std.proofs.Common.{◌≡◌, ◌*◌, ◌≤◌, ℤ, FitsSigned, to_z, of_z, unsigned_abs, ◌∙◌}
 use Rattle.std.proofs.lemmas.Int.{to_z-of_z}
 use mir.Syntax.{w128}
-use Rattle.box_bisect.proofs.Reread.{back_of, small_back}
+use Rattle.space.proofs.Reread.{back_of, small_back}
 use Rattle.width_bisect.specs.Halved.{fourth4, middle4, second4, third4}
 use Rattle.width_bisect.specs.Sizes.{width_limit}
 use Rattle.width_bisect.proofs.Shifting.{most_fit, width_fits, widths_fit}
@@ -10,7 +10,7 @@ use Rattle.width_bisect.proofs.Shifting.{most_fit, width_fits, widths_fit}
 abbrev word : ℤ → ℤ
 word x = to_z w128 (of_z w128 x)
 
--- the bound of a coefficient at either end, of one beside those, and of the one in the middle
+-- the bound of a coefficient at either end, of one next to those, and of the one in the middle
 abbrev IsEnd : ℤ → Type 0
 IsEnd x = unsigned_abs x ≤ width_limit
 

@@ -2,7 +2,7 @@
 use Rattle.std.proofs.Common.{◌≡◌, ◌*◌, ◌≤◌, ℤ, FitsSigned, to_z, of_z, unsigned_abs, arith, ◌∙◌}
 use Rattle.std.proofs.lemmas.Int.{to_z-of_z}
 use mir.Syntax.{w64}
-use Rattle.box_bisect.proofs.Reread.{back_of, small_back}
+use Rattle.space.proofs.Reread.{back_of, small_back}
 use Rattle.width_bisect.specs.Halved.{middle2, second2}
 use Rattle.width_bisect.specs.Sizes.{height_limit}
 

@@ -1,6 +1,6 @@
 -- The samples at the ends of a stretch, and the search between them.
 use Rattle.std.proofs.Common.{◌≡◌, true, false, ℕ, ◌+◌, ◌^◌, ◌<◌, List, ℤ, pos, ◌*ℤ◌}
-use Rattle.space.specs.Motion.{Motion}
+use Rattle.space.specs.Sweeps.{SweepOf}
 use Rattle.space.specs.Vectors.{at}
 use Rattle.bern_form.specs.Forms.{all_positive, lifted}
 use Rattle.bern_form.specs.Marks.{some_holds}
@@ -29,22 +29,22 @@ IsMarkBy mark x inner outer =
     → mark ≡ sample_mark (some_covers (pos x.scale) x.u x.n w inner) (some_covers (pos x.scale) x.u x.n w outer)
 
 -- what the mark says of the sample i
-abbrev pub IsMarkAt : Mark → List SlabSize → List SlabSize → Motion → List ℤ → ℕ → ℕ → Type 0
+abbrev pub IsMarkAt : Mark → List SlabSize → List SlabSize → SweepOf → List ℤ → ℕ → ℕ → Type 0
 IsMarkAt mark inner outer m p i S = mark ≡ sample_mark (some_holds inner m p i S) (some_holds outer m p i S)
 
-pub first_tried : (inner outer : List SlabSize) (mark : Mark) (x : Sample) (s : Stretch) (m : Motion) (p : List ℤ) (j k S : ℕ)
+pub first_tried : (inner outer : List SlabSize) (mark : Mark) (x : Sample) (s : Stretch) (m : SweepOf) (p : List ℤ) (j k S : ℕ)
     → AreWidthForms s.u s.n s.width m p j k S → IsFirstOf x s S → IsMarkBy mark x inner outer → IsMarkAt mark inner outer m p j S
 first_tried inner outer mark x s m p j k S forms is marked =
     marked_as_first inner outer mark x.scale x.u x.n x.width s.u s.n s.width m p j k S forms marked is.scale is.u is.n is.width
 
-pub last_tried : (inner outer : List SlabSize) (mark : Mark) (x : Sample) (s : Stretch) (m : Motion) (p : List ℤ) (j k S : ℕ)
+pub last_tried : (inner outer : List SlabSize) (mark : Mark) (x : Sample) (s : Stretch) (m : SweepOf) (p : List ℤ) (j k S : ℕ)
     → AreWidthForms s.u s.n s.width m p j k S → IsLastOf x s S → IsMarkBy mark x inner outer → IsMarkAt mark inner outer m p k S
 last_tried inner outer mark x s m p j k S forms is marked =
     marked_as_last inner outer mark x.scale x.u x.n x.width s.u s.n s.width m p j k S forms marked is.scale is.u is.n is.width
 
 -- where neither is Removed, the stretch is searched
 pub ends_searched : (inner outer : List SlabSize) (first last : Mark) (x y : Sample) (s : Stretch)
-    (m : Motion) (p : List ℤ) (S high levels j : ℕ)
+    (m : SweepOf) (p : List ℤ) (S high levels j : ℕ)
     → 0 < S → AreWidthForms s.u s.n s.width m p j (j + 2 ^ levels) S
     → ((i : ℕ) → some_holds inner m p i S ≡ true → some_holds outer m p i S ≡ true)
     → all_positive (lifted s.n) ≡ true → TurnsBetween (is_not_below S s.u s.n) outer 0 high

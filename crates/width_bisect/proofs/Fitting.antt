@@ -59,7 +59,7 @@ raised_fits a b c h k l =
       fourth = fits64 (b +ℤ pos 2 *ℤ c) (4 * m) (omega (arith, w, k, z)) (omega arith);
     }
 
--- and as it is reckoned
+-- and as it is computed
 pub raised_is : (n : List ℤ) → at n 0 ∷ (pos 2 *ℤ at n 0 +ℤ at n 1) ∷ ((at n 0 +ℤ pos 2 *ℤ at n 1) +ℤ at n 2) ∷ (at n 1 +ℤ pos 2 *ℤ at n 2) ∷ at n 2 ∷ [] ≡ lifted n
 raised_is n =
     let a = at n 0 in let b = at n 1 in let c = at n 2 in

@@ -1,7 +1,7 @@
 -- The forms of a point on a stretch give those of its halves: the shifts lose nothing, since the samples are whole.
 use Rattle.std.proofs.Common.{◌≡◌, true, ℕ, ◌+◌, ◌*◌, [], ◌∷◌, List, ℤ, pos, ◌+ℤ◌, ◌*ℤ◌, ◌-ℤ◌, arith, ap, refl, sym, subst, ◌∙◌}
 use Rattle.std.proofs.lemmas.Int.{ints}
-use Rattle.space.specs.Motion.{Motion}
+use Rattle.space.specs.Sweeps.{SweepOf}
 use Rattle.space.specs.Vectors.{at}
 use Rattle.bern_form.specs.Between.{d_between, height_less, n_between, u_between}
 use Rattle.bern_form.specs.Cells.{scaled_square}
@@ -12,7 +12,7 @@ use Rattle.bern_form.proofs.Decided.{decides_negative, decides_positive}
 use Rattle.bern_form.proofs.Halves.{d_of_first, d_of_last, n_of_first, n_of_last, u_of_first, u_of_last, whole_of_first, whole_of_last}
 use Rattle.bern_form.proofs.HalfSigns.{IsFirstOf, IsLastOf, first_negative4, first_positive4, five, height_first, height_last, last_negative4, last_positive4, three}
 use Rattle.box_bisect.specs.SlabTests.{is_below_by, width_of}
-use Rattle.box_bisect.proofs.Raised.{raised_is}
+use Rattle.ray_boxes.proofs.Raised.{raised_is}
 use Rattle.width_bisect.specs.Forms.{AreWidthForms}
 use Rattle.width_bisect.specs.Halved.{first2, first4, last2, last4}
 use Rattle.width_bisect.specs.Sizes.{IsWeighted4}
@@ -70,7 +70,7 @@ halved_last4 c x i =
 width_as : (u n d u' n' d' : List ℤ) → u ≡ u' → n ≡ n' → d ≡ d' → width_of u n d ≡ width_of u' n' d'
 width_as u n d u' n' d' eu en ed = ap (λ l. width_of l n d) eu ∙ ap (λ l. width_of u' l d) en ∙ ap (λ l. width_of u' n' l) ed
 
-pub forms_of_first : (u n width : List ℤ) (m : Motion) (p : List ℤ) (j i k S : ℕ) → j + k ≡ 2 * i → AreWidthForms u n width m p j k S
+pub forms_of_first : (u n width : List ℤ) (m : SweepOf) (p : List ℤ) (j i k S : ℕ) → j + k ≡ 2 * i → AreWidthForms u n width m p j k S
     → AreWidthForms (first2 u) (first2 n) (first4 width) m p j i S
 forms_of_first u n width m p j i k S h f =
     let u' = u_between m p j i S in let n' = n_between m j i S in let d' = d_between m p j i S in record {
@@ -81,7 +81,7 @@ forms_of_first u n width m p j i k S h f =
           ∙ halved_first4 (width_of (whole_of_first u') (whole_of_first n') (whole_of_first d')) (width_of u' n' d') (width_of_first u' n' d');
     }
 
-pub forms_of_last : (u n width : List ℤ) (m : Motion) (p : List ℤ) (j i k S : ℕ) → j + k ≡ 2 * i → AreWidthForms u n width m p j k S
+pub forms_of_last : (u n width : List ℤ) (m : SweepOf) (p : List ℤ) (j i k S : ℕ) → j + k ≡ 2 * i → AreWidthForms u n width m p j k S
     → AreWidthForms (last2 u) (last2 n) (last4 width) m p i k S
 forms_of_last u n width m p j i k S h f =
     let u' = u_between m p i k S in let n' = n_between m i k S in let d' = d_between m p i k S in record {

@@ -1,4 +1,4 @@
--- A number that is reckoned in machine words is the one that it stands for, where that fits.
+-- A number that is computed in machine words is the one that it stands for, where that fits.
 use Rattle.std.proofs.Common.{◌≡◌, ℕ, ℤ, pos, ◌+ℤ◌, ◌*ℤ◌, FitsSigned, to_z, of_z, ap, ap₂, subst, sym, ◌∙◌}
 use Rattle.std.proofs.lemmas.Int.{to_z-of_z}
 use mir.Syntax.{Width}

@@ -1,6 +1,6 @@
 -- The sample in the middle of a stretch that is searched, and the halves on either side of it.
 use Rattle.std.proofs.Common.{◌≡◌, false, ℕ, ◌+◌, ◌^◌, List, ℤ, ap, subst, sym, ◌∙◌}
-use Rattle.space.specs.Motion.{Motion}
+use Rattle.space.specs.Sweeps.{SweepOf}
 use Rattle.space.specs.Vectors.{at}
 use Rattle.bern_form.specs.Marks.{some_holds}
 use Rattle.bern_form.specs.Slab.{SlabSize}
@@ -25,7 +25,7 @@ IsLastHalf last s = record { u : last.u ≡ last2 s.u; n : last.n ≡ last2 s.n;
 
 -- what the mark of the middle sample says
 pub middle_tried : (inner outer : List SlabSize) (mark : Mark) (s first : Stretch) (x : Sample)
-    (m : Motion) (p : List ℤ) (S high levels k j : ℕ) → levels ≡ k + 1
+    (m : SweepOf) (p : List ℤ) (S high levels k j : ℕ) → levels ≡ k + 1
     → IsWidthSearch inner outer s.u s.n s.width m p S high levels j → IsFirstHalf first s → IsLastOf x first S → IsMarkBy mark x inner outer
     → IsMarkAt mark inner outer m p (j + 2 ^ k) S
 middle_tried inner outer mark s first x m p S high levels k j e search half is marked =
@@ -35,7 +35,7 @@ middle_tried inner outer mark s first x m p S high levels k j e search half is m
 
 -- so the halves are searched, by the slabs that are excluded once a mark is known
 pub first_searched : (inner outer slabs : List SlabSize) (mark known : Mark) (s first : Stretch)
-    (m : Motion) (p : List ℤ) (S high levels k j : ℕ) → levels ≡ k + 1
+    (m : SweepOf) (p : List ℤ) (S high levels k j : ℕ) → levels ≡ k + 1
     → IsWidthSearch inner outer s.u s.n s.width m p S high levels j → IsFirstHalf first s → IsMarkAt mark inner outer m p (j + 2 ^ k) S
     → is_removed_mark mark ≡ false
     → slabs ≡ slabs_after known inner outer → lows_of inner ≡ lows_of outer
@@ -48,7 +48,7 @@ first_searched inner outer slabs mark known s first m p S high levels k j e sear
     (search_first inner outer s.u s.n s.width m p S high levels k j e search none))
 
 pub last_searched : (inner outer slabs : List SlabSize) (mark : Mark) (s last : Stretch)
-    (m : Motion) (p : List ℤ) (S high levels k j : ℕ)
+    (m : SweepOf) (p : List ℤ) (S high levels k j : ℕ)
     → levels ≡ k + 1
     → IsWidthSearch inner outer s.u s.n s.width m p S high levels j → IsLastHalf last s → IsMarkAt mark inner outer m p (j + 2 ^ k) S
     → is_removed_mark mark ≡ false
@@ -63,11 +63,11 @@ last_searched inner outer slabs mark s last m p S high levels k j e search half 
 
 -- and the late half has the mark that is found on it, joined to that of the sample
 pub late_half : (inner outer slabs : List SlabSize) (found mark late : Mark) (s last : Stretch)
-    (m : Motion) (p : List ℤ) (S high levels k j : ℕ) → levels ≡ k + 1
+    (m : SweepOf) (p : List ℤ) (S high levels k j : ℕ) → levels ≡ k + 1
     → IsWidthSearch inner outer s.u s.n s.width m p S high levels j → IsLastHalf last s → IsMarkAt mark inner outer m p (j + 2 ^ k) S
     → is_removed_mark mark ≡ false
     → slabs ≡ slabs_after mark inner outer → lows_of inner ≡ lows_of outer
-    → ((q : Motion) (r : List ℤ) (l : ℕ) → IsWidthSearch inner slabs last.u last.n last.width q r S high k l → IsMarkBetween found inner slabs q r l (l + 2 ^ k) S)
+    → ((q : SweepOf) (r : List ℤ) (l : ℕ) → IsWidthSearch inner slabs last.u last.n last.width q r S high k l → IsMarkBetween found inner slabs q r l (l + 2 ^ k) S)
     → late ≡ joined_mark found mark → IsMarkBetween late inner outer m p (j + 2 ^ k) ((j + 2 ^ k) + 2 ^ k) S
 late_half inner outer slabs found mark late s last m p S high levels k j e search half tried free after lows marked joined =
     let i = j + 2 ^ k in

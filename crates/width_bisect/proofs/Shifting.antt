@@ -34,7 +34,7 @@ shifted4 (pos a) (negsuc z) e = absurd (omega (arith, ints))
 shifted4 (negsuc a) (pos z) e = absurd (omega (arith, ints))
 shifted4 (negsuc a) (negsuc z) e = omega (arith, ints)
 
--- what is left is so much smaller
+-- what is left is smaller by the same factor
 small1 : (a : ℤ) (m : ℕ) → unsigned_abs a ≤ 2 * m → unsigned_abs (int_shr a 1) ≤ m
 small1 (pos a) m h = omega arith
 small1 (negsuc a) m h = omega arith

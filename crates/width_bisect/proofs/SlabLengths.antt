@@ -4,7 +4,7 @@ use Rattle.std.proofs.lemmas.Int.{ints, to_z-of_z}
 use mir.Syntax.{w32, w128}
 use Rattle.bern_form.specs.Cells.{scaled_square}
 use Rattle.bern_form.specs.Slab.{IsSlab, SlabSize}
-use Rattle.box_bisect.proofs.Reread.{back_of, small_back}
+use Rattle.space.proofs.Reread.{back_of, small_back}
 use Rattle.width_bisect.specs.Bounds.{bounds_of}
 
 within : (x y : ℤ) → pos 0 ≤ℤ x → x ≤ℤ y → y ≤ℤ pos 300000 → unsigned_abs x ≤ 300000

@@ -1,4 +1,4 @@
--- What is asked of a point, and what answers it.
+-- What a caller wants to know of a point, and what answers it.
 use Rattle.std.specs.Prelude.{◌≡◌, List}
 use Rattle.bern_form.specs.Slab.{SlabSize}
 use Rattle.axis_cells.specs.declared.mark.Mark.{Mark}
@@ -6,7 +6,7 @@ use Rattle.box_bisect.specs.Between.{is_removed_mark}
 use Rattle.width_bisect.specs.declared.asked.Asked.{Asked}
 use Rattle.width_bisect.specs.declared.asked.Asked.TheVariants.{Sure, Whole}
 
--- the mark that is given answers what is asked of a point whose mark that one is: it is the same, or Removed exactly where that is
+-- the mark that is given answers the question about a point whose mark is that one: it is the same, or Removed exactly where that is
 abbrev pub IsAnswer : Asked → Mark → Mark → Type 0
 IsAnswer Whole given mark = given ≡ mark
 IsAnswer Sure given mark = is_removed_mark given ≡ is_removed_mark mark

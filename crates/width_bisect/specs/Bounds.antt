@@ -1,4 +1,4 @@
--- What a slab asks of the points at a sample, as numbers.
+-- What a slab requires of the points at a sample, as numbers.
 use Rattle.std.specs.Prelude.{◌≡◌, ℕ, ◌&&◌, Bool, true, List, ℤ, pos, ◌*ℤ◌, ◌≤ℤ◌, int_le}
 use Rattle.bern_form.specs.Cells.{scaled_square}
 use Rattle.bern_form.specs.Slab.{SlabSize}
@@ -13,7 +13,7 @@ bounds_of S n s = record { low = scaled_square S s.lo *ℤ n; high = scaled_squa
 abbrev pub no_bounds : Bounds
 no_bounds = record { low = pos 1; high = pos 0; width = pos 0 }
 
--- a point is at the height that they ask for, and it meets them
+-- a point is at the height that they require, and it meets them
 abbrev pub is_between : Bounds → ℤ → Bool
 is_between b u = int_le b.low (u *ℤ u) && int_le (u *ℤ u) b.high
 

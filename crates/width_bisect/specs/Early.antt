@@ -1,4 +1,4 @@
--- What one sample tells of a point, by which slabs a stretch is excluded once a mark is known, and where slabs begin.
+-- What one sample says of a point, by which slabs a stretch is excluded once a mark is known, and where slabs begin.
 use Rattle.std.specs.Prelude.{Bool, List, ℤ, map, if◌then◌else◌}
 use Rattle.bern_form.specs.Slab.{SlabSize}
 use Rattle.axis_cells.specs.declared.mark.Mark.{Mark}

@@ -8,7 +8,7 @@ pub record IsReachedBefore (test : SlabSize → Bool) (slabs : List SlabSize) (j
   pub within : j ≤ length slabs
   pub before : (i : ℕ) → j ≡ i + 1 → test (get_or slabs i no_slab) ≡ true
 
--- a walk from the number `high` downwards stops at j: the slab before j passes the test, and the one at j, where it was tried, doesn't
+-- a walk from the number `high` downwards stops at j: the slab before j passes the test, and the one at j, where it was tested, doesn't
 pub record StopsAt (test : SlabSize → Bool) (slabs : List SlabSize) (high j : ℕ) : Type 0 where
   pub at_most : j ≤ high
   pub before : (i : ℕ) → j ≡ i + 1 → test (get_or slabs i no_slab) ≡ true

@@ -6,7 +6,7 @@ ghost use Rattle.width_bisect.specs.Asked.{slabs_for};
 use bern_form::Slab;
 use cutter_slabs::Stacks;
 
-/// What is asked of a point: its whole mark, or only whether it is sure, which takes less work.
+/// What a caller wants to know of a point: its whole mark, or only whether it is sure, which takes less work.
 #[derive(Clone, Copy)]
 pub enum Asked {
     Whole,

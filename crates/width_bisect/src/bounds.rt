@@ -4,7 +4,7 @@ ghost use Rattle.width_bisect.specs.Bounds.{HoldsBy, is_between, meets, no_bound
 
 use crate::sample::Sample;
 
-/// What a slab asks of the points at a sample: u^2 is between two numbers, and the width no greater than a third one.
+/// What a slab requires of the points at a sample: u^2 is between two numbers, and the width no greater than a third one.
 #[derive(Clone, Copy)]
 pub struct Bounds {
     pub low: i128,

@@ -1,7 +1,7 @@
 ghost use Rattle.std.specs.Prelude.{◌≡◌, ◌*ℤ◌, int_lt};
 ghost use Rattle.bern_form.specs.Forms.{all_negative, all_positive, difference4, scaled4};
 
-use crate::length::product;
+use crate::words::product;
 
 /// Whether a is above the limit times r.
 #[inline]
@@ -33,8 +33,8 @@ pub fn all_above(form: &[i128; 5], limit: i64, raised: &[i64; 5]) -> bool
 }
 
 /// Whether each coefficient is below the limit times the other form's.
-// Apart from the walk that asks it slab by slab: written into that loop all five products are made, and of numbers that were widened to
-// 128 bits ahead of it, which takes three multiplications each in place of one.
+// Kept apart from the walk that calls it slab by slab: inlined into that loop all five products are computed, of numbers that were widened
+// to 128 bits before it, which takes three multiplications each in place of one.
 #[inline(never)]
 pub fn all_below(form: &[i128; 5], limit: i64, raised: &[i64; 5]) -> bool
     ensures { result ≡ all_negative (difference4 form.now (scaled4 limit raised.now)) }

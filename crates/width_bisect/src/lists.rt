@@ -3,12 +3,12 @@ ghost use Rattle.bern_form.specs.Forms.{all_positive, difference4, lifted, produ
 ghost use Rattle.bern_form.specs.Cells.{scaled_square};
 ghost use Rattle.bern_form.specs.Sizes.{scale_limit};
 ghost use Rattle.cutter_slabs.specs.Rising.{IsRising};
-ghost use Rattle.box_bisect.specs.SlabTests.{TurnsAt, TurnsBetween, is_below_by, is_left_by, is_past_by};
+ghost use Rattle.box_bisect.specs.SlabTests.{TurnsAt, TurnsBetween, is_below_by, is_past_by, is_unexcluded_by};
 
 use crate::compare::{all_above, all_below};
-use crate::length::scaled_square;
+use crate::slab_search::Reaches;
 use crate::stretch::Stretch;
-use crate::turn::Reaches;
+use axis_cells::short_scaled_square;
 use bern_form::Slab;
 
 /// Whether every number is above 0.
@@ -19,7 +19,7 @@ fn each_above(numbers: &[i64]) -> bool
     numbers.iter().all(|c| *c > 0)
 }
 
-/// What the slabs' tests between two samples compare, beside the width: n raised to degree 4, and u^2.
+/// What the slabs' tests between two samples compare, besides the width: n raised to degree 4, and u^2.
 #[derive(Drop)]
 pub struct Lists {
     pub scale: u32,
@@ -36,13 +36,14 @@ impl Reaches for Lists {
     fn reaches(&self, slab: &Slab) -> bool {
         !all_below(
             &self.height,
-            scaled_square(self.scale, slab.lo),
+            short_scaled_square(self.scale, slab.lo),
             &self.raised,
         )
     }
 }
 
 impl Lists {
+    /// Of the forms of a stretch at this scale, at most 1024.
     #[inline]
     pub fn of_stretch(stretch: &Stretch, scale: u32) -> Lists
         requires { scale ≤ scale_limit }
@@ -71,11 +72,15 @@ impl Lists {
         ensures { let l = self.now in
             result ≡ all_positive (difference4 width.now (scaled4 (scaled_square l.scale slab.now.dia) l.raised)) }
     {
-        all_above(width, scaled_square(self.scale, slab.dia), &self.raised)
+        all_above(
+            width,
+            short_scaled_square(self.scale, slab.dia),
+            &self.raised,
+        )
     }
 
     /// Whether the point is beside the slab throughout, or above it.
-    // Apart from its callers for the same reason as `all_below`.
+    // Kept apart from its callers for the same reason as `all_below`.
     #[inline(never)]
     fn is_past(&self, slab: &Slab, width: &[i128; 5]) -> bool
         ensures { let l = self.now in result ≡ is_past_by l.scale l.raised l.height width.now slab.now }
@@ -85,7 +90,7 @@ impl Lists {
         }
         all_above(
             &self.height,
-            scaled_square(self.scale, slab.hi),
+            short_scaled_square(self.scale, slab.hi),
             &self.raised,
         )
     }
@@ -97,7 +102,7 @@ impl Lists {
         requires within { high ≤ length slabs.now }
         ensures { let l = self.now in IsTrue result → IsRising slabs.now → all_positive l.raised ≡ true
             → TurnsBetween (λ s. not (is_below_by l.scale l.raised l.height s)) slabs.now 0 high
-            → is_left_by l.scale false l.raised l.height width.now slabs.now ≡ false }
+            → is_unexcluded_by l.scale false l.raised l.height width.now slabs.now ≡ false }
     {
         if high == 0 {
             return true;
@@ -112,7 +117,7 @@ impl Lists {
         requires within { reached ≤ length slabs.now }
         ensures { let l = self.now in IsRising slabs.now → all_positive l.raised ≡ true
             → TurnsAt (λ s. not (is_below_by l.scale l.raised l.height s)) slabs.now reached
-            → result ≡ is_left_by l.scale false l.raised l.height width.now slabs.now }
+            → result ≡ is_unexcluded_by l.scale false l.raised l.height width.now slabs.now }
     {
         if reached == 0 {
             return false;

@@ -6,7 +6,7 @@ ghost use Rattle.bern_form.specs.Sizes.{scale_limit};
 ghost use Rattle.cutter_slabs.specs.Rising.{IsRising};
 ghost use Rattle.cutter_slabs.specs.Stacks.{inner_stack, outer_stack};
 ghost use Rattle.cutter_marks.specs.MarkBy.{mark_by};
-ghost use Rattle.box_bisect.specs.SlabTests.{TurnsBetween, is_left_with};
+ghost use Rattle.box_bisect.specs.SlabTests.{TurnsBetween, is_unexcluded_with};
 ghost use Rattle.width_bisect.specs.Asked.{IsAnswer, slabs_for};
 ghost use Rattle.width_bisect.specs.Below.{IsBelowFrom};
 ghost use Rattle.width_bisect.specs.Early.{lows_of};
@@ -24,10 +24,10 @@ use bern_form::Slab;
 use box_bisect::mark_point_uncounted;
 use cutter_slabs::Stacks;
 
-/// What is asked of a point that isn't found to be clear by its forms alone: it is clear where it is out of reach, and else the part,
-/// of which these are the forms, is halved. The slabs are those that are excluded for what is asked, and the point is below the one with
+/// The answer for a point that its forms alone don't show to be clear: it is clear where it is out of reach, and else the part,
+/// of which these are the forms, is halved. The slabs are those that are excluded for `asked`, and the point is below the one with
 /// the number `high` throughout, where there is one. Where the part is one cell, some slab isn't excluded on it.
-// Written into both its callers: a call here costs more than it saves.
+// Inlined into both its callers: a call here costs more than it saves.
 #[inline(always)]
 fn mark_in_reach(
     sweep: &Sweep,
@@ -46,14 +46,14 @@ fn mark_in_reach(
     requires part { let w = part.now in IsOpenPart (outer_stack stacks.now.cutter stacks.now.slabs) w.u w.n w.width sweep.now point
         scale levels }
     requires left { let w = part.now in (j : ℕ) → AreWidthForms w.u w.n w.width sweep.now point j (j + 2 ^ levels) scale → levels ≡ 0
-        → is_left_with slabs.now scale w.u w.n (d_between sweep.now point j (j + 2 ^ levels) scale) ≡ true }
+        → is_unexcluded_with slabs.now scale w.u w.n (d_between sweep.now point j (j + 2 ^ levels) scale) ≡ true }
     requires positive { all_positive (lifted part.now.n) ≡ true }
     requires high { TurnsBetween (is_not_below scale part.now.u part.now.n) slabs.now 0 high }
     ensures { let s = stacks.now in (asked : Asked)
         → slabs.now ≡ slabs_for asked (inner_stack s.cutter s.slabs) (outer_stack s.cutter s.slabs)
         → IsAnswer asked result (mark_by s.cutter s.slabs sweep.now point scale) }
 {
-    // A sweep is valid by its type, which is known where a field of it is seen.
+    // Reading a field of the sweep gives the prover its invariant.
     let _valid = &sweep.from;
     let inner = stacks.inner();
     let reach = stacks.reach();
@@ -63,7 +63,7 @@ fn mark_in_reach(
     mark_of_whole(part, inner, slabs, scale, high, levels)
 }
 
-/// What is asked of a point that is not behind the tip throughout the part.
+/// The answer for a point that is not behind the tip throughout the part.
 #[inline]
 fn mark_ahead(
     sweep: &Sweep,
@@ -82,7 +82,7 @@ fn mark_ahead(
     requires ahead { all_negative forms.now.u.c ≡ false }
     ensures { IsAnswer asked result (mark_by stacks.now.cutter stacks.now.slabs sweep.now point (2 ^ depth)) }
 {
-    // A sweep is valid by its type, which is known where a field of it is seen.
+    // Reading a field of the sweep gives the prover its invariant.
     let _valid = &sweep.from;
     let scale = cells_of(depth);
     let whole = Stretch::whole(forms);
@@ -103,9 +103,9 @@ fn mark_ahead(
 
 /// The mark of a point by the stacks and the reach of a cutter, at the samples and on the cells of a depth, from its forms on a part of
 /// the move, 2^`levels` cells: before it and after it no outer slab is left. It is that of `mark_point_uncounted`, with less work. Where
-/// it is only asked whether the point is sure, a mark that is Removed exactly where that one is. A point that is behind the tip
-/// throughout, as most are that stand below a tool's way, costs next to nothing. `near` is the number from which the slab at the
-/// point's height is looked for: any is right, best that of a point beside it. The one that is found comes in its place.
+/// only whether the point is sure is wanted, it is a mark that is Removed exactly where that one is. A point that is behind the tip
+/// throughout, as most are that lie below a tool's path, costs next to nothing. `near` is the number from which the slab at the
+/// point's height is looked for: any is right, best that of a point next to it. The one that is found replaces it.
 #[inline]
 pub fn mark_on_part(
     sweep: &Sweep,
@@ -152,7 +152,7 @@ pub fn mark_by_forms(
 
 /// The same of a point that is known to be below the outer slab with the number `high` throughout, where there is one, on a move of two
 /// cells or more on which n raised to degree 4 is above 0 by its coefficients. The move is halved at once: whether all slabs are
-/// excluded on the whole of it isn't asked, as they seldom are where a caller has tried to exclude them by a test of its own. The inner
+/// excluded on the whole of it isn't tested, as they seldom are where a caller has already tested that in its own way. The inner
 /// slabs begin where the outer ones do, so `high` serves for both.
 #[inline]
 pub fn mark_below(
@@ -172,7 +172,7 @@ pub fn mark_below(
     requires below { IsBelowFrom (outer_stack stacks.now.cutter stacks.now.slabs) sweep.now point (2 ^ depth) high }
     ensures { IsAnswer asked result (mark_by stacks.now.cutter stacks.now.slabs sweep.now point (2 ^ depth)) }
 {
-    // A sweep is valid by its type, which is known where a field of it is seen.
+    // Reading a field of the sweep gives the prover its invariant.
     let _valid = &sweep.from;
     let scale = cells_of(depth);
     let whole = Stretch::whole(forms);

@@ -8,10 +8,10 @@ ghost use Rattle.width_bisect.specs.Bounds.{HoldsBy, bounds_of, no_bounds};
 ghost use Rattle.width_bisect.specs.Early.{lows_of, sample_mark};
 
 use crate::bounds::Bounds;
-use crate::length::{product, scaled_square};
+use crate::slab_search::{Reaches, walk_down, walk_up};
 use crate::stretch::Stretch;
-use crate::turn::{Reaches, walk_down, walk_up};
-use axis_cells::Mark;
+use crate::words::product;
+use axis_cells::{Mark, short_scaled_square};
 use bern_form::Slab;
 
 /// What the slabs' tests at one sample share: u, n, and the width, which is four times the squared distance from the axis times n.
@@ -75,7 +75,7 @@ impl Sample {
         requires { unsigned_abs length ≤ 300000 }
         ensures { result ≡ scaled_square self.now.scale length *ℤ self.now.n }
     {
-        product(scaled_square(self.scale, length), self.n)
+        product(short_scaled_square(self.scale, length), self.n)
     }
 
     /// u^2.
@@ -123,7 +123,7 @@ impl Sample {
         walk_up(self, slabs, walk_down(self, slabs, near.min(slabs.len())))
     }
 
-    /// What a slab asks of the points at this sample.
+    /// What a slab requires of the points at this sample.
     #[inline]
     fn bounds_of(&self, slab: &Slab) -> Bounds
         ensures { result ≡ bounds_of self.now.scale self.now.n slab.now }
@@ -135,7 +135,7 @@ impl Sample {
         }
     }
 
-    /// What the slab that lies below the number `reached` asks of the points at this sample: what no point meets, where there is none.
+    /// What the slab that lies below the number `reached` requires of the points at this sample: what no point meets, where there is none.
     #[inline]
     pub fn bounds(&self, slabs: &[Slab], reached: usize) -> Bounds
         requires { reached ≤ length slabs.now }

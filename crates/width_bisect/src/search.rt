@@ -1,24 +1,24 @@
 ghost use Rattle.std.specs.Prelude.{◌≡◌, ℕ, ℤ, List, ◌+◌, ◌^◌, ◌≤◌, length, true};
-ghost use Rattle.space.specs.Motion.{Motion};
+ghost use Rattle.space.specs.Sweeps.{SweepOf};
 ghost use Rattle.bern_form.specs.Between.{d_between};
 ghost use Rattle.bern_form.specs.Sizes.{scale_limit};
 ghost use Rattle.cutter_slabs.specs.Rising.{IsRising};
 ghost use Rattle.box_bisect.specs.Between.{IsMarkBetween, is_removed_mark, joined_mark};
 ghost use Rattle.box_bisect.specs.RayMarks.{is_possible_mark};
-ghost use Rattle.box_bisect.specs.SlabTests.{is_left_with};
+ghost use Rattle.box_bisect.specs.SlabTests.{is_unexcluded_with};
 ghost use Rattle.width_bisect.specs.Early.{lows_of, slabs_after};
 ghost use Rattle.width_bisect.specs.Searches.{IsWidthSearch};
 
 use crate::lists::Lists;
 use crate::sample::Sample;
+use crate::slab_search::walk_down;
 use crate::stretch::Stretch;
-use crate::turn::walk_down;
 use axis_cells::Mark;
 use bern_form::Slab;
 
 /// The mark of the point whose forms these are on a stretch of 2^`levels` cells, at whose two ends no inner slab holds it. The point
 /// is below the outer slab with the number `high` throughout, where there is one. Where all outer slabs are excluded on the stretch,
-/// they are on all its cells, and none of its samples need be tried.
+/// they are on all its cells, and none of its samples need be tested.
 #[cycle(search)]
 pub fn mark_between(
     stretch: &Stretch,
@@ -33,7 +33,7 @@ pub fn mark_between(
     requires inner { IsRising inner.now }
     requires outer { IsRising outer.now }
     requires lows { lows_of inner.now ≡ lows_of outer.now }
-    ensures { let s = stretch.now in (m : Motion) (p : List ℤ) (j : ℕ)
+    ensures { let s = stretch.now in (m : SweepOf) (p : List ℤ) (j : ℕ)
         → IsWidthSearch inner.now outer.now s.u s.n s.width m p scale high levels j
         → IsMarkBetween result inner.now outer.now m p j (j + 2 ^ levels) scale }
 {
@@ -51,9 +51,9 @@ pub fn mark_between(
     mark_by_halves(stretch, inner, outer, scale, reached, levels)
 }
 
-/// The same, where it isn't asked whether all outer slabs are excluded on the stretch. On a cell some outer slab is not, so it is
-/// Possible. Else the sample in the middle is tried, and then both halves, the late one first: a tool that goes on takes nearly all of
-/// what is new near the end of its move. What an outer slab holds in the middle is Possible, so of both halves it is only asked whether
+/// The same, where it isn't tested whether all outer slabs are excluded on the stretch. On a cell some outer slab is not, so it is
+/// Possible. Else the sample in the middle is tested, and then both halves, the late one first: a tool that moves on takes nearly all of
+/// what is new near the end of its move. What an outer slab holds in the middle is Possible, so of both halves it is only tested whether
 /// an inner one holds it.
 #[cycle(search)]
 pub fn mark_by_halves(
@@ -69,9 +69,9 @@ pub fn mark_by_halves(
     requires inner { IsRising inner.now }
     requires outer { IsRising outer.now }
     requires lows { lows_of inner.now ≡ lows_of outer.now }
-    ensures { let s = stretch.now in (m : Motion) (p : List ℤ) (j : ℕ)
+    ensures { let s = stretch.now in (m : SweepOf) (p : List ℤ) (j : ℕ)
         → IsWidthSearch inner.now outer.now s.u s.n s.width m p scale high levels j
-        → (levels ≡ 0 → is_left_with outer.now scale s.u s.n (d_between m p j (j + 2 ^ levels) scale) ≡ true)
+        → (levels ≡ 0 → is_unexcluded_with outer.now scale s.u s.n (d_between m p j (j + 2 ^ levels) scale) ≡ true)
         → IsMarkBetween result inner.now outer.now m p j (j + 2 ^ levels) scale }
 {
     if levels == 0 {
@@ -95,7 +95,7 @@ pub fn mark_by_halves(
 }
 
 /// The slabs that are excluded once a mark is known. Where that is Possible the whole is that at least, and of what is left it is only
-/// asked whether some inner slab holds the point: the inner slabs are excluded on more.
+/// tested whether some inner slab holds the point: the inner slabs are excluded on more.
 #[inline]
 fn slabs_after<'a>(known: Mark, inner: &'a [Slab], outer: &'a [Slab]) -> &'a [Slab]
     ensures { result.now ≡ slabs_after known inner.now outer.now }

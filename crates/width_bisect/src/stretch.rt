@@ -6,7 +6,7 @@ ghost use Rattle.width_bisect.specs.Sizes.{IsWeighted4, height_limit, width_limi
 
 use crate::forms::WholeForms;
 use crate::halves::{first2, first4, last2, last4};
-use crate::length::product;
+use crate::words::product;
 
 /// The forms of a point between two samples of a move: u and n, in 64 bits, and the width. The forms of each half come from these.
 #[derive(Drop)]

@@ -1,12 +1,12 @@
 ghost use Rattle.std.specs.Prelude.{◌≡◌, ℕ, ℤ, List, ◌+◌, ◌^◌, ◌<◌, ◌≤◌, length, not, true};
-ghost use Rattle.space.specs.Motion.{Motion};
+ghost use Rattle.space.specs.Sweeps.{SweepOf};
 ghost use Rattle.bern_form.specs.Between.{d_between};
 ghost use Rattle.bern_form.specs.Forms.{all_positive, lifted, product22};
 ghost use Rattle.bern_form.specs.Marks.{some_holds};
 ghost use Rattle.bern_form.specs.Sizes.{scale_limit};
 ghost use Rattle.cutter_slabs.specs.Rising.{IsRising};
 ghost use Rattle.box_bisect.specs.Between.{IsMarkBetween};
-ghost use Rattle.box_bisect.specs.SlabTests.{TurnsAt, TurnsBetween, is_below_by, is_left_with};
+ghost use Rattle.box_bisect.specs.SlabTests.{TurnsAt, TurnsBetween, is_below_by, is_unexcluded_with};
 ghost use Rattle.width_bisect.specs.Early.{lows_of};
 ghost use Rattle.width_bisect.specs.Forms.{AreWidthForms};
 ghost use Rattle.width_bisect.specs.Searches.{is_not_below};
@@ -14,8 +14,8 @@ ghost use Rattle.width_bisect.specs.Searches.{is_not_below};
 use crate::lists::Lists;
 use crate::sample::Sample;
 use crate::search::{is_possible, is_removed, joined, mark_between, mark_by_halves};
+use crate::slab_search::walk_up;
 use crate::stretch::Stretch;
-use crate::turn::walk_up;
 use axis_cells::Mark;
 use bern_form::Slab;
 
@@ -31,10 +31,10 @@ pub fn reached_on_whole(whole: &Stretch, lists: &Lists, slabs: &[Slab], near: us
     walk_up(lists, slabs, last.reached(slabs, near))
 }
 
-/// The mark of the point whose forms these are on a stretch of 2^`levels` cells: both ends are tried, and then what is between them. Where
+/// The mark of the point whose forms these are on a stretch of 2^`levels` cells: both ends are tested, and then what is between them. Where
 /// that is one cell, some outer slab is not excluded on it. n raised to degree 4 is above 0, and the point is below the outer slab with
-/// the number `high` throughout, where there is one. What an outer slab holds at an end is Possible, and only asked whether an inner one
-/// holds it between: so is most that lies right ahead of a tool that goes on, and mostly all inner slabs are excluded there.
+/// number `high` throughout, where there is one. What an outer slab holds at an end is Possible, and it is only tested whether an inner one
+/// holds it between: so it is with most that lies right ahead of a tool that moves on, and mostly all inner slabs are excluded there.
 pub fn mark_of_whole(
     whole: &Stretch,
     inner: &[Slab],
@@ -50,10 +50,10 @@ pub fn mark_of_whole(
     requires lows { lows_of inner.now ≡ lows_of outer.now }
     requires positive { all_positive (lifted whole.now.n) ≡ true }
     requires high { TurnsBetween (is_not_below scale whole.now.u whole.now.n) outer.now 0 high }
-    ensures { (m : Motion) (p : List ℤ) (j : ℕ)
+    ensures { (m : SweepOf) (p : List ℤ) (j : ℕ)
         → AreWidthForms whole.now.u whole.now.n whole.now.width m p j (j + 2 ^ levels) scale
         → ((i : ℕ) → some_holds inner.now m p i scale ≡ true → some_holds outer.now m p i scale ≡ true)
-        → (levels ≡ 0 → is_left_with outer.now scale whole.now.u whole.now.n (d_between m p j (j + 2 ^ levels) scale) ≡ true)
+        → (levels ≡ 0 → is_unexcluded_with outer.now scale whole.now.u whole.now.n (d_between m p j (j + 2 ^ levels) scale) ≡ true)
         → IsMarkBetween result inner.now outer.now m p j (j + 2 ^ levels) scale }
 {
     let last = Sample::last_of(whole, scale).mark(inner, outer, high);

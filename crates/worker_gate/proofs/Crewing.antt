@@ -6,11 +6,11 @@ use Rattle.std.proofs.lemmas.Bool.Decides.{nat_tests}
 use Rattle.vf_io.specs.declared.answers.NoMemory.{NoMemory}
 use Rattle.ray_grid.specs.Strips.{strips_of}
 use Rattle.edit_plan.specs.declared.query.Query.{Query}
-use Rattle.job_facts.specs.declared.totals.Answer.{Answer}
-use Rattle.strip_turns.specs.declared.view.Card.{Card}
+use Rattle.job_counts.specs.declared.totals.Answer.{Answer}
+use Rattle.strip_turns.specs.declared.view.BoardStart.{BoardStart}
 use Rattle.strip_turns.specs.declared.view.View.{View}
 use Rattle.strip_turns.specs.declared.view.Met.{Met}
-use Rattle.strip_turns.specs.declared.view.Entry.{Entry}
+use Rattle.strip_turns.specs.declared.view.LogEntry.{LogEntry}
 use Rattle.strip_turns.specs.Log.{tally, drew}
 use Rattle.strip_turns.specs.Cards.{last}
 use Rattle.strip_turns.specs.Views.{with_log}
@@ -23,18 +23,18 @@ use Rattle.worker_gate.specs.Crew.{Answered, Crews, Merged, Stopped, with_crew, 
 use Rattle.worker_gate.proofs.Answering.{asks_logged}
 use Rattle.worker_gate.proofs.Draws.{asking_no_draw, rise_no_draw}
 
-crew_merged : (v : View) (n : ℕ) (es fs : List Entry) (ms ns : List Met) (out : List ℕ) → out ≡ [] → v.out ≡ []
+crew_merged : (v : View) (n : ℕ) (es fs : List LogEntry) (ms ns : List Met) (out : List ℕ) → out ≡ [] → v.out ≡ []
     → with_merged out fs ns (with_log es ms (with_splits n v)) ≡ with_crew n (es ++ fs) (ms ++ ns) v
 crew_merged v n es fs ms ns out gone alone =
     let e : out ≡ v.out = gone ∙ sym alone in
     λ i. record v { splits = v.splits + n; out = e i; met = append_assoc v.met ms ns i; log = append_assoc v.log es fs i }
 
-crew_logged : (v : View) (n : ℕ) (es fs : List Entry) (ms ns : List Met)
+crew_logged : (v : View) (n : ℕ) (es fs : List LogEntry) (ms ns : List Met)
     → with_log fs ns (with_crew n es ms v) ≡ with_crew n (es ++ fs) (ms ++ ns) v
 crew_logged v n es fs ms ns =
     λ i. record v { splits = v.splits + n; met = append_assoc v.met ms ns i; log = append_assoc v.log es fs i }
 
-after_merge : (n : ℕ) (es fs : List Entry) (ms ns : List Met) (v a u w : View) → a ≡ with_splits n v → u ≡ with_log es ms a
+after_merge : (n : ℕ) (es fs : List LogEntry) (ms ns : List Met) (v a u w : View) → a ≡ with_splits n v → u ≡ with_log es ms a
     → w ≡ with_merged w.out fs ns u → w.out ≡ [] → v.out ≡ [] → w ≡ with_crew n (es ++ fs) (ms ++ ns) v
 after_merge n es fs ms ns v a u w split log merge gone alone =
     merge ∙ ap (with_merged w.out fs ns) (log ∙ ap (with_log es ms) split) ∙ crew_merged v n es fs ms ns w.out gone alone
@@ -50,8 +50,8 @@ stopped_none n v w same = record {
       λ i. record v { splits = e i; met = sym (append-nil v.met) i; log = sym (append-nil v.log) i });
 }
 
--- n workers were hired and merged, and beside them something was asked
-pub stopped : (c : Card) (n : ℕ) (short : Bool) (v a u w : View) → a ≡ with_splits n v → Logged a u → Merged c n short u w → w.out ≡ []
+-- n workers were hired and merged, and meanwhile something was asked
+pub stopped : (c : BoardStart) (n : ℕ) (short : Bool) (v a u w : View) → a ≡ with_splits n v → Logged a u → Merged c n short u w → w.out ≡ []
     → v.out ≡ [] → Stopped n v w
 stopped c n short v a u w split log merge gone alone = record {
   splits = n;
@@ -62,13 +62,13 @@ stopped c n short v a u w split log merge gone alone = record {
 }
 
 -- the same, however the asking ended
-pub stopped_by : (c : Card) (qs : List Query) (r : Result (Vec Answer) NoMemory) (n m : ℕ) (short : Bool) (v a u w : View)
+pub stopped_by : (c : BoardStart) (qs : List Query) (r : Result (Vec Answer) NoMemory) (n m : ℕ) (short : Bool) (v a u w : View)
     → a ≡ with_splits n v → AsksAll c qs r a u → Merged c m short u w → m ≡ n → w.out ≡ [] → v.out ≡ [] → Stopped n v w
 stopped_by c qs r n m short v a u w split asks merge all gone alone =
     stopped c n short v a u w split (asks_logged c qs r a u asks) (subst (λ k. Merged c k short u w) all merge) gone alone
 
 -- the finishing found no memory
-pub stopped_late : (c : Card) (n version first count : ℕ) (v w x : View) → Stopped n v w → SomeRaised c version first count w x
+pub stopped_late : (c : BoardStart) (n version first count : ℕ) (v w x : View) → Stopped n v w → SomeRaised c version first count w x
     → Stopped n v x
 stopped_late c n version first count v w x h late = record {
   splits = h.splits;
@@ -81,15 +81,15 @@ stopped_late c n version first count v w x h late = record {
 below_all : (n x t : ℕ) → 0 < once_below n t → x ≤ t → once_below n x ≡ 1
 below_all n x t lt le = grind (arith, nat_tests)
 
--- a ticket that was drawn stood in the log before, or a worker drew it
-drawn_by : (t n : ℕ) (old es fs gs : List Entry) → tally (drew t) (old ++ (es ++ fs ++ gs)) ≡ once_below n t
+-- a ticket that was drawn was in the log before, or a worker drew it
+drawn_by : (t n : ℕ) (old es fs gs : List LogEntry) → tally (drew t) (old ++ (es ++ fs ++ gs)) ≡ once_below n t
     → tally (drew t) es ≡ 0 → tally (drew t) gs ≡ 0 → tally (drew t) old + tally (drew t) fs ≡ once_below n t
 drawn_by t n old es fs gs all asked ended =
     let a = tally_both (drew t) old (es ++ fs ++ gs) in
     let b = tally_both (drew t) (es ++ fs) gs in
     let d = tally_both (drew t) es fs in omega arith
 
-pub crewed : (c : Card) (qs : List Query) (xs : List Answer) (n : ℕ) (v a u w x : View) → 0 < n → IsAlone v → a ≡ with_splits n v
+pub crewed : (c : BoardStart) (qs : List Query) (xs : List Answer) (n : ℕ) (v a u w x : View) → 0 < n → IsAlone v → a ≡ with_splits n v
     → AskedAll c qs xs a u → Merged c n false u w → w.out ≡ [] → Finished c w x → Answered c qs n xs v x
 crewed c qs xs n v a u w x any is split asked merge gone finish =
     let mid = after_merge n asked.log merge.log asked.met merge.met v a u w split asked.view merge.view gone is.out in
@@ -125,8 +125,8 @@ crewed c qs xs n v a u w x any is split asked merge gone finish =
       };
     }
 
--- the same, with what tells that the answers were given and that no worker stopped
-pub crewed_by : (c : Card) (qs : List Query) (r : Result (Vec Answer) NoMemory) (xs : Vec Answer) (n m : ℕ) (short : Bool) (v a u w x : View)
+-- the same, with what says that the answers were given and that no worker stopped
+pub crewed_by : (c : BoardStart) (qs : List Query) (r : Result (Vec Answer) NoMemory) (xs : Vec Answer) (n m : ℕ) (short : Bool) (v a u w x : View)
     → 0 < n → IsAlone v → a ≡ with_splits n v → AsksAll c qs r a u → r ≡ Ok xs → Merged c m short u w → m ≡ n → short ≡ false
     → w.out ≡ [] → Finished c w x → Answered c qs n xs.items v x
 crewed_by c qs r xs n m short v a u w x any is split asks ok merge all long gone finish =
@@ -136,7 +136,7 @@ crewed_by c qs r xs n m short v a u w x any is split asks ok merge all long gone
     gone finish
 
 -- however a crew ends, no other pass is out
-pub crews_alone : (c : Card) (qs : List Query) (n : ℕ) (r : Result (Vec Answer) NoMemory) (v w : View) → Crews c qs n r v w → IsAlone v
+pub crews_alone : (c : BoardStart) (qs : List Query) (n : ℕ) (r : Result (Vec Answer) NoMemory) (v w : View) → Crews c qs n r v w → IsAlone v
     → IsAlone w
 crews_alone c qs n (Ok xs) v w h is = record {
   first = ap (λ (z : View). z.first) h.crew.view ∙ is.first;

@@ -2,10 +2,10 @@
 use Rattle.std.proofs.Common.{◌≡◌, ℕ, ◌+◌, List, [], ◌++◌, Bool, false, arith, sym, ap, ◌∙◌}
 use Rattle.std.proofs.lemmas.List.{append-nil, append_assoc}
 use Rattle.strip_turns.specs.declared.board.Board.{Board}
-use Rattle.strip_turns.specs.declared.view.Card.{Card}
+use Rattle.strip_turns.specs.declared.view.BoardStart.{BoardStart}
 use Rattle.strip_turns.specs.declared.view.View.{View}
 use Rattle.strip_turns.specs.declared.view.Met.{Met}
-use Rattle.strip_turns.specs.declared.view.Entry.{Entry}
+use Rattle.strip_turns.specs.declared.view.LogEntry.{LogEntry}
 use Rattle.strip_turns.specs.Log.{drew}
 use Rattle.strip_turns.specs.Views.{with_pass, without}
 use Rattle.strip_turns.specs.Passes.{card}
@@ -15,7 +15,7 @@ use Rattle.worker_gate.specs.Work.{nothing, both}
 use Rattle.worker_gate.specs.Workers.{IsDone}
 use Rattle.worker_gate.specs.Crew.{Merged, with_merged}
 
-pub merged_none : (c : Card) (v : View) → Merged c 0 false v v
+pub merged_none : (c : BoardStart) (v : View) → Merged c 0 false v v
 merged_none c v = record {
   log = [];
   met = [];
@@ -24,7 +24,7 @@ merged_none c v = record {
   past = λ s lt. absurd (omega arith);
 }
 
-merged_both : (v : View) (out : List ℕ) (es : List Entry) (ms : List Met) (w : View)
+merged_both : (v : View) (out : List ℕ) (es : List LogEntry) (ms : List Met) (w : View)
     → with_pass (with_merged out es ms v) w ≡ with_merged (without w.number out) (es ++ w.log) (ms ++ w.met) v
 merged_both v out es ms w = λ i. record v {
   out = without w.number out;

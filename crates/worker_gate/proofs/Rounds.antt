@@ -7,7 +7,7 @@ use Rattle.std.proofs.lemmas.Nat.{mod-mul-add}
 multiple : (f n : ℕ) → f % n ≡ 0 → f ≡ f / n * n
 multiple f n e = let whole = div-add-mod' f n in omega (arith, whole, e)
 
--- how far behind the first ticket of its round a ticket is
+-- how far after the first ticket of its round a ticket is
 pub place_in : (t f n : ℕ) → f % n ≡ 0 → f ≤ t → t - f < n → t - f ≡ t % n
 place_in t f n e from within =
     let whole = multiple f n e in

@@ -4,10 +4,10 @@ use Rattle.std.proofs.lemmas.List.{append_assoc}
 use Rattle.ray_grid.specs.Strips.{strips_of}
 use Rattle.strip_turns.specs.declared.board.Board.{Board}
 use Rattle.strip_turns.specs.declared.board.Pass.{Pass}
-use Rattle.strip_turns.specs.declared.view.Card.{Card}
+use Rattle.strip_turns.specs.declared.view.BoardStart.{BoardStart}
 use Rattle.strip_turns.specs.declared.view.View.{View}
-use Rattle.strip_turns.specs.declared.view.Entry.{Entry}
-use Rattle.strip_turns.specs.declared.view.Entry.TheVariants.{Draw, Miss, Trip}
+use Rattle.strip_turns.specs.declared.view.LogEntry.{LogEntry}
+use Rattle.strip_turns.specs.declared.view.LogEntry.TheVariants.{Draw, Miss, Trip}
 use Rattle.strip_turns.specs.declared.turn.Turned.{Turned}
 use Rattle.strip_turns.specs.declared.turn.Turned.TheVariants.{Moved, Busy, NoMemory}
 use Rattle.strip_turns.specs.Log.{tally, drew}
@@ -16,14 +16,14 @@ use Rattle.strip_turns.specs.Passes.{card, IsPass}
 use Rattle.strip_turns.specs.Turns.{Turns}
 use Rattle.strip_turns.proofs.Logs.{tally_more, draw_here}
 use Rattle.worker_gate.specs.declared.worker.Worker.{Worker}
-use Rattle.worker_gate.specs.Work.{turns_due, IsTurn, IsWork, nothing, past, turn, both, is_short}
+use Rattle.worker_gate.specs.Work.{turns_due, IsTicketTurn, IsWork, nothing, past, turn, both, is_short}
 use Rattle.worker_gate.specs.Workers.{IsFresh, IsAllWork, IsDone, IsWorking, OneTurn}
 
-turned_once : (c : Card) (es : List Entry) (t : ℕ) (e : Entry) → IsWork c es → t < turns_due c
-    → IsTurn c (t % length (strips_of c.plan.grid)) e → IsWork c (es ++ Draw t ∷ e ∷ [])
+turned_once : (c : BoardStart) (es : List LogEntry) (t : ℕ) (e : LogEntry) → IsWork c es → t < turns_due c
+    → IsTicketTurn c (t % length (strips_of c.plan.grid)) e → IsWork c (es ++ Draw t ∷ e ∷ [])
 turned_once c es t e w lt is = both es (Draw t ∷ e ∷ []) w (turn t e [] lt is nothing)
 
-went_past : (c : Card) (es : List Entry) (t : ℕ) → IsWork c es → turns_due c ≤ t → IsAllWork c (es ++ Draw t ∷ [])
+went_past : (c : BoardStart) (es : List LogEntry) (t : ℕ) → IsWork c es → turns_due c ≤ t → IsAllWork c (es ++ Draw t ∷ [])
 went_past c es t w le = record {
   work = both es (Draw t ∷ []) w (past t [] le nothing);
   past = (t, le, (let a = tally_more (drew t) es (Draw t) in let b = draw_here t in omega arith));
@@ -51,7 +51,7 @@ working_first b t w p h pass drew =
 true_false : true ≡ false → ⊥
 true_false e = cc
 
-one_turn : (c : Card) (k : ℕ) (t : Turned) (v w : View) → Turns c k t v w → is_short t ≡ false → OneTurn c k v w
+one_turn : (c : BoardStart) (k : ℕ) (t : Turned) (v w : View) → Turns c k t v w → is_short t ≡ false → OneTurn c k v w
 one_turn c k (Moved from to) v w h e = record {
   entry = Trip k from to;
   is = (refl, h.1);
@@ -70,18 +70,18 @@ one_turn c k Busy v w h e = record {
 }
 one_turn c k (NoMemory from to) v w h e = absurd (true_false e)
 
--- a turn that found memory, by what tells so
+-- a turn that found memory, by what says so
 pub turned : (b : Board) (k : ℕ) (short : Bool) (t : Turned) (v w : View) → Turns (card b) k t v w → short ≡ is_short t → short ≡ false
     → OneTurn (card b) k v w
 turned b k short t v w told is long = one_turn (card b) k t v w told (sym is ∙ long)
 
 -- a turn leaves the pass its number
-pub turn_number : (c : Card) (k : ℕ) (t : Turned) (v w : View) → Turns c k t v w → w.number ≡ v.number
+pub turn_number : (c : BoardStart) (k : ℕ) (t : Turned) (v w : View) → Turns c k t v w → w.number ≡ v.number
 turn_number c k (Moved from to) v w h = ap (λ z. z.number) h.0.view
 turn_number c k Busy v w h = ap (λ z. z.number) h.0
 turn_number c k (NoMemory from to) v w h = ap (λ z. z.number) h.0.view
 
--- a ticket that is drawn behind a turn is above the one before
+-- a ticket that is drawn after a turn is above the one before
 pub drawn_above : (b : Board) (n t k next : ℕ) (w : Worker) (v : View) → IsWorking b n t w → OneTurn (card b) k w.pass.seat.me.0 v
     → ((x : ℕ) → 0 < tally (drew x) v.log → x < next) → t < next
 drawn_above b n t k next w v h one above =
@@ -90,7 +90,7 @@ drawn_above b n t k next w v h one above =
     (let a = tally_more (drew t) (h.before ++ Draw t ∷ []) one.entry in
     let d = tally_more (drew t) h.before (Draw t) in
     let e = draw_here t in omega arith) in
-    above t (subst (λ (l : List Entry). 0 < tally (drew t) l) (sym log) here)
+    above t (subst (λ (l : List LogEntry). 0 < tally (drew t) l) (sym log) here)
 
 -- a turn, and the next draw
 pub working_more : (b : Board) (n t next : ℕ) (w : Worker) (v : View) (p : Pass) → IsWorking b n t w → t < turns_due (card b)

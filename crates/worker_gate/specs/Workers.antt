@@ -1,16 +1,16 @@
--- A worker ahead of its work, during it and after it.
+-- A worker before its work, during it and after it.
 use Rattle.std.specs.Prelude.{◌≡◌, ℕ, ◌+◌, ◌<◌, ◌≤◌, List, [], ◌∷◌, ◌++◌, Some, false, length, slice_index_or}
 use Rattle.std.specs.List.{All}
 use Rattle.strip_turns.specs.declared.board.Board.{Board}
-use Rattle.strip_turns.specs.declared.view.Card.{Card}
+use Rattle.strip_turns.specs.declared.view.BoardStart.{BoardStart}
 use Rattle.strip_turns.specs.declared.view.View.{View}
-use Rattle.strip_turns.specs.declared.view.Entry.{Entry}
-use Rattle.strip_turns.specs.declared.view.Entry.TheVariants.{Draw}
+use Rattle.strip_turns.specs.declared.view.LogEntry.{LogEntry}
+use Rattle.strip_turns.specs.declared.view.LogEntry.TheVariants.{Draw}
 use Rattle.strip_turns.specs.Log.{tally, drew}
 use Rattle.strip_turns.specs.Views.{fresh}
 use Rattle.strip_turns.specs.Passes.{card, IsPass}
 use Rattle.worker_gate.specs.declared.worker.Worker.{Worker}
-use Rattle.worker_gate.specs.Work.{turns_due, IsWork, IsTurn}
+use Rattle.worker_gate.specs.Work.{turns_due, IsWork, IsTicketTurn}
 
 -- a worker whose pass did nothing yet
 pub record IsFresh (b : Board) (w : Worker) : Type 0 where
@@ -19,7 +19,7 @@ pub record IsFresh (b : Board) (w : Worker) : Type 0 where
   pub short : w.short ≡ false
 
 -- a log of work with a ticket past the turns
-pub record IsAllWork (c : Card) (log : List Entry) : Type 0 where
+pub record IsAllWork (c : BoardStart) (log : List LogEntry) : Type 0 where
   pub work : IsWork c log
   pub past : (t : ℕ) × (turns_due c ≤ t) × (0 < tally (drew t) log)
 
@@ -40,7 +40,7 @@ pub record IsWorking (b : Board) (n t : ℕ) (w : Worker) : Type 0 where
   pub pass : IsPass b w.pass
   pub number : w.pass.seat.me.0.number ≡ n
   pub short : w.short ≡ false
-  pub before : List Entry
+  pub before : List LogEntry
   pub work : IsWork (card b) before
   pub log : w.pass.seat.me.0.log ≡ before ++ Draw t ∷ []
   pub drawn : w.pass.seat.me.0.drawn ≤ t + 1
@@ -57,9 +57,9 @@ pub record HaveWorked (b : Board) (old new : List Worker) : Type 0 where
   pub numbered : (s : ℕ) → AreNumbered s old → AreNumbered s new
 
 -- what a turn of the strip k that found memory does to a pass
-pub record OneTurn (c : Card) (k : ℕ) (v w : View) : Type 0 where
-  pub entry : Entry
-  pub is : IsTurn c k entry
+pub record OneTurn (c : BoardStart) (k : ℕ) (v w : View) : Type 0 where
+  pub entry : LogEntry
+  pub is : IsTicketTurn c k entry
   pub log : w.log ≡ v.log ++ entry ∷ []
   pub number : w.number ≡ v.number
   pub drawn : w.drawn ≡ v.drawn

@@ -4,7 +4,7 @@ ghost use Rattle.strip_turns.specs.Passes.{card, IsPass};
 ghost use Rattle.worker_gate.specs.Asking.{AsksAll};
 
 use edit_plan::Query;
-use job_facts::Answer;
+use job_counts::Answer;
 use std::alloc::Global;
 use std::sync::Wait;
 use strip_turns::{Board, Pass};

@@ -1,4 +1,4 @@
-/// What each worker passes ahead of a turn. It tells nothing, and no contract sees what it keeps.
+/// What each worker passes before a turn. It returns nothing, and no contract sees what it keeps.
 pub trait Gate {
     /// Called with the ticket that was drawn and the strip that it is for.
     fn enter(&self, strip: u32, ticket: u64);

@@ -1,4 +1,4 @@
-//! Workers that turn the strips of a board by tickets, while queries are answered beside them.
+//! Workers that turn the strips of a board by tickets, while queries are answered at the same time.
 #![tactic(auto)]
 
 mod asker;

@@ -1,7 +1,7 @@
 ghost use Rattle.std.specs.Prelude.{◌≡◌, ◌%◌, ◌<◌};
 
-/// Rounds of tickets over strips: in each, one ticket for each strip in order. It knows the round of the ticket that it was asked about
-/// last.
+/// Rounds of tickets over strips: in each, one ticket for each strip in order. It knows the round of the last ticket that it was
+/// called with.
 #[derive(Drop)]
 pub(crate) struct Round {
     strips: u32,
@@ -11,7 +11,7 @@ pub(crate) struct Round {
 }
 
 impl Round {
-    /// The first round of so many strips.
+    /// The first round of `strips` strips.
     pub(crate) fn first_of(strips: u32) -> Round
         ensures { result.strips ≡ strips }
     {

@@ -9,16 +9,16 @@ use crate::gate::Gate;
 use crate::threads::ask_beside;
 use crate::worker::Worker;
 use edit_plan::Query;
-use job_facts::Answer;
+use job_counts::Answer;
 use std::alloc::Global;
 use std::sync::Wait;
 use std::thread::Threads;
 use strip_turns::{Board, Pass};
 use vf_io::NoMemory;
 
-/// Answers the queries in order while so many workers turn the strips, and then takes each strip to the last version.
+/// Answers the queries in order while `workers` workers turn the strips, and then takes each strip to the last version.
 ///
-/// After want of memory all workers were joined and merged: it may be called again while the pass can still be split so often, and
+/// When out of memory all workers were joined and merged: it may be called again while the pass can still be split so often, and
 /// the board can be closed.
 pub fn crew<R: Threads + Wait + Sync, G: Gate + Sync>(
     rt: &R,
@@ -54,7 +54,7 @@ pub fn crew<R: Threads + Wait + Sync, G: Gate + Sync>(
     Ok(answers)
 }
 
-/// So many workers, each with a pass of its own.
+/// `workers` workers, each with a pass of its own.
 fn hire(
     alloc: Global,
     board: &Board,
@@ -80,7 +80,7 @@ fn hire(
     Ok(team)
 }
 
-/// The first pass takes in what the workers did. Tells whether one of them found no memory.
+/// The first pass takes in what the workers did. Returns whether one of them found no memory.
 fn merge_all(board: &Board, pass: &mut Pass, mut team: Vec<Worker>) -> bool
     requires pass { IsPass board.now pass.old }
     requires first { pass.old.seat.me.0.first ≡ true }
@@ -102,7 +102,7 @@ fn merge_all(board: &Board, pass: &mut Pass, mut team: Vec<Worker>) -> bool
     short
 }
 
-/// Whether one of the two is so. The choice stands in a function of its own, so that what it says is known behind it.
+/// Whether one of the two is so. The choice is in a function of its own, so that what it says is known after it.
 fn any_short(short: bool, failed: bool) -> bool
     ensures { result ≡ false → (short ≡ false) × (failed ≡ false) }
 {

@@ -9,7 +9,7 @@ use crate::asker::ask_all;
 use crate::gate::Gate;
 use crate::worker::{Worker, work};
 use edit_plan::Query;
-use job_facts::Answer;
+use job_counts::Answer;
 use std::alloc::Global;
 use std::sync::Wait;
 use std::thread;

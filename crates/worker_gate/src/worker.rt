@@ -10,7 +10,7 @@ use strip_turns::{Board, Pass, Turned};
 /// The edits that a turn does at the most.
 const EDITS: u32 = 8;
 
-/// A worker's pass, and whether the worker stopped for want of memory.
+/// A worker's pass, and whether the worker ran out of memory.
 #[derive(Drop)]
 pub struct Worker {
     pub pass: Pass,
@@ -46,7 +46,7 @@ fn turns_due(board: &Board) -> u64
 {
     let plan = board.plan();
     let grid = plan.grid();
-    // A grid has few strips, which is known where a field of it is seen.
+    // Reading a field of the grid gives the prover its invariant: it has few strips.
     let _valid = &grid.origin;
     u64::from(grid.strips()) * u64::from(plan.edits().div_ceil(EDITS))
 }

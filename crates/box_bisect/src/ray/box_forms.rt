@@ -2,7 +2,8 @@ ghost use Rattle.std.specs.Prelude.{◌≡◌, ◌+◌, ◌-◌, ◌*◌, ◌^�
 ghost use Rattle.bern_form.specs.Cells.{dot_on_cell};
 ghost use Rattle.bern_form.specs.Sizes.{IsBounded2, offset_limit, scale_limit};
 ghost use Rattle.ray_grid.specs.Lattice.{IsRay, point_of, points_of};
-ghost use Rattle.box_bisect.specs.RayBoxes.{IsBox, product_between};
+ghost use Rattle.box_bisect.specs.RayBoxes.{IsBox};
+ghost use Rattle.ray_boxes.specs.Boxes.{product_between};
 ghost use Rattle.box_bisect.specs.Stretches.{AreFormsBetween};
 
 use crate::ray::ray_box::RayBox;
@@ -35,23 +36,24 @@ fn stretch_between(start: &Pose, end: &Pose) -> Stretch
 }
 
 impl BoxForms {
-    pub fn of(grid: &Grid, ray: &Ray, sweep: &Sweep, scale: u32, part: RayBox) -> BoxForms
+    /// Of the first and the last point of a box on a ray, between the samples at both ends of the box; the move has `scale` cells.
+    pub fn of(grid: &Grid, ray: &Ray, sweep: &Sweep, scale: u32, cell_box: RayBox) -> BoxForms
         requires ray { IsRay grid.now ray.now }
         requires scale { scale ≤ scale_limit }
-        requires part { IsBox part.levels part.first part.from part.to scale (points_of grid.now ray.now.family) }
+        requires cell_box { IsBox cell_box.levels cell_box.first cell_box.from cell_box.to scale (points_of grid.now ray.now.family) }
         ensures first { AreFormsBetween result.first.u.c result.first.n.c result.first.d.c
-            sweep.now (point_of grid.now ray.now part.from) part.first (part.first + 2 ^ part.levels) scale }
+            sweep.now (point_of grid.now ray.now cell_box.from) cell_box.first (cell_box.first + 2 ^ cell_box.levels) scale }
         ensures last { AreFormsBetween result.last.u.c result.last.n.c result.last.d.c
-            sweep.now (point_of grid.now ray.now (part.to - 1)) part.first (part.first + 2 ^ part.levels) scale }
+            sweep.now (point_of grid.now ray.now (cell_box.to - 1)) cell_box.first (cell_box.first + 2 ^ cell_box.levels) scale }
         ensures product { let point = point_of grid.now ray.now in result.product.c
-            ≡ product_between sweep.now (point part.from) (point (part.to - 1)) part.first (part.first + 2 ^ part.levels) scale }
+            ≡ product_between sweep.now (point cell_box.from) (point (cell_box.to - 1)) cell_box.first (cell_box.first + 2 ^ cell_box.levels) scale }
     {
-        let k = part.first + cells_of(part.levels);
-        let p = grid.point(ray, part.from);
-        let p_start = Pose::at_sample(sweep, &p, part.first, scale);
+        let k = cell_box.first + cells_of(cell_box.levels);
+        let p = grid.point(ray, cell_box.from);
+        let p_start = Pose::at_sample(sweep, &p, cell_box.first, scale);
         let p_end = Pose::at_sample(sweep, &p, k, scale);
-        let q = grid.point(ray, part.to - 1);
-        let q_start = Pose::at_sample(sweep, &q, part.first, scale);
+        let q = grid.point(ray, cell_box.to - 1);
+        let q_start = Pose::at_sample(sweep, &q, cell_box.first, scale);
         let q_end = Pose::at_sample(sweep, &q, k, scale);
         BoxForms {
             first: stretch_between(&p_start, &p_end),

@@ -3,7 +3,7 @@ ghost use Rattle.bern_form.specs.Forms.{lifted, product22};
 ghost use Rattle.bern_form.specs.Cells.{scaled_square};
 ghost use Rattle.bern_form.specs.Grids.{columns21, columns42, rows_negative, rows_positive};
 ghost use Rattle.bern_form.specs.Sizes.{IsBounded2, IsBounded4, axis_limit, length_limit, offset_limit, scale_limit};
-ghost use Rattle.box_bisect.specs.RayBoxes.{grid_less, height_column, is_excluded_by_grids, is_left_by_grids, width_column};
+ghost use Rattle.ray_boxes.specs.Boxes.{grid_less, height_column, is_excluded_by_grids, is_unexcluded_by_grids, width_column};
 ghost use Rattle.box_bisect.specs.RaySizes.{column_limit};
 
 use crate::ray::box_forms::BoxForms;
@@ -105,7 +105,7 @@ impl Columns {
     }
 }
 
-/// So many times d n - u v.
+/// `times` times d n - u v.
 #[inline]
 fn width_between(d: &Form2, n: &Form2, u: &Form2, v: &Form2, times: i128) -> Form4
     requires d { IsBounded2 (3 * (offset_limit * offset_limit)) d.now.c }
@@ -133,6 +133,7 @@ pub struct BoxLimits {
 }
 
 impl BoxLimits {
+    /// Of the forms of a box at this scale, at most 1024.
     pub fn of_forms(forms: &BoxForms, scale: u32) -> BoxLimits
         requires { scale ≤ scale_limit }
         ensures scale { result.scale ≡ scale }
@@ -212,10 +213,10 @@ impl BoxLimits {
             .all_positive()
     }
 
-    /// Whether some of the slabs is not excluded; each slab that is tried is a step.
+    /// Whether some of the slabs is not excluded; each slab that is tested is a step.
     pub fn leaves_some<L: Ledger>(&self, slabs: &[Slab], steps: &mut Steps<L>) -> bool
         ensures left { let h = self.now.height in let w = self.now.width in result
-            ≡ is_left_by_grids self.now.scale self.now.is_behind self.now.raised.c
+            ≡ is_unexcluded_by_grids self.now.scale self.now.is_behind self.now.raised.c
             h.first.c h.middle.c h.last.c w.first.c w.middle.c w.last.c slabs.now }
         ensures cost { steps.new ≤ steps.old + length slabs.now }
     {

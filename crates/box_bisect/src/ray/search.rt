@@ -22,17 +22,17 @@ pub fn is_undecided<L: Ledger>(
     sweep: &Sweep,
     slabs: &[Slab],
     scale: u32,
-    part: RayBox,
+    cell_box: RayBox,
     steps: &mut Steps<L>,
 ) -> bool
     requires ray { IsRay grid.now ray.now }
     requires scale { scale ≤ scale_limit }
-    requires part { IsBox part.levels part.first part.from part.to scale (points_of grid.now ray.now.family) }
+    requires cell_box { IsBox cell_box.levels cell_box.first cell_box.from cell_box.to scale (points_of grid.now ray.now.family) }
     ensures left { result ≡ is_undecided slabs.now sweep.now (point_of grid.now ray.now) scale
-        part.levels part.first part.from part.to }
+        cell_box.levels cell_box.first cell_box.from cell_box.to }
     ensures cost { steps.new ≤ steps.old + length slabs.now }
 {
-    let forms = BoxForms::of(grid, ray, sweep, scale, part);
+    let forms = BoxForms::of(grid, ray, sweep, scale, cell_box);
     BoxLimits::of_forms(&forms, scale).leaves_some(slabs, steps)
 }
 
@@ -60,18 +60,18 @@ fn mark_on_cell<L: Ledger>(
     sweep: &Sweep,
     inner: &[Slab],
     scale: u32,
-    part: RayBox,
+    cell_box: RayBox,
     steps: &mut Steps<L>,
 ) -> Mark
     requires ray { IsRay grid.now ray.now }
     requires scale { scale ≤ scale_limit }
-    requires part { IsBox part.levels part.first part.from part.to scale (points_of grid.now ray.now.family) }
+    requires cell_box { IsBox cell_box.levels cell_box.first cell_box.from cell_box.to scale (points_of grid.now ray.now.family) }
     requires rising { IsRising inner.now }
-    ensures mark { result ≡ mark_by_samples inner.now sweep.now (point_of grid.now ray.now part.from)
-        part.first (part.first + 2 ^ part.levels) scale }
+    ensures mark { result ≡ mark_by_samples inner.now sweep.now (point_of grid.now ray.now cell_box.from)
+        cell_box.first (cell_box.first + 2 ^ cell_box.levels) scale }
     ensures cost { steps.new ≤ steps.old + 2 * length inner.now }
 {
-    let forms = BoxForms::of(grid, ray, sweep, scale, part);
+    let forms = BoxForms::of(grid, ray, sweep, scale, cell_box);
     if is_held_last(&forms.first, inner, scale, steps) {
         return Mark::Removed;
     }
@@ -91,27 +91,29 @@ fn mark_box<L: Ledger>(
     inner: &[Slab],
     outer: &[Slab],
     scale: u32,
-    part: RayBox,
+    cell_box: RayBox,
     marks: &mut [Mark],
     steps: &mut Steps<L>,
 )
     requires ray { IsRay grid.now ray.now }
     requires scale { scale ≤ scale_limit }
-    requires part { IsBox part.levels part.first part.from part.to scale (points_of grid.now ray.now.family) }
+    requires cell_box { IsBox cell_box.levels cell_box.first cell_box.from cell_box.to scale (points_of grid.now ray.now.family) }
     requires marks { length marks.old ≡ points_of grid.now ray.now.family }
     requires as_many { length inner.now ≤ length outer.now }
     requires inner { IsRising inner.now }
     requires enclosed { IsEnclosed inner.now outer.now sweep.now scale }
     ensures raised { AreRaised inner.now outer.now sweep.now (point_of grid.now ray.now) scale
-        part.first (part.first + 2 ^ part.levels) part.from part.to marks.old marks.new }
+        cell_box.first (cell_box.first + 2 ^ cell_box.levels) cell_box.from cell_box.to marks.old marks.new }
     ensures cost { let weigh = weight (is_undecided outer.now sweep.now (point_of grid.now ray.now) scale) in
-        (halvings : ℕ) → part.levels + (part.to - part.from) ≤ halvings
-        → steps.new ≤ steps.old + length outer.now * (1 + 4 * weigh halvings part.levels part.first part.from part.to) }
+        (halvings : ℕ) → cell_box.levels + (cell_box.to - cell_box.from) ≤ halvings
+        → steps.new ≤ steps.old + length outer.now * (1 + 4 * weigh halvings cell_box.levels cell_box.first cell_box.from cell_box.to) }
 {
-    if !is_undecided(grid, ray, sweep, outer, scale, part, steps) {
+    if !is_undecided(grid, ray, sweep, outer, scale, cell_box, steps) {
         return;
     }
-    mark_children(grid, ray, sweep, inner, outer, scale, part, marks, steps);
+    mark_children(
+        grid, ray, sweep, inner, outer, scale, cell_box, marks, steps,
+    );
 }
 
 /// The same for a box that is undecided, by its children, or where it has none by its two samples.
@@ -123,63 +125,63 @@ pub fn mark_children<L: Ledger>(
     inner: &[Slab],
     outer: &[Slab],
     scale: u32,
-    part: RayBox,
+    cell_box: RayBox,
     marks: &mut [Mark],
     steps: &mut Steps<L>,
 )
     requires ray { IsRay grid.now ray.now }
     requires scale { scale ≤ scale_limit }
-    requires part { IsBox part.levels part.first part.from part.to scale (points_of grid.now ray.now.family) }
+    requires cell_box { IsBox cell_box.levels cell_box.first cell_box.from cell_box.to scale (points_of grid.now ray.now.family) }
     requires left { is_undecided outer.now sweep.now (point_of grid.now ray.now) scale
-        part.levels part.first part.from part.to ≡ true }
+        cell_box.levels cell_box.first cell_box.from cell_box.to ≡ true }
     requires marks { length marks.old ≡ points_of grid.now ray.now.family }
     requires as_many { length inner.now ≤ length outer.now }
     requires inner { IsRising inner.now }
     requires enclosed { IsEnclosed inner.now outer.now sweep.now scale }
     ensures raised { AreRaised inner.now outer.now sweep.now (point_of grid.now ray.now) scale
-        part.first (part.first + 2 ^ part.levels) part.from part.to marks.old marks.new }
+        cell_box.first (cell_box.first + 2 ^ cell_box.levels) cell_box.from cell_box.to marks.old marks.new }
     ensures cost { let weigh = weight (is_undecided outer.now sweep.now (point_of grid.now ray.now) scale) in
-        (halvings : ℕ) → part.levels + (part.to - part.from) ≤ halvings + 1
+        (halvings : ℕ) → cell_box.levels + (cell_box.to - cell_box.from) ≤ halvings + 1
         → steps.new ≤ steps.old
-        + length outer.now * (4 * (1 + over_children (weigh halvings) part.levels part.first part.from part.to)) }
+        + length outer.now * (4 * (1 + over_children (weigh halvings) cell_box.levels cell_box.first cell_box.from cell_box.to)) }
 {
-    if part.levels == 0 {
-        if part.to - part.from < 2 {
-            let mark = mark_on_cell(grid, ray, sweep, inner, scale, part, steps);
-            let index = part.from as usize;
+    if cell_box.levels == 0 {
+        if cell_box.to - cell_box.from < 2 {
+            let mark = mark_on_cell(grid, ray, sweep, inner, scale, cell_box, steps);
+            let index = cell_box.from as usize;
             marks[index] = greater(marks[index], mark);
             return;
         }
-        let middle = part.from + (part.to - part.from) / 2;
+        let middle = cell_box.from + (cell_box.to - cell_box.from) / 2;
         let lower = RayBox {
             levels: 0,
-            first: part.first,
-            from: part.from,
+            first: cell_box.first,
+            from: cell_box.from,
             to: middle,
         };
         mark_box(grid, ray, sweep, inner, outer, scale, lower, marks, steps);
         let upper = RayBox {
             levels: 0,
-            first: part.first,
+            first: cell_box.first,
             from: middle,
-            to: part.to,
+            to: cell_box.to,
         };
         mark_box(grid, ray, sweep, inner, outer, scale, upper, marks, steps);
         return;
     }
-    let levels = part.levels - 1;
+    let levels = cell_box.levels - 1;
     let early = RayBox {
         levels,
-        first: part.first,
-        from: part.from,
-        to: part.to,
+        first: cell_box.first,
+        from: cell_box.from,
+        to: cell_box.to,
     };
     mark_along(grid, ray, sweep, inner, outer, scale, early, marks, steps);
     let late = RayBox {
         levels,
-        first: part.first + cells_of(levels),
-        from: part.from,
-        to: part.to,
+        first: cell_box.first + cells_of(levels),
+        from: cell_box.from,
+        to: cell_box.to,
     };
     mark_along(grid, ray, sweep, inner, outer, scale, late, marks, steps);
 }
@@ -193,40 +195,42 @@ fn mark_along<L: Ledger>(
     inner: &[Slab],
     outer: &[Slab],
     scale: u32,
-    part: RayBox,
+    cell_box: RayBox,
     marks: &mut [Mark],
     steps: &mut Steps<L>,
 )
     requires ray { IsRay grid.now ray.now }
     requires scale { scale ≤ scale_limit }
-    requires part { IsBox part.levels part.first part.from part.to scale (points_of grid.now ray.now.family) }
+    requires cell_box { IsBox cell_box.levels cell_box.first cell_box.from cell_box.to scale (points_of grid.now ray.now.family) }
     requires marks { length marks.old ≡ points_of grid.now ray.now.family }
     requires as_many { length inner.now ≤ length outer.now }
     requires inner { IsRising inner.now }
     requires enclosed { IsEnclosed inner.now outer.now sweep.now scale }
     ensures raised { AreRaised inner.now outer.now sweep.now (point_of grid.now ray.now) scale
-        part.first (part.first + 2 ^ part.levels) part.from part.to marks.old marks.new }
+        cell_box.first (cell_box.first + 2 ^ cell_box.levels) cell_box.from cell_box.to marks.old marks.new }
     ensures cost { let weigh = weight (is_undecided outer.now sweep.now (point_of grid.now ray.now) scale) in
-        (halvings : ℕ) → part.levels + (part.to - part.from) ≤ halvings
-        → steps.new ≤ steps.old + length outer.now * (2 + 4 * along (weigh halvings part.levels part.first) part.from part.to) }
+        (halvings : ℕ) → cell_box.levels + (cell_box.to - cell_box.from) ≤ halvings
+        → steps.new ≤ steps.old + length outer.now * (2 + 4 * along (weigh halvings cell_box.levels cell_box.first) cell_box.from cell_box.to) }
 {
-    if part.to - part.from < 2 {
-        mark_box(grid, ray, sweep, inner, outer, scale, part, marks, steps);
+    if cell_box.to - cell_box.from < 2 {
+        mark_box(
+            grid, ray, sweep, inner, outer, scale, cell_box, marks, steps,
+        );
         return;
     }
-    let middle = part.from + (part.to - part.from) / 2;
+    let middle = cell_box.from + (cell_box.to - cell_box.from) / 2;
     let lower = RayBox {
-        levels: part.levels,
-        first: part.first,
-        from: part.from,
+        levels: cell_box.levels,
+        first: cell_box.first,
+        from: cell_box.from,
         to: middle,
     };
     mark_box(grid, ray, sweep, inner, outer, scale, lower, marks, steps);
     let upper = RayBox {
-        levels: part.levels,
-        first: part.first,
+        levels: cell_box.levels,
+        first: cell_box.first,
         from: middle,
-        to: part.to,
+        to: cell_box.to,
     };
     mark_box(grid, ray, sweep, inner, outer, scale, upper, marks, steps);
 }

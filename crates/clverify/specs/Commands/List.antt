@@ -3,16 +3,16 @@ use Rattle.std.specs.Prelude.{◌≡◌, ℕ, List, [], ◌∷◌, Option, Some,
 use Rattle.cl_moves.specs.declared.program.Program.{Program}
 use Rattle.report_text.specs.Listing.{list_of}
 use Rattle.vf_io.specs.Files.{Files, bytes_of}
-use Rattle.clverify.specs.Answer.{Due, answer_of}
+use Rattle.clverify.specs.Reply.{Due, answer_of}
 use Rattle.job_inputs.specs.Inputs.{read_of}
-use Rattle.verify_words.specs.Words.{Word, Words, is_name}
+use Rattle.call_words.specs.Words.{Word, Words, is_name}
 use Rattle.clverify.specs.declared.status.Status.TheVariants.{Clean}
 
 -- its first word
 abbrev pub list_name : Word
 list_name = codes "list"
 
--- the words behind it: the file's name, and no more
+-- the words after it: the file's name, and no more
 abbrev pub list_words : Words → Option Word
 list_words (file ∷ []) = if is_name file then Some file else None
 list_words _ = None

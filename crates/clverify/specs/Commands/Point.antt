@@ -7,27 +7,27 @@ use Rattle.cl_records.specs.Kinds.{tallest}
 use Rattle.report_text.specs.Marking.{marking_of}
 use Rattle.input_faults.specs.declared.fault.Fault.TheVariants.{CutterHeight}
 use Rattle.vf_io.specs.Files.{Files, bytes_of}
-use Rattle.clverify.specs.Answer.{Due, answer_of, refused}
 use Rattle.clverify.specs.Commands.Questions.{question_of}
+use Rattle.clverify.specs.Reply.{Due, answer_of, refused}
 use Rattle.move_cutters.specs.Cutters.{first_low}
 use Rattle.job_inputs.specs.Inputs.{read_of}
 use Rattle.point_marks.specs.Marks.{AreTrueMarks, marks_for}
-use Rattle.verify_words.specs.Words.{Word, Words, is_name}
+use Rattle.call_words.specs.Words.{Word, Words, is_name}
 use Rattle.point_marks.specs.declared.question.Question.{Question}
-use Rattle.move_cutters.specs.declared.cutters.Usual.{Usual}
+use Rattle.move_cutters.specs.declared.cutters.CutterDefaults.{CutterDefaults}
 use Rattle.clverify.specs.declared.status.Status.TheVariants.{Clean}
 
 -- its first word
 abbrev pub point_name : Word
 point_name = codes "point"
 
--- the words behind it: the file's name, and a question
+-- the words after it: the file's name, and a question
 abbrev pub point_words : Words → Option (Word × Question)
 point_words (file ∷ words) = if is_name file then option_map (λ question. (file, question)) (question_of words) else None
 point_words [] = None
 
--- a move without a cutter has none, and a cutter without a height is as high as one may be
-abbrev pub point_usual : Usual
+-- a move without a cutter has none, and a cutter without a height has the greatest height
+abbrev pub point_usual : CutterDefaults
 point_usual = record { cutter = None; height = pos tallest }
 
 -- the moves are marked, unless a cutter is too low

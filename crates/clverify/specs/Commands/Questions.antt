@@ -1,4 +1,4 @@
--- What `point` is asked, by the words behind the file's name.
+-- What `point` is asked, by the words after the file's name.
 use Rattle.std.specs.Prelude.{ℕ, ℤ, pos, neg_ℤ, List, [], ◌∷◌, Option, Some, None, codes, if◌then◌else◌}
 use Rattle.std.specs.Result.{result_ok}
 use Rattle.std.specs.Str.{bytes_eq}
@@ -6,7 +6,7 @@ use Rattle.space.specs.Ranges.{metre}
 use Rattle.vf_text.specs.Digits.{number_spelt}
 use Rattle.cl_lines.specs.Numbers.{length_of}
 use Rattle.cl_lines.specs.declared.number.Unit.TheVariants.{Mm}
-use Rattle.verify_words.specs.Words.{Word, Words, within}
+use Rattle.call_words.specs.Words.{Word, Words, within}
 use Rattle.point_marks.specs.Questions.{deepest, most_slabs}
 use Rattle.point_marks.specs.declared.question.Question.{Question}
 
@@ -40,7 +40,7 @@ abbrev pub question_by : Option (List ℤ) → Option ℕ → Option ℕ → Opt
 question_by (Some point) (Some depth) (Some slabs) = Some (record { point = point; depth = depth; slabs = slabs })
 question_by _ _ _ = None
 
--- the question that the words behind the file's name ask
+-- the question that the words after the file's name ask
 abbrev pub question_of : Words → Option Question
 question_of (x ∷ y ∷ z ∷ name ∷ depth ∷ words) =
     question_by (point_by (coordinate_of x) (coordinate_of y) (coordinate_of z)) (depth_of name depth) (slabs_of words)

@@ -3,7 +3,7 @@
 use Rattle.std.specs.Prelude.{◌≡◌, ℕ, true, false, Bool, All, List, ◌∷◌, Result, Ok, codes, if◌then◌else◌}
 use Rattle.std.specs.List.{Contains}
 use Rattle.std.specs.Option.{option_map, option_to_list}
-use Rattle.job_facts.specs.Counts.{is_safe}
+use Rattle.job_counts.specs.Counts.{is_safe}
 use Rattle.job_report.specs.Facts.{JobFacts, is_clean}
 use Rattle.job_report.specs.Report.{facts_of}
 use Rattle.job_report.specs.Tasks.{Task}
@@ -11,10 +11,10 @@ use Rattle.job_report.specs.Truth.{IsTrueReport}
 use Rattle.job_report.specs.declared.facts.Found.{Found}
 use Rattle.report_text.specs.Report.{report_of}
 use Rattle.input_faults.specs.declared.fault.Fault.{Fault}
-use Rattle.verify_words.specs.Call.{VerifyCall}
-use Rattle.verify_words.specs.Words.{Word, Words}
+use Rattle.call_words.specs.Call.{VerifyCall}
+use Rattle.call_words.specs.Words.{Word, Words}
 use Rattle.vf_io.specs.Files.{Files, bytes_of}
-use Rattle.clverify.specs.Answer.{Due, answer_of}
+use Rattle.clverify.specs.Reply.{Due, answer_of}
 use Rattle.job_inputs.specs.Tasks.{task_of}
 use Rattle.clverify.specs.declared.status.Status.{Status}
 use Rattle.clverify.specs.declared.status.Status.TheVariants.{Clean, Findings}

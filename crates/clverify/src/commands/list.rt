@@ -7,8 +7,8 @@ ghost use Rattle.job_inputs.specs.Inputs.{is_read_fault};
 ghost use Rattle.job_inputs.specs.Reads.{ReadsOnce};
 ghost use Rattle.clverify.specs.Settled.{IsReport};
 
-use crate::answer::Answer;
 use crate::commands::Command;
+use crate::reply::Reply;
 use crate::status::Status;
 use cl_moves::Program;
 use input_faults::Stopped;
@@ -17,7 +17,7 @@ use report_text::list_text;
 use std::alloc::Global;
 use vf_io::{NoMemory, Shelf};
 
-/// The command that the words behind `list` stand for.
+/// The command that the words after `list` stand for.
 pub(crate) fn list_words(words: &[String]) -> Option<Command<'_>>
     ensures { option_map command_seen result ≡ option_map list_moves (list_words (map string_bytes words.now)) }
 {
@@ -34,7 +34,7 @@ pub(crate) fn list_report<S: Shelf>(
     alloc: Global,
     file: &str,
     shelf: &mut S,
-) -> Result<Answer, Stopped>
+) -> Result<Reply, Stopped>
     requires { S.allows shelf.old file.now }
     ensures report { IfSome (S.files shelf.old) (λ files. IsReport result (list_due file.now files)) }
     ensures clean { IfOk result (λ answer. answer.status ≡ Status.Clean) }
@@ -49,13 +49,13 @@ pub(crate) fn list_report<S: Shelf>(
 }
 
 /// Lists the moves of a program.
-fn listing(alloc: Global, program: &Program) -> Result<Answer, Stopped>
+fn listing(alloc: Global, program: &Program) -> Result<Reply, Stopped>
     ensures report { IsReport result (listed program.now) }
     ensures clean { IfOk result (λ answer. answer.status ≡ Status.Clean) }
     ensures memory { is_read_fault result ≡ false }
 {
     match list_text(alloc, program) {
-        Ok(text) => Ok(Answer {
+        Ok(text) => Ok(Reply {
             text,
             status: Status::Clean,
         }),

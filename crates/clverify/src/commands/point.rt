@@ -12,26 +12,26 @@ ghost use Rattle.point_marks.specs.Questions.{IsQuestion};
 ghost use Rattle.job_inputs.specs.Reads.{ReadsOnce};
 ghost use Rattle.clverify.specs.Settled.{IsReport};
 
-use crate::answer::Answer;
 use crate::commands::Command;
 use crate::commands::question::read_question;
+use crate::reply::Reply;
 use crate::status::Status;
 use cl_moves::Program;
 use input_faults::{Fault, Stopped};
 use job_inputs::read_moves;
-use move_cutters::{Usual, low_cutter};
+use move_cutters::{CutterDefaults, low_cutter};
 use point_marks::{Question, marks_of};
 use report_text::point_text;
 use std::alloc::Global;
 use vf_io::{NoMemory, Shelf};
 
-/// A move without a cutter has none, and a cutter without a height is as high as one may be.
-const USUAL: Usual = Usual {
+/// A move without a cutter has none, and a cutter without a height has the greatest height.
+const USUAL: CutterDefaults = CutterDefaults {
     cutter: None,
     height: 300_000,
 };
 
-/// The command that the words behind `point` stand for.
+/// The command that the words after `point` stand for.
 pub(crate) fn point_words(words: &[String]) -> Option<Command<'_>>
     ensures command { option_map command_seen result
         ≡ option_map (λ asked. mark_moves asked.0 asked.1) (point_words (map string_bytes words.now)) }
@@ -55,7 +55,7 @@ pub(crate) fn point_report<S: Shelf>(
     file: &str,
     question: &Question,
     shelf: &mut S,
-) -> Result<Answer, Stopped>
+) -> Result<Reply, Stopped>
     requires question { IsQuestion question.now }
     requires allowed { S.allows shelf.old file.now }
     ensures report { IfSome (S.files shelf.old) (λ files. IsReport result (point_due file.now question.now files)) }
@@ -71,7 +71,7 @@ pub(crate) fn point_report<S: Shelf>(
 }
 
 /// Marks the moves of a program, unless one of its cutters is refused.
-fn marking(alloc: Global, program: &Program, question: &Question) -> Result<Answer, Stopped>
+fn marking(alloc: Global, program: &Program, question: &Question) -> Result<Reply, Stopped>
     requires question { IsQuestion question.now }
     requires valid { All IsMove program.now.moves }
     ensures report { IsReport result (marked question.now program.now) }
@@ -83,7 +83,7 @@ fn marking(alloc: Global, program: &Program, question: &Question) -> Result<Answ
         return Err(Stopped::Refused(Fault::CutterHeight(line)));
     }
     match marks_text(alloc, program, question) {
-        Ok(text) => Ok(Answer {
+        Ok(text) => Ok(Reply {
             text,
             status: Status::Clean,
         }),

@@ -3,9 +3,9 @@ ghost use Rattle.space.specs.Ranges.{IsPoint, metre};
 ghost use Rattle.point_marks.specs.Questions.{IsQuestion, deepest, most_slabs};
 ghost use Rattle.clverify.specs.Commands.Questions.{coordinate_of, depth_of, point_by, question_of, slabs_of};
 
+use call_words::read_within;
 use cl_lines::{Unit, read_length};
 use point_marks::Question;
-use verify_words::read_within;
 
 /// How far from the origin a coordinate may be, in micrometres.
 const FARTHEST: i32 = 1_000_000;
@@ -21,7 +21,7 @@ const USUAL_SLABS: u32 = 16;
 /// The most digits of a depth and of a number of slabs.
 const MOST_PLACES: usize = 3;
 
-/// The question that the words behind the file's name ask, where they ask one.
+/// The question that the words after the file's name ask, where they ask one.
 pub(crate) fn read_question(words: &[String]) -> Option<Question>
     ensures question { result ≡ question_of (map string_bytes words.now) }
     ensures valid { IfSome result IsQuestion }
@@ -56,7 +56,7 @@ fn read_coordinate(word: &str) -> Option<i32>
     read_length(word.as_bytes(), Unit::Mm, -FARTHEST, FARTHEST).ok()
 }
 
-/// The depth behind its name.
+/// The depth after its name.
 fn read_depth(name: &str, word: &str) -> Option<u32>
     ensures depth { result ≡ depth_of name.now word.now }
     ensures shallow { IfSome result (λ n. n ≤ deepest) }
@@ -68,7 +68,7 @@ fn read_depth(name: &str, word: &str) -> Option<u32>
     }
 }
 
-/// The number of slabs behind its name, or the usual one where no words are left.
+/// The number of slabs after its name, or the usual one where no words are left.
 fn read_slabs(words: &[String]) -> Option<u32>
     ensures slabs { result ≡ slabs_of (map string_bytes words.now) }
     ensures some { IfSome result (λ n. 1 ≤ n) }

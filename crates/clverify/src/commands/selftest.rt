@@ -2,7 +2,7 @@ ghost use Rattle.std.specs.Prelude.{◌≡◌, IfOk, IsTrue, false, map, option_
 ghost use Rattle.job_report.specs.Facts.{is_clean};
 ghost use Rattle.job_report.specs.Report.{facts_of};
 ghost use Rattle.report_text.specs.Selftest.{selftest_of};
-ghost use Rattle.clverify.specs.Answer.{IsVerdict};
+ghost use Rattle.clverify.specs.Reply.{IsVerdict};
 ghost use Rattle.clverify.specs.Asked.{command_seen};
 ghost use Rattle.clverify.specs.Commands.{self_test};
 ghost use Rattle.clverify.specs.Commands.Selftest.{IsTrueSelftest, selftest_due, selftest_words, summed_up};
@@ -10,10 +10,11 @@ ghost use Rattle.job_inputs.specs.Inputs.{is_read_fault};
 ghost use Rattle.clverify.specs.Settled.{IsReport};
 ghost use Rattle.job_inputs.specs.Tasks.{made_task};
 
-use crate::answer::Answer;
 use crate::commands::Command;
 use crate::commands::verify::status_by;
 use crate::job::do_task;
+use crate::reply::Reply;
+use call_words::read_within;
 use input_faults::Stopped;
 use job_inputs::{TaskInputs, made_inputs};
 use job_report::Facts;
@@ -21,19 +22,18 @@ use report_text::selftest_text;
 use std::alloc::Global;
 use std::sync::Wait;
 use std::thread::Threads;
-use verify_words::read_within;
 use vf_io::NoMemory;
 use worker_gate::Gate;
 
-/// The greatest number that a program is made from, and the most digits of one.
+/// The greatest number that a program is generated from, and the most digits of one.
 const MOST_NUMBER: u32 = 999_999;
 
 const NUMBER_PLACES: usize = 6;
 
-/// How many workers verify a made program.
+/// How many workers verify a generated program.
 const WORKERS: u32 = 3;
 
-/// The command that the words behind `selftest` stand for.
+/// The command that the words after `selftest` stand for.
 pub(crate) fn selftest_words(words: &[String]) -> Option<Command<'_>>
     ensures { option_map command_seen result ≡ option_map self_test (selftest_words (map string_bytes words.now)) }
 {
@@ -45,13 +45,13 @@ pub(crate) fn selftest_words(words: &[String]) -> Option<Command<'_>>
     }
 }
 
-/// Verifies the program that is made from a number, and sums up what is found.
+/// Verifies the program that is generated from a number, and sums up what is found.
 pub(crate) fn selftest_report<R: Threads + Wait + Sync, G: Gate + Sync>(
     rt: &R,
     alloc: Global,
     number: u32,
     gate: &G,
-) -> Result<Answer, Stopped>
+) -> Result<Reply, Stopped>
     ensures report { IsReport result (selftest_due number) }
     ensures verdict { IfOk result (λ answer. IsVerdict answer.status) }
     ensures sound { IfOk result (λ answer. IsTrueSelftest number answer.status answer.text.items) }
@@ -63,14 +63,14 @@ pub(crate) fn selftest_report<R: Threads + Wait + Sync, G: Gate + Sync>(
     }
 }
 
-/// Verifies the task that is made from a number.
+/// Verifies the task that is generated from a number.
 fn verify_made<R: Threads + Wait + Sync, G: Gate + Sync>(
     rt: &R,
     alloc: Global,
     number: u32,
     inputs: TaskInputs,
     gate: &G,
-) -> Result<Answer, Stopped>
+) -> Result<Reply, Stopped>
     requires { inputs ≡ made_task number }
     ensures report { IsReport result (selftest_due number) }
     ensures verdict { IfOk result (λ answer. IsVerdict answer.status) }
@@ -84,7 +84,7 @@ fn verify_made<R: Threads + Wait + Sync, G: Gate + Sync>(
 }
 
 /// Sums up the facts of a job.
-fn summary(alloc: Global, number: u32, facts: &Facts) -> Result<Answer, Stopped>
+fn summary(alloc: Global, number: u32, facts: &Facts) -> Result<Reply, Stopped>
     ensures report { IsReport result (summed_up number facts.now) }
     ensures verdict { IfOk result (λ answer. IsVerdict answer.status) }
     ensures text { IfOk result (λ answer. answer.text.items ≡ selftest_of number facts.now.totals (is_clean facts.now.left)) }
@@ -92,7 +92,7 @@ fn summary(alloc: Global, number: u32, facts: &Facts) -> Result<Answer, Stopped>
 {
     let clean = facts.is_clean();
     match selftest_text(alloc, number, &facts.totals, clean) {
-        Ok(text) => Ok(Answer {
+        Ok(text) => Ok(Reply {
             text,
             status: status_by(clean),
         }),

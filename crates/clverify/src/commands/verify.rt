@@ -1,9 +1,9 @@
 ghost use Rattle.std.specs.Prelude.{◌≡◌, IfOk, IfSome, IsTrue, false, map, option_map, string_bytes};
 ghost use Rattle.job_report.specs.Facts.{are_answered};
 ghost use Rattle.report_text.specs.Report.{report_of};
-ghost use Rattle.verify_words.specs.Call.{call_of};
-ghost use Rattle.verify_words.specs.Seen.{call_seen};
-ghost use Rattle.clverify.specs.Answer.{IsVerdict};
+ghost use Rattle.call_words.specs.Call.{call_of};
+ghost use Rattle.call_words.specs.Seen.{call_seen};
+ghost use Rattle.clverify.specs.Reply.{IsVerdict};
 ghost use Rattle.clverify.specs.Asked.{AreWorkers, MayBeAsked, command_seen};
 ghost use Rattle.clverify.specs.Commands.{verify_moves};
 ghost use Rattle.clverify.specs.Commands.Verify.{IsTrueVerification, ReportsTruly, reported, status_by, verified, verify_due};
@@ -11,10 +11,11 @@ ghost use Rattle.job_inputs.specs.Inputs.{is_read_fault};
 ghost use Rattle.job_inputs.specs.Reads.{ReadsOnce};
 ghost use Rattle.clverify.specs.Settled.{IsReport};
 
-use crate::answer::Answer;
 use crate::commands::Command;
 use crate::job::do_task;
+use crate::reply::Reply;
 use crate::status::Status;
+use call_words::{VerifyWords, verify_words};
 use input_faults::Stopped;
 use job_inputs::{TaskInputs, read_task};
 use job_report::Facts;
@@ -22,11 +23,10 @@ use report_text::report_text;
 use std::alloc::Global;
 use std::sync::Wait;
 use std::thread::Threads;
-use verify_words::{VerifyWords, verify_words};
 use vf_io::{NoMemory, Shelf};
 use worker_gate::Gate;
 
-/// The command that the words behind `verify` stand for.
+/// The command that the words after `verify` stand for.
 pub(crate) fn verify_command<'a>(
     alloc: Global,
     words: &'a [String],
@@ -42,14 +42,14 @@ pub(crate) fn verify_command<'a>(
     }
 }
 
-/// Verifies a file with a setup, and a script if one is named, by so many workers as are asked for.
+/// Verifies a file with a setup, and a script if one is named, by the number of workers that the words give.
 pub(crate) fn verify_report<R: Threads + Wait + Sync, S: Shelf, G: Gate + Sync>(
     rt: &R,
     alloc: Global,
     said: &VerifyWords<'_>,
     shelf: &mut S,
     gate: &G,
-) -> Result<Answer, Stopped>
+) -> Result<Reply, Stopped>
     requires file { S.allows shelf.old said.now.file.now }
     requires setup { S.allows shelf.old said.now.setup.now }
     requires script { IfSome said.now.script (λ name. S.allows shelf.old name.now) }
@@ -73,7 +73,7 @@ fn verify_task<R: Threads + Wait + Sync, G: Gate + Sync>(
     inputs: TaskInputs,
     workers: u32,
     gate: &G,
-) -> Result<Answer, Stopped>
+) -> Result<Reply, Stopped>
     requires { AreWorkers workers }
     ensures report { IsReport result (verified inputs) }
     ensures verdict { IfOk result (λ answer. IsVerdict answer.status) }
@@ -87,7 +87,7 @@ fn verify_task<R: Threads + Wait + Sync, G: Gate + Sync>(
 }
 
 /// Reports the facts of a job.
-fn report(alloc: Global, facts: &Facts) -> Result<Answer, Stopped>
+fn report(alloc: Global, facts: &Facts) -> Result<Reply, Stopped>
     requires { IsTrue (are_answered facts.now.answers) }
     ensures report { IsReport result (reported facts.now) }
     ensures verdict { IfOk result (λ answer. IsVerdict answer.status) }
@@ -95,7 +95,7 @@ fn report(alloc: Global, facts: &Facts) -> Result<Answer, Stopped>
     ensures memory { is_read_fault result ≡ false }
 {
     match report_text(alloc, facts) {
-        Ok(text) => Ok(Answer {
+        Ok(text) => Ok(Reply {
             text,
             status: status_by(facts.is_clean()),
         }),

@@ -1,6 +1,6 @@
 use Rattle.std.proofs.Common.{subst, sym}
 use Rattle.std.proofs.lemmas.Int.{to_z-of_z}
-use Rattle.space.specs.Motion.{IsSweep}
+use Rattle.space.specs.Sweeps.{IsSweep}
 use Rattle.axis_cells.proofs.Marks.{none_out_of_reach}
 use Rattle.axis_cells.proofs.plain.is_held_out_of_reach.Goals as goal
 

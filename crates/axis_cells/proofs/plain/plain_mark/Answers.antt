@@ -12,20 +12,20 @@ returns-then-not-in_reach-clause-mark c =
     mark_clear c.args.inner.now c.args.outer.now c.args.reach m c.args.point S _ c.cells_of-scale.ensures.cells (sym c.is_held_out_of_reach.ensures ∙ c.if-is_held_out_of_reach.false)
     (far_not_possible c.args.outer.now c.args.reach m c.args.point S far)
 
-pub returns-then-is_left_on_cell-clause-mark : goal.returns-then-is_left_on_cell-clause-mark
-returns-then-is_left_on_cell-clause-mark c =
+pub returns-then-is_unexcluded_on_cell-clause-mark : goal.returns-then-is_unexcluded_on_cell-clause-mark
+returns-then-is_unexcluded_on_cell-clause-mark c =
     let r = c.ranges.reach in let S = c.cells_of-scale.result in let m = c.args.sweep.now in
     let near : is_in_reach c.args.reach m.from m.to c.args.point ≡ true = sym (simp to_z-of_z at c.in_reach.ensures) ∙ c.if-not-in_reach.false in
     mark_possible c.args.inner.now c.args.outer.now c.args.reach m c.args.point S _ c.cells_of-scale.ensures.cells (sym c.is_held_at_sample.ensures ∙ c.if-is_held_at_sample.false)
-    near (sym c.is_left_on_cell.ensures ∙ c.if-is_left_on_cell.true)
+    near (sym c.is_unexcluded_on_cell.ensures ∙ c.if-is_unexcluded_on_cell.true)
 
 pub returns-clause-mark : goal.returns-clause-mark
 returns-clause-mark c =
     let r = c.ranges.reach in let S = c.cells_of-scale.result in let m = c.args.sweep.now in
     let near : is_in_reach c.args.reach m.from m.to c.args.point ≡ true = sym (simp to_z-of_z at c.in_reach.ensures) ∙ c.if-not-in_reach.false in
     mark_clear c.args.inner.now c.args.outer.now c.args.reach m c.args.point S _ c.cells_of-scale.ensures.cells (sym c.is_held_at_sample.ensures ∙ c.if-is_held_at_sample.false)
-    (out_not_possible c.args.outer.now c.args.reach m c.args.point S near (sym c.is_left_on_cell.ensures ∙ c.if-is_left_on_cell.false))
+    (out_not_possible c.args.outer.now c.args.reach m c.args.point S near (sym c.is_unexcluded_on_cell.ensures ∙ c.if-is_unexcluded_on_cell.false))
 
 pub returns-clause-clear : goal.returns-clause-clear
 returns-clause-clear c = λ _ near.
-    left_nowhere c.args.outer.now c.args.sweep.now c.args.point c.cells_of-scale.result c.cells_of-scale.ensures.some (sym c.is_left_on_cell.ensures ∙ c.if-is_left_on_cell.false)
+    left_nowhere c.args.outer.now c.args.sweep.now c.args.point c.cells_of-scale.result c.cells_of-scale.ensures.some (sym c.is_unexcluded_on_cell.ensures ∙ c.if-is_unexcluded_on_cell.false)

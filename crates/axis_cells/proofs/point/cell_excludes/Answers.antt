@@ -1,5 +1,5 @@
 use Rattle.std.proofs.Common.{◌≡◌, ℕ, pos, ◌≤◌, ◌^◌, subst, sym, ◌∙◌}
-use Rattle.space.specs.Motion.{IsSweep}
+use Rattle.space.specs.Sweeps.{IsSweep}
 use Rattle.bern_form.specs.Slab.{IsSlab}
 use Rattle.bern_form.specs.Sizes.{scale_limit}
 use Rattle.bern_form.specs.Cells.{is_excluded}

@@ -4,7 +4,7 @@ use mir.Syntax.{w128}
 use mir.Val.{hbits}
 use Rattle.bern_form.specs.Sizes.{axis_limit, length_limit}
 use Rattle.box_bisect.specs.Sides.{is_on}
-use Rattle.box_bisect.proofs.Reread.{product_fits, product_is}
+use Rattle.space.proofs.Reread.{product_fits, product_is}
 use Rattle.box_bisect.proofs.compare.is_on.Goals as goal
 
 limits_fit : (length_limit * length_limit) * (18 * (axis_limit * axis_limit)) < 2 ^ hbits w128

@@ -1,4 +1,4 @@
--- The halving of a form is what it is to be, and no number in it is too great.
+-- The halving of a form is what it should be, and no number in it is too great.
 use Rattle.std.proofs.Common.{FitsSigned, rules, refl, subst, sym}
 use Rattle.std.proofs.lemmas.Int.{to_z-of_z}
 use mir.Syntax.{w128}

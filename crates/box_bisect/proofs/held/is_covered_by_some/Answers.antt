@@ -12,11 +12,11 @@ returns-then-sample-lt0-clause-covered g c = let at = c.args.sample.now in sym (
 pub returns-then-reached-eq0-clause-covered : goal.returns-then-reached-eq0-clause-covered
 returns-then-reached-eq0-clause-covered g c =
     let at = c.args.sample.now in let b = pos at.scale in
-    sym (none_reached (λ s. covers s b at.u at.n at.w) (is_reached b at.u at.n) (sample_goes_up at.scale at.u at.n at.w) c.args.slabs.now c.turn-reached.result c.requires c.turn-reached.ensures.turn c.if-reached-eq0.true)
+    sym (none_reached (λ s. covers s b at.u at.n at.w) (is_reached b at.u at.n) (sample_goes_up at.scale at.u at.n at.w) c.args.slabs.now c.first_unreached-reached.result c.requires c.first_unreached-reached.ensures.first_unreached c.if-reached-eq0.true)
 
 pub returns-clause-covered : goal.returns-clause-covered
 returns-clause-covered g c =
-    let at = c.args.sample.now in let b = pos at.scale in let j = c.turn-reached.result in
+    let at = c.args.sample.now in let b = pos at.scale in let j = c.first_unreached-reached.result in
     let e : j ≡ (j - 1) + 1 = omega (arith, c.if-reached-eq0.false) in
     c.is_covered_by.ensures
-    ∙ sym (one_decides (λ s. covers s b at.u at.n at.w) (is_reached b at.u at.n) (sample_goes_up at.scale at.u at.n at.w) c.args.slabs.now j (j - 1) c.index-slabs-reached.result c.requires c.turn-reached.ensures.turn e c.index-slabs-reached.is)
+    ∙ sym (one_decides (λ s. covers s b at.u at.n at.w) (is_reached b at.u at.n) (sample_goes_up at.scale at.u at.n at.w) c.args.slabs.now j (j - 1) c.index-slabs-reached.result c.requires c.first_unreached-reached.ensures.first_unreached e c.index-slabs-reached.is)

@@ -1,9 +1,9 @@
 use Rattle.std.proofs.Common.{◌≡◌, FitsSigned, ap, subst, sym, true, ℕ, pos, length, List, ◌+◌, ◌*◌, ◌≤◌, ◌^◌, ◌∙◌}
 use Rattle.std.proofs.lemmas.Int.{to_z-of_z}
 use mir.Syntax.{w32}
-use Rattle.space.specs.Motion.{IsSweep}
 use Rattle.space.specs.Reach.{is_in_reach}
-use Rattle.bern_form.specs.Marks.{held_at_sample, is_possible, some_holds}
+use Rattle.space.specs.Sweeps.{IsSweep}
+use Rattle.bern_form.specs.Marks.{held_at_sample, is_possible_with, some_holds}
 use Rattle.bern_form.specs.Slab.{SlabSize}
 use Rattle.axis_cells.specs.Marked.{mark_from}
 use Rattle.cutter_slabs.specs.Stacks.{inner_stack, reach_of}
@@ -24,7 +24,7 @@ returns-then-not-in_reach-clause-value g c =
     let reach = to_z-of_z w32 c.reach-reach.result fits ∙ c.reach-reach.ensures.value in
     let found = (simp to_z-of_z at c.in_reach.ensures) ∙ ap (λ z. is_in_reach z m.from m.to p) c.reach-reach.ensures.value in
     let sweep = subst IsSweep c.sweep.view_is c.sweep.invariant in
-    let both = λ (h : held_at_sample inner m p S ≡ true). subst (λ (l : List SlabSize). is_possible l (pos (reach_of cutter)) m p S ≡ true) (sym c.outer-outer.ensures.stack) (c.inner-inner.ensures.possible m p S (some_cells c.args.depth) sweep h) in
+    let both = λ (h : held_at_sample inner m p S ≡ true). subst (λ (l : List SlabSize). is_possible_with l (pos (reach_of cutter)) m p S ≡ true) (sym c.outer-outer.ensures.stack) (c.inner-inner.ensures.possible m p S (some_cells c.args.depth) sweep h) in
     far_mark inner outer (pos (reach_of cutter)) m p S (sym found ∙ c.if-not-in_reach.true) both
     ∙ ap (λ l. mark_from l outer (pos (reach_of cutter)) m p S) c.inner-inner.ensures.stack ∙ ap (λ l. mark_from (inner_stack cutter n) l (pos (reach_of cutter)) m p S) c.outer-outer.ensures.stack
 
@@ -37,7 +37,7 @@ returns-then-not-in_reach-clause-clear g c = λ clear.
     let reach = to_z-of_z w32 c.reach-reach.result fits ∙ c.reach-reach.ensures.value in
     let found = (simp to_z-of_z at c.in_reach.ensures) ∙ ap (λ z. is_in_reach z m.from m.to p) c.reach-reach.ensures.value in
     let sweep = subst IsSweep c.sweep.view_is c.sweep.invariant in
-    let both = λ (h : held_at_sample inner m p S ≡ true). subst (λ (l : List SlabSize). is_possible l (pos (reach_of cutter)) m p S ≡ true) (sym c.outer-outer.ensures.stack) (c.inner-inner.ensures.possible m p S (some_cells c.args.depth) sweep h) in
+    let both = λ (h : held_at_sample inner m p S ≡ true). subst (λ (l : List SlabSize). is_possible_with l (pos (reach_of cutter)) m p S ≡ true) (sym c.outer-outer.ensures.stack) (c.inner-inner.ensures.possible m p S (some_cells c.args.depth) sweep h) in
     let value = far_mark inner outer (pos (reach_of cutter)) m p S (sym found ∙ c.if-not-in_reach.true) both in
     c.outer-outer.ensures.clear m p S (some_cells c.args.depth) sweep (clear_out inner outer (pos (reach_of cutter)) m p S (sym value))
 

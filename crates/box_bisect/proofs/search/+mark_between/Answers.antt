@@ -1,7 +1,7 @@
 use Rattle.std.proofs.Common.{◌≡◌, ◌+◌, ◌-◌, ◌^◌, true, false, length, arith, sym, subst, ◌∙◌}
 use Rattle.box_bisect.specs.Between.{IsMarkBetween}
 use Rattle.box_bisect.specs.Halved.{first_half, last_half}
-use Rattle.bern_form.specs.Between.{is_left_between}
+use Rattle.bern_form.specs.Between.{is_unexcluded_between}
 use Rattle.box_bisect.specs.SlabTests.{is_held_with}
 use Rattle.box_bisect.proofs.Counting.{cost_of_both, cost_of_late, cost_of_middle}
 use Rattle.box_bisect.proofs.Searching.{at_cell, dropped, held_as, join_marks, late_held, left_between, middle_held, not_removed, removed_of, search_first, search_last, searched_as}
@@ -33,7 +33,7 @@ returns-then-is_held_last-clause-cost g t c = λ m p j s.
     let S = c.args.scale in let inner = c.args.inner.now in let outer = c.args.outer.now in let levels = c.args.levels in let k = levels - 1 in
     let u = c.args.stretch.now.u.c in let n = c.args.stretch.now.n.c in let d = c.args.stretch.now.d.c in
     let e : levels ≡ k + 1 = omega (arith, c.if-levels-eq0.false) in
-    let left : is_left_between outer m p j (j + 2 ^ levels) S ≡ true = sym (left_between outer u n d m p j (j + 2 ^ levels) S s.forms) ∙ sym c.is_left.ensures.left ∙ c.if-not-is_left.false in
+    let left : is_unexcluded_between outer m p j (j + 2 ^ levels) S ≡ true = sym (left_between outer u n d m p j (j + 2 ^ levels) S s.forms) ∙ sym c.is_left.ensures.left ∙ c.if-not-is_left.false in
     cost_of_middle outer m p S levels k j e left _ _ _ (length outer) (length inner) c.requires.as_many c.is_left.ensures.cost c.is_held_last.ensures.cost
 
 pub returns-then-is_removed-clause-mark : goal.returns-then-is_removed-clause-mark
@@ -53,7 +53,7 @@ returns-then-is_removed-clause-cost g t c = λ m p j s.
     let S = c.args.scale in let inner = c.args.inner.now in let outer = c.args.outer.now in let levels = c.args.levels in let k = levels - 1 in
     let u = c.args.stretch.now.u.c in let n = c.args.stretch.now.n.c in let d = c.args.stretch.now.d.c in
     let e : levels ≡ k + 1 = omega (arith, c.if-levels-eq0.false) in
-    let left : is_left_between outer m p j (j + 2 ^ levels) S ≡ true = sym (left_between outer u n d m p j (j + 2 ^ levels) S s.forms) ∙ sym c.is_left.ensures.left ∙ c.if-not-is_left.false in
+    let left : is_unexcluded_between outer m p j (j + 2 ^ levels) S ≡ true = sym (left_between outer u n d m p j (j + 2 ^ levels) S s.forms) ∙ sym c.is_left.ensures.left ∙ c.if-not-is_left.false in
     let first = c.first_half-first.result in let f = c.first_half-first.ensures in
     let held = c.is_held_last.ensures.held ∙ held_as 2 inner S first.u.c first.n.c first.d.c (first_half u) (first_half n) (first_half d) f.u f.n f.d in
     let free : is_held_with 2 inner S (first_half u) (first_half n) (first_half d) ≡ false = sym held ∙ c.if-is_held_last.false in
@@ -81,7 +81,7 @@ returns-clause-cost g t c = λ m p j s.
     let S = c.args.scale in let inner = c.args.inner.now in let outer = c.args.outer.now in let levels = c.args.levels in let k = levels - 1 in
     let u = c.args.stretch.now.u.c in let n = c.args.stretch.now.n.c in let d = c.args.stretch.now.d.c in
     let e : levels ≡ k + 1 = omega (arith, c.if-levels-eq0.false) in
-    let left : is_left_between outer m p j (j + 2 ^ levels) S ≡ true = sym (left_between outer u n d m p j (j + 2 ^ levels) S s.forms) ∙ sym c.is_left.ensures.left ∙ c.if-not-is_left.false in
+    let left : is_unexcluded_between outer m p j (j + 2 ^ levels) S ≡ true = sym (left_between outer u n d m p j (j + 2 ^ levels) S s.forms) ∙ sym c.is_left.ensures.left ∙ c.if-not-is_left.false in
     let first = c.first_half-first.result in let f = c.first_half-first.ensures in
     let held = c.is_held_last.ensures.held ∙ held_as 2 inner S first.u.c first.n.c first.d.c (first_half u) (first_half n) (first_half d) f.u f.n f.d in
     let free : is_held_with 2 inner S (first_half u) (first_half n) (first_half d) ≡ false = sym held ∙ c.if-is_held_last.false in

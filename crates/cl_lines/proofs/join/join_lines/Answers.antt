@@ -1,4 +1,4 @@
--- Each line goes behind those that were joined.
+-- Each line goes after those that were joined.
 use Rattle.std.proofs.Common.{◌≡◌, ◌+◌, length, length-append, ◌++◌, ◌∙◌, ap, sym, arith, refl, inl, inr, rules}
 use Rattle.std.proofs.lemmas.Bool.{eqb-true}
 use Rattle.std.proofs.lemmas.Grind.{common_steps}

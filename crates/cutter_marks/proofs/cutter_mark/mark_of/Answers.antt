@@ -2,7 +2,7 @@ use Rattle.std.proofs.Common.{FitsSigned, rules, arith, ap, subst, sym, ℕ, pos
 use Rattle.std.proofs.lemmas.Int.{to_z-of_z}
 use Rattle.std.proofs.Math.Pow.{pow_mono}
 use mir.Syntax.{w32}
-use Rattle.space.specs.Motion.{IsSweep}
+use Rattle.space.specs.Sweeps.{IsSweep}
 use Rattle.axis_cells.specs.Marked.{mark_from}
 use Rattle.cutter_slabs.specs.Stacks.{inner_stack, reach_of}
 use Rattle.cutter_marks.specs.MarkBy.{is_possible_by, mark_by}

@@ -1,7 +1,7 @@
-use Rattle.space.specs.Motion.{axis_at, offset_at}
+use Rattle.space.specs.Sweeps.{axis_at, offset_at}
 use Rattle.std.proofs.Common.{pos}
 use Rattle.cutter_slabs.proofs.Heights.{own_is_asked, own_is_enough}
-use Rattle.cutter_slabs.proofs.Plain.{cylinder_inside, inside_cylinder, tip_is_point}
+use Rattle.cutter_slabs.proofs.Plain.{cylinder_inside, from_tip, inside_cylinder, tip_is_point, to_tip}
 use Rattle.cutter_slabs.proofs.Sound.{lower_upper}
 use Rattle.cutter_slabs.proofs.Straight.{line_straight, straight_line}
 use Rattle.cutter_slabs.proofs.Worked.{beside, near_tip, within}
@@ -13,6 +13,9 @@ returns-clause-lower c = λ size m p a b. lower_upper size b (offset_at m p (pos
 
 pub returns-clause-times : goal.returns-clause-times
 returns-clause-times c = λ size t m p a b k valid some. (written_on size t m p a b k valid some, written_back size t m p a b k valid some)
+
+pub returns-clause-base : goal.returns-clause-base
+returns-clause-base c = λ size t b p a tip. (to_tip size t b p a, from_tip size t b p a tip)
 
 pub returns-clause-cylinder : goal.returns-clause-cylinder
 returns-clause-cylinder c = λ size t b p a upright sharp. (inside_cylinder size t b p a upright, cylinder_inside size t b p a upright sharp)

@@ -1,11 +1,12 @@
 use Rattle.std.proofs.Common.{◌≡◌, ℕ, ◌≤◌, ◌<◌, ◌+◌, ◌-◌, ◌*◌, ◌++◌, [], ◌∷◌, nat_lt, if◌then◌else◌, arith, rules}
 use Rattle.bern_form.specs.Roots.{ceil_root, floor_root}
-use Rattle.cutter_slabs.specs.Cutter.{flat_of}
+use Rattle.cutter_slabs.specs.Cutter.{CutterSize, flat_of}
 use Rattle.cutter_slabs.specs.Stacks.{bound_of, slab_of}
+use Rattle.cutter_slabs.proofs.Rising.{top_ordered}
 use Rattle.cutter_slabs.proofs.Slabs.{slabs_grown}
 use Rattle.cutter_slabs.proofs.pair.rounded.Goals as goal
 
--- the numbers of a cutter bound what is made of them
+-- the numbers of a cutter bound what is computed from them
 radius_few : (r r2 d : ℕ) → r ≡ r2 → 2 * r2 ≤ d → d ≤ 200000 → r ≤ 100000
 radius_few r r2 d e corner width = omega (arith, e, corner, width)
 
@@ -18,8 +19,8 @@ high_within z r r2 d l e corner width = omega (arith, l, e, corner, width)
 same_or_less : (a b m : ℕ) → a ≡ b → b ≤ m → a ≤ m
 same_or_less a b m e h = omega (arith, e, h)
 
-both_same : (a b x y : ℕ) → a ≡ x → b ≡ y → x ≤ y → a ≤ b
-both_same a b x y e f h = omega (arith, e, f, h)
+top_within : (r base h : ℕ) (cutter : CutterSize) → r ≡ cutter.r → base ≡ cutter.base → h ≡ cutter.h → cutter.r + cutter.base ≤ cutter.h → r + base ≤ h
+top_within r base h cutter e f g l = omega (arith, e, f, g, l)
 
 next_within : (j n : ℕ) → j < n → j + 1 ≤ n
 next_within j n h = omega (arith, h)
@@ -73,9 +74,10 @@ push_slab-requires-in-loop-j c =
 
 pub slab_between-top-requires : goal.slab_between-top-requires
 slab_between-top-requires c =
-    let radius = c.corner_radius-radius in let height = c.height in let d = c.diameter-2 in
+    let radius = c.corner_radius-radius in let base = c.base in let height = c.height in let d = c.diameter-2 in
     record {
-      ordered = both_same radius.result height.result c.args.cutter.now.r c.args.cutter.now.h radius.ensures.value height.ensures.value height.ensures.valid.rounded;
+      ordered = top_within radius.result base.result height.result c.args.cutter.now radius.ensures.value base.ensures.value height.ensures.value
+          (top_ordered c.args.cutter.now height.ensures.valid);
       high = same_or_less height.result c.args.cutter.now.h 300000 height.ensures.value height.ensures.valid.height;
       wide = same_or_less d.result c.args.cutter.now.d 200000 d.ensures.value d.ensures.valid.width;
     }

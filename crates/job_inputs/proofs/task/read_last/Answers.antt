@@ -6,21 +6,21 @@ use Rattle.job_inputs.proofs.task.read_last.Goals as goal
 pub returns-in-Some-clause-gives : goal.returns-in-Some-clause-gives
 returns-in-Some-clause-gives g c =
     low_ahead (g.S.Shelf.files c.args.shelf.now) (option_map (λ name. name.now) c.args.script) c.args.program c.args.setup c.in-Some.line
-    (found_in c.args.setup.tool c.args.program.moves c.as_slice.result.now c.usual_of.result c.low_cutter.result (Some c.in-Some.line)
-    c.usual_of.ensures c.as_slice.ensures c.low_cutter.ensures c.in-Some.is)
+    (found_in c.args.setup.tool c.args.program.moves c.as_slice.result.now c.defaults_of.result c.low_cutter.result (Some c.in-Some.line)
+    c.defaults_of.ensures c.as_slice.ensures c.low_cutter.ensures c.in-Some.is)
 
 pub returns-in-Ok-clause-gives : goal.returns-in-Ok-clause-gives
 returns-in-Ok-clause-gives g c =
     task_read (option_map (λ name. name.now) c.args.script) c.args.program c.args.setup c.len-moves.result c.len-moves.ensures
-    (found_in c.args.setup.tool c.args.program.moves c.as_slice.result.now c.usual_of.result c.low_cutter.result None
-    c.usual_of.ensures c.as_slice.ensures c.low_cutter.ensures c.in_default.is)
+    (found_in c.args.setup.tool c.args.program.moves c.as_slice.result.now c.defaults_of.result c.low_cutter.result None
+    c.defaults_of.ensures c.as_slice.ensures c.low_cutter.ensures c.in_default.is)
     (g.S.Shelf.files c.args.shelf.now) c.in-Ok.script c.in-Ok.ensures.gives
 
 pub returns-in-Err-clause-gives : goal.returns-in-Err-clause-gives
 returns-in-Err-clause-gives g c =
     task_stopped (option_map (λ name. name.now) c.args.script) c.args.program c.args.setup c.len-moves.result c.len-moves.ensures
-    (found_in c.args.setup.tool c.args.program.moves c.as_slice.result.now c.usual_of.result c.low_cutter.result None
-    c.usual_of.ensures c.as_slice.ensures c.low_cutter.ensures c.in_default.is)
+    (found_in c.args.setup.tool c.args.program.moves c.as_slice.result.now c.defaults_of.result c.low_cutter.result None
+    c.defaults_of.ensures c.as_slice.ensures c.low_cutter.ensures c.in_default.is)
     (g.S.Shelf.files c.args.shelf.now) c.in-Err.stopped c.in-Err.ensures.gives
 
 pub invariant_of-result : goal.invariant_of-result
@@ -28,7 +28,7 @@ invariant_of-result g c = record {
   moves = c.requires.valid;
   few = c.requires.few;
   setup_in = c.requires.setup;
-  high = found_in c.args.setup.tool c.args.program.moves c.as_slice.result.now c.usual_of.result c.low_cutter.result None
-      c.usual_of.ensures c.as_slice.ensures c.low_cutter.ensures c.in_default.is;
+  high = found_in c.args.setup.tool c.args.program.moves c.as_slice.result.now c.defaults_of.result c.low_cutter.result None
+      c.defaults_of.ensures c.as_slice.ensures c.low_cutter.ensures c.in_default.is;
   script_in = subst (λ (n : ℕ). IsScript n c.args.setup.grid c.in-Ok.script) c.len-moves.ensures c.in-Ok.ensures.sound;
 }

@@ -1,7 +1,7 @@
 use Rattle.std.proofs.Common.{◌≡◌, ◌+◌, ◌<◌, ◌≤◌, All, List, length, replicate, rules, arith, sym, ap, ◌∙◌, subst}
 use Rattle.std.proofs.lemmas.List.{take_at}
-use Rattle.job_facts.specs.declared.counts.Counts.{Counts}
-use Rattle.job_facts.specs.Counts.{AreWithin, no_counts}
+use Rattle.job_counts.specs.declared.counts.Counts.{Counts}
+use Rattle.job_counts.specs.Counts.{AreWithin, no_counts}
 use Rattle.strip_journal.specs.Strips.{AddsFound, most_before}
 use Rattle.job_run.specs.Founds.{HaveFound, first_points}
 use Rattle.job_run.proofs.Counted.{found_added, found_all, found_none, found_room, left_many}

@@ -1,5 +1,5 @@
 use Rattle.std.proofs.Common.{◌<◌, ◌≤◌, length, rules, ◌∙◌}
-use Rattle.job_facts.specs.Totals.{plus_totals}
+use Rattle.job_counts.specs.Totals.{plus_totals}
 use Rattle.job_run.proofs.Counted.{totals_added, totals_all, totals_room}
 use Rattle.job_run.proofs.facts.last_totals.Goals as goal
 

@@ -15,3 +15,6 @@ returns-clause-asked c =
     let made = c.in_ok-plan.ensures in
     asked_of_plan c.in_ok-plan.plan c.inputs.inside.setup.grid c.inputs.inside.script.edits c.inputs.inside.script.queries
     (ap (λ (plan : PlanOf). plan.grid) made) (ap (λ (plan : PlanOf). plan.edits) made) c.inputs.invariant.script_in.queries
+
+pub returns-clause-over : goal.returns-clause-over
+returns-clause-over c = c.in_ok-bodies.ensures.over c.in_ok-plan.plan.grid

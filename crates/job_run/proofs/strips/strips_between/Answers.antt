@@ -1,4 +1,5 @@
-use Rattle.std.proofs.Common.{◌∙◌}
+-- Each closure is made for the grid of the plan.
+use Rattle.ray_shapes.proofs.Kept.{gives_on}
 use Rattle.job_run.proofs.strips.strips_between.Goals as goal
 
 pub strips_by-requires-clause-order : goal.strips_by-requires-clause-order
@@ -7,29 +8,14 @@ strips_by-requires-clause-order c = c.requires.order
 pub strips_by-requires-clause-within : goal.strips_by-requires-clause-within
 strips_by-requires-clause-within c = c.requires.within
 
-pub strips_by-requires-clause-stock_grid : goal.strips_by-requires-clause-stock_grid
-strips_by-requires-clause-stock_grid c = c.new-stock.ensures.grid ∙ c.grid-grid.ensures
+pub strips_by-requires-clause-stock : goal.strips_by-requires-clause-stock
+strips_by-requires-clause-stock c =
+    gives_on _ c.grid-grid.result.now c.args.plan.now.grid c.new-stock.result c.grid-grid.ensures c.new-stock.ensures.gives
 
-pub strips_by-requires-clause-stock_callable : goal.strips_by-requires-clause-stock_callable
-strips_by-requires-clause-stock_callable c = c.new-stock.ensures.callable
+pub strips_by-requires-clause-part : goal.strips_by-requires-clause-part
+strips_by-requires-clause-part c =
+    gives_on _ c.grid-grid.result.now c.args.plan.now.grid c.new-part.result c.grid-grid.ensures c.new-part.ensures.gives
 
-pub strips_by-requires-clause-stock_gives : goal.strips_by-requires-clause-stock_gives
-strips_by-requires-clause-stock_gives c = c.new-stock.ensures.gives
-
-pub strips_by-requires-clause-part_grid : goal.strips_by-requires-clause-part_grid
-strips_by-requires-clause-part_grid c = c.new-part.ensures.grid ∙ c.grid-grid.ensures
-
-pub strips_by-requires-clause-part_callable : goal.strips_by-requires-clause-part_callable
-strips_by-requires-clause-part_callable c = c.new-part.ensures.callable
-
-pub strips_by-requires-clause-part_gives : goal.strips_by-requires-clause-part_gives
-strips_by-requires-clause-part_gives c = c.new-part.ensures.gives
-
-pub strips_by-requires-clause-fixture_grid : goal.strips_by-requires-clause-fixture_grid
-strips_by-requires-clause-fixture_grid c = c.new-fixture.ensures.grid ∙ c.grid-grid.ensures
-
-pub strips_by-requires-clause-fixture_callable : goal.strips_by-requires-clause-fixture_callable
-strips_by-requires-clause-fixture_callable c = c.new-fixture.ensures.callable
-
-pub strips_by-requires-clause-fixture_gives : goal.strips_by-requires-clause-fixture_gives
-strips_by-requires-clause-fixture_gives c = c.new-fixture.ensures.gives
+pub strips_by-requires-clause-fixture : goal.strips_by-requires-clause-fixture
+strips_by-requires-clause-fixture c =
+    gives_on _ c.grid-grid.result.now c.args.plan.now.grid c.new-fixture.result c.grid-grid.ensures c.new-fixture.ensures.gives

@@ -12,39 +12,21 @@ pub loop-number-preserved : goal.loop-number-preserved
 loop-number-preserved g c =
     let job : Job = record {
       plan = c.args.plan.now;
-      stock = c.args.stock.now.solid;
-      part = c.args.part.now.solid;
-      fixture = c.args.fixture.now.solid;
+      stock = c.args.stock.now.solid.value;
+      part = c.args.part.now.solid.value;
+      fixture = c.args.fixture.now.solid.value;
     } in
     from_pushed job 0 c.args.from c.loop-number.number c.loop-number.strips.items c.push.new.self.items c.in_ok-of_draft.field-0
     c.loop-number.invariant c.in_ok-of_draft.ensures c.in_ok-push.ensures.items
 
-pub of_draft-requires-clause-stock_grid : goal.of_draft-requires-clause-stock_grid
-of_draft-requires-clause-stock_grid g c = c.requires.stock_grid
+pub of_draft-requires-clause-stock : goal.of_draft-requires-clause-stock
+of_draft-requires-clause-stock g c = c.requires.stock
 
-pub of_draft-requires-clause-part_grid : goal.of_draft-requires-clause-part_grid
-of_draft-requires-clause-part_grid g c = c.requires.part_grid
+pub of_draft-requires-clause-part : goal.of_draft-requires-clause-part
+of_draft-requires-clause-part g c = c.requires.part
 
-pub of_draft-requires-clause-fixture_grid : goal.of_draft-requires-clause-fixture_grid
-of_draft-requires-clause-fixture_grid g c = c.requires.fixture_grid
-
-pub of_draft-requires-clause-stock_callable : goal.of_draft-requires-clause-stock_callable
-of_draft-requires-clause-stock_callable g c = c.requires.stock_callable
-
-pub of_draft-requires-clause-part_callable : goal.of_draft-requires-clause-part_callable
-of_draft-requires-clause-part_callable g c = c.requires.part_callable
-
-pub of_draft-requires-clause-fixture_callable : goal.of_draft-requires-clause-fixture_callable
-of_draft-requires-clause-fixture_callable g c = c.requires.fixture_callable
-
-pub of_draft-requires-clause-stock_gives : goal.of_draft-requires-clause-stock_gives
-of_draft-requires-clause-stock_gives g c = c.requires.stock_gives
-
-pub of_draft-requires-clause-part_gives : goal.of_draft-requires-clause-part_gives
-of_draft-requires-clause-part_gives g c = c.requires.part_gives
-
-pub of_draft-requires-clause-fixture_gives : goal.of_draft-requires-clause-fixture_gives
-of_draft-requires-clause-fixture_gives g c = c.requires.fixture_gives
+pub of_draft-requires-clause-fixture : goal.of_draft-requires-clause-fixture
+of_draft-requires-clause-fixture g c = c.requires.fixture
 
 pub of_draft-requires-clause-number : goal.of_draft-requires-clause-number
 of_draft-requires-clause-number g c = omega (arith, c.loop-number-test.true, c.requires.within)
@@ -53,9 +35,9 @@ pub returns : goal.returns
 returns g c =
     let job : Job = record {
       plan = c.args.plan.now;
-      stock = c.args.stock.now.solid;
-      part = c.args.part.now.solid;
-      fixture = c.args.fixture.now.solid;
+      stock = c.args.stock.now.solid.value;
+      part = c.args.part.now.solid.value;
+      fixture = c.args.fixture.now.solid.value;
     } in
     let all : c.loop-number.number ≡ c.args.to = omega (arith, c.loop-number-test.false, c.loop-number.auto.number-end, c.requires.order) in
     subst (λ (n : ℕ). AreFrom job 0 c.args.from n c.loop-number.strips.items) all c.loop-number.invariant

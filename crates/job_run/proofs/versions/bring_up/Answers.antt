@@ -4,7 +4,7 @@ use Rattle.edit_plan.specs.Queries.{IsQuery}
 use Rattle.job_model.specs.Tasks.{PlanOf}
 use Rattle.turn_core.specs.World.{AreStrips}
 use Rattle.strip_turns.specs.Passes.{card}
-use Rattle.strip_turns.specs.declared.view.Card.{Card}
+use Rattle.strip_turns.specs.declared.view.BoardStart.{BoardStart}
 use Rattle.job_run.proofs.Brought.{brought_up, of_plan}
 use Rattle.job_run.proofs.versions.bring_up.Goals as goal
 
@@ -19,11 +19,11 @@ pub returns-clause-strips : goal.returns-clause-strips
 returns-clause-strips g c = λ job are.
     let board = c.in_ok-board.board in
     let named = c.in_ok-board.ensures.named in
-    let put_in = subst (λ (k : Card). AreStrips job k.strips) (sym named) are.strips_are in
+    let put_in = subst (λ (k : BoardStart). AreStrips job k.strips) (sym named) are.strips_are in
     brought_up c.args.plan job (card board) c.crew.new.pass.seat.me.0 c.args.strips.items c.in_ok-strips.strips.items are
-    (c.in_ok-strips.ensures.job job put_in) c.in_ok-strips.ensures.strips (ap (λ (k : Card). k.plan) named)
+    (c.in_ok-strips.ensures.job job put_in) c.in_ok-strips.ensures.strips (ap (λ (k : BoardStart). k.plan) named)
     c.in_ok-answers.ensures.told.crew.seen
 
 pub returns-clause-answers : goal.returns-clause-answers
 returns-clause-answers g c = λ job are.
-    c.in_ok-answers.ensures.told.answer job (subst (λ (k : Card). AreStrips job k.strips) (sym c.in_ok-board.ensures.named) are.strips_are)
+    c.in_ok-answers.ensures.told.answer job (subst (λ (k : BoardStart). AreStrips job k.strips) (sym c.in_ok-board.ensures.named) are.strips_are)

@@ -4,7 +4,7 @@ use Rattle.std.proofs.lemmas.List.Elements.{All-push}
 use Rattle.std.proofs.lemmas.List.FromFn.{map-range_with_len_more}
 use Rattle.cl_moves.specs.Moves.{IsMove}
 use Rattle.cl_moves.specs.declared.moves.Move.{Move}
-use Rattle.made_program.specs.Draws.{state_after}
+use Rattle.made_program.specs.Draws.{generator_state}
 use Rattle.made_program.specs.Made.{made_move, place_after, place_from}
 use Rattle.made_program.proofs.Drawing.{place_first, place_next, state_next}
 use Rattle.made_program.proofs.Valid.{move_valid}
@@ -28,7 +28,7 @@ loop-i-preserved c =
     let pushed : c.push.new.self ≡ c.loop-i.moves ++ made_move number i ∷ [] = c.in_ok-push.ensures.ok ∙ ap (λ move. c.loop-i.moves ++ move ∷ []) made in
     record {
       moves = pushed ∙ ap (λ (moves : List Move). moves ++ made_move number i ∷ []) c.loop-i.invariant.moves ∙ sym (map-range_with_len_more (made_move number) 0 i i (omega arith));
-      state = c.next-next.ensures.state ∙ ap (λ s. state_after 5 s) c.loop-i.invariant.state ∙ state_next number i;
+      state = c.next-next.ensures.state ∙ ap (λ s. generator_state 5 s) c.loop-i.invariant.state ∙ state_next number i;
       place = next;
       valid = subst (λ (moves : List Move). All IsMove moves) (sym pushed) (All-push IsMove c.loop-i.moves (made_move number i) c.loop-i.invariant.valid (move_valid number i));
     }

@@ -38,20 +38,20 @@ overflow_add-side c =
 
 pub loop-at-preserved : goal.loop-at-preserved
 loop-at-preserved c =
-    let t = c.args.step.now in let first = c.args.first.now in let hold = c.args.hold.now in
+    let t = c.args.step.now in let first = c.args.first.now in let test = c.args.test.now in
     let at = c.loop-at.at in let inv = c.loop-at.invariant in let fits = c.requires.fits at inv.from c.loop-at-test.true in
-    let here : is_amid_after hold first t (pos at) ≡ false =
-    sym (amid_by hold first t (pos at) _ _ c.has_place.result c.has_place.ensures inv.height_is inv.side_is) ∙ c.if-has_place.false in
+    let here : is_amid_after test first t (pos at) ≡ false =
+    sym (amid_by test first t (pos at) _ _ c.has_place.result c.has_place.ensures inv.height_is inv.side_is) ∙ c.if-has_place.false in
     record {
       from = omega (arith, inv.from);
       to = omega (arith, c.loop-at-test.true);
       height_is = (height_on first t _ at fits inv.height_is).value;
       side_is = (side_on first t _ at fits inv.side_is).value;
-      ahead = one_ahead (λ (x : ℕ). is_amid_after hold first t (pos x)) c.args.l at inv.ahead here;
+      ahead = one_ahead (λ (x : ℕ). is_amid_after test first t (pos x)) c.args.l at inv.ahead here;
     }
 
 pub returns-then-has_place-clause-there : goal.returns-then-has_place-clause-there
 returns-then-has_place-clause-there c = λ within.
     let inv = c.loop-at.invariant in
-    sym (amid_by c.args.hold.now c.args.first.now c.args.step.now (pos c.loop-at.at) _ _ c.has_place.result c.has_place.ensures inv.height_is inv.side_is)
+    sym (amid_by c.args.test.now c.args.first.now c.args.step.now (pos c.loop-at.at) _ _ c.has_place.result c.has_place.ensures inv.height_is inv.side_is)
     ∙ c.if-has_place.true

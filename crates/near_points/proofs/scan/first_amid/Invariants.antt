@@ -8,7 +8,7 @@ invariant-loop-at l = record {
   to : l.at ≤ l.m + 1;
   height_is : l.height ≡ height_at l.first l.step (pos l.at);
   side_is : l.side ≡ side_at l.first l.step (pos l.at);
-  ahead : (x : ℕ) → l.l ≤ x → x < l.at → is_amid_after l.hold l.first l.step (pos x) ≡ false;
+  ahead : (x : ℕ) → l.l ≤ x → x < l.at → is_amid_after l.test l.first l.step (pos x) ≡ false;
 }
 
 abbrev pub decreases-loop-at : goal.decreases-loop-at

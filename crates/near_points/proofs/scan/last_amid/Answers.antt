@@ -38,26 +38,26 @@ overflow_sub-side c =
 
 pub loop-at-preserved : goal.loop-at-preserved
 loop-at-preserved c =
-    let t = c.args.step.now in let first = c.args.first.now in let hold = c.args.hold.now in
+    let t = c.args.step.now in let first = c.args.first.now in let test = c.args.test.now in
     let at = c.loop-at.at in let inv = c.loop-at.invariant in let fits = c.requires.fits at inv.from inv.to in
     let some : 0 < at = omega (arith, c.loop-at-test.true) in
-    let here : is_amid_after hold first t (pos at) ≡ false =
-    sym (amid_by hold first t (pos at) _ _ c.has_place.result c.has_place.ensures inv.height_is inv.side_is) ∙ c.if-has_place.false in
+    let here : is_amid_after test first t (pos at) ≡ false =
+    sym (amid_by test first t (pos at) _ _ c.has_place.result c.has_place.ensures inv.height_is inv.side_is) ∙ c.if-has_place.false in
     record {
       from = omega (arith, c.loop-at-test.true);
       to = omega (arith, inv.to);
       height_is = (height_back first t _ at fits inv.height_is some).value;
       side_is = (side_back first t _ at fits inv.side_is some).value;
-      behind = one_behind (λ (x : ℕ). is_amid_after hold first t (pos x)) at c.args.m inv.behind here;
+      behind = one_behind (λ (x : ℕ). is_amid_after test first t (pos x)) at c.args.m inv.behind here;
     }
 
 pub returns-clause-there : goal.returns-clause-there
 returns-clause-there c =
     let e : c.args.l ≡ c.loop-at.at = omega (arith, c.loop-at.invariant.from, c.loop-at-test.false) in
-    subst (λ (x : ℕ). is_amid_after c.args.hold.now c.args.first.now c.args.step.now (pos x) ≡ true) e c.requires.amid
+    subst (λ (x : ℕ). is_amid_after c.args.test.now c.args.first.now c.args.step.now (pos x) ≡ true) e c.requires.amid
 
 pub returns-then-has_place-clause-there : goal.returns-then-has_place-clause-there
 returns-then-has_place-clause-there c =
     let inv = c.loop-at.invariant in
-    sym (amid_by c.args.hold.now c.args.first.now c.args.step.now (pos c.loop-at.at) _ _ c.has_place.result c.has_place.ensures inv.height_is inv.side_is)
+    sym (amid_by c.args.test.now c.args.first.now c.args.step.now (pos c.loop-at.at) _ _ c.has_place.result c.has_place.ensures inv.height_is inv.side_is)
     ∙ c.if-has_place.true

@@ -7,14 +7,14 @@ use Rattle.near_points.proofs.trim.is_out.Goals as goal
 
 pub returns-in-Some : goal.returns-in-Some
 returns-in-Some c = λ yes.
-    let level = c.in-Some.level.now in
+    let band = c.in-Some.band.now in
     let fh : FitsSigned w64 c.args.height = search rules in let fs : FitsSigned w64 c.args.side = search rules in
     let fw : FitsSigned w128 c.args.width = search rules in
-    let told : Contains c.args.levels.now level × (c.args.height <ℤ level.height) = simp to_z-of_z at c.in-Some.ensures in
-    let beyond : c.is_beyond.result ≡ not (is_within level c.args.side c.args.width) = simp to_z-of_z at c.is_beyond.ensures in
+    let told : Contains c.args.bands.now band × (c.args.height <ℤ band.height) = simp to_z-of_z at c.in-Some.ensures in
+    let beyond : c.is_beyond.result ≡ not (is_within band c.args.side c.args.width) = simp to_z-of_z at c.is_beyond.ensures in
     record {
-      level = level;
+      band = band;
       one = told.0;
       below = told.1;
-      beyond = not_yes (is_within level c.args.side c.args.width) c.is_beyond.result beyond yes;
+      beyond = not_yes (is_within band c.args.side c.args.width) c.is_beyond.result beyond yes;
     }

@@ -55,7 +55,7 @@ overflow_add-growth-in-loop-at c =
 
 pub returns-then-not-is_passed-clause-there : goal.returns-then-not-is_passed-clause-there
 returns-then-not-is_passed-clause-there c = λ within.
-    subst (λ (w : ℤ). int_le w c.args.hold.now.square ≡ true) c.loop-at.invariant.width_is (c.is_passed.ensures.kept c.if-not-is_passed.true)
+    subst (λ (w : ℤ). int_le w c.args.test.now.square ≡ true) c.loop-at.invariant.width_is (c.is_passed.ensures.kept c.if-not-is_passed.true)
 
 pub returns-clause-there : goal.returns-clause-there
 returns-clause-there c = λ within. let after = c.loop-at-test.false in absurd (omega (arith, within, after))
@@ -68,18 +68,18 @@ returns-clause-ahead c = λ x from to less. c.loop-at.invariant.ahead x from les
 
 pub returns-then-is_leaving-clause-ahead : goal.returns-then-is_leaving-clause-ahead
 returns-then-is_leaving-clause-ahead c = λ x from to less.
-    let t = c.args.step.now in let first = c.args.first.now in let hold = c.args.hold.now in
+    let t = c.args.step.now in let first = c.args.first.now in let test = c.args.test.now in
     let at = c.loop-at.at in let inv = c.loop-at.invariant in
-    let far = subst (λ (z : ℤ). hold.square <ℤ z) inv.width_is (c.is_leaving.ensures.far c.if-is_leaving.true) in
+    let far = subst (λ (z : ℤ). test.square <ℤ z) inv.width_is (c.is_leaving.ensures.far c.if-is_leaving.true) in
     let growing = subst (λ (z : ℤ). pos 0 ≤ℤ z) inv.growth_is (c.is_leaving.ensures.growing c.if-is_leaving.true) in
     ⊎_elim (λ (before : x < at). inv.ahead x from before)
-    (λ (on : at ≤ x). passed_on hold c.args.levels.now first t at x on far growing) (cases_lt x at)
+    (λ (on : at ≤ x). passed_on test c.args.bands.now first t at x on far growing) (cases_lt x at)
 
 pub loop-at-preserved : goal.loop-at-preserved
 loop-at-preserved c =
-    let t = c.args.step.now in let first = c.args.first.now in let hold = c.args.hold.now in let levels = c.args.levels.now in
+    let t = c.args.step.now in let first = c.args.first.now in let test = c.args.test.now in let bands = c.args.bands.now in
     let at = c.loop-at.at in let inv = c.loop-at.invariant in let fits = c.requires.fits at inv.from c.loop-at-test.true in
-    let here = passed_by hold levels first t (pos at) _ _ _ inv.height_is inv.side_is inv.width_is
+    let here = passed_by test bands first t (pos at) _ _ _ inv.height_is inv.side_is inv.width_is
     (c.is_passed.ensures.passed c.if-not-is_passed.false) in
     record {
       from = omega (arith, inv.from);
@@ -88,5 +88,5 @@ loop-at-preserved c =
       side_is = (side_on first t _ at fits inv.side_is).value;
       width_is = (width_on first t _ _ at fits inv.width_is inv.growth_is).value;
       growth_is = (growth_on first t _ at fits inv.growth_is).value;
-      ahead = each_ahead (λ (x : ℕ). IsPassedAfter hold levels first t (pos x)) c.args.l at inv.ahead here;
+      ahead = each_ahead (λ (x : ℕ). IsPassedAfter test bands first t (pos x)) c.args.l at inv.ahead here;
     }

@@ -12,7 +12,7 @@ invariant-loop-at l = record {
   side_is : l.side ≡ side_at l.first l.step (pos l.at);
   width_is : l.width ≡ width_at l.first l.step (pos l.at);
   growth_is : l.growth ≡ growth_at l.first l.step (pos l.at);
-  ahead : (x : ℕ) → l.l ≤ x → x < l.at → IsPassedAfter l.hold l.levels l.first l.step (pos x);
+  ahead : (x : ℕ) → l.l ≤ x → x < l.at → IsPassedAfter l.test l.bands l.first l.step (pos x);
 }
 
 abbrev pub decreases-loop-at : goal.decreases-loop-at

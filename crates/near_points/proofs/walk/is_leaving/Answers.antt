@@ -6,18 +6,18 @@ use mir.Syntax.{w128}
 use Rattle.space.proofs.Tests.{decides_le, decides_lt}
 use Rattle.near_points.proofs.walk.is_leaving.Goals as goal
 
-pub returns-then-hold-width-clause-far : goal.returns-then-hold-width-clause-far
-returns-then-hold-width-clause-far c = λ yes.
-    let square = c.args.hold.now.square in let fits : FitsSigned w128 square = search rules in
+pub returns-then-test-width-clause-far : goal.returns-then-test-width-clause-far
+returns-then-test-width-clause-far c = λ yes.
+    let square = c.args.test.now.square in let fits : FitsSigned w128 square = search rules in
     let told = ap₂ int_lt (to_z-of_z w128 square fits) (to_z-of_z w128 c.args.width c.ranges.width) in
-    (decides_lt square c.args.width).0 (sym told ∙ c.if-hold-width.true)
+    (decides_lt square c.args.width).0 (sym told ∙ c.if-test-width.true)
 
-pub returns-then-hold-width-clause-growing : goal.returns-then-hold-width-clause-growing
-returns-then-hold-width-clause-growing c = λ yes.
+pub returns-then-test-width-clause-growing : goal.returns-then-test-width-clause-growing
+returns-then-test-width-clause-growing c = λ yes.
     (decides_le (pos 0) c.args.growth).0 (sym (ap (int_le (pos 0)) (to_z-of_z w128 c.args.growth c.ranges.growth)) ∙ yes)
 
-pub returns-else-hold-width-clause-far : goal.returns-else-hold-width-clause-far
-returns-else-hold-width-clause-far c = λ yes. absurd (true≢false (sym yes ∙ c.if-hold-width.false))
+pub returns-else-test-width-clause-far : goal.returns-else-test-width-clause-far
+returns-else-test-width-clause-far c = λ yes. absurd (true≢false (sym yes ∙ c.if-test-width.false))
 
-pub returns-else-hold-width-clause-growing : goal.returns-else-hold-width-clause-growing
-returns-else-hold-width-clause-growing c = λ yes. absurd (true≢false (sym yes ∙ c.if-hold-width.false))
+pub returns-else-test-width-clause-growing : goal.returns-else-test-width-clause-growing
+returns-else-test-width-clause-growing c = λ yes. absurd (true≢false (sym yes ∙ c.if-test-width.false))

@@ -58,7 +58,7 @@ returns-then-not-is_passed-clause-behind c = c.loop-at.invariant.behind
 
 pub returns-then-not-is_passed-clause-there : goal.returns-then-not-is_passed-clause-there
 returns-then-not-is_passed-clause-there c =
-    subst (λ (w : ℤ). int_le w c.args.hold.now.square ≡ true) c.loop-at.invariant.width_is (c.is_passed.ensures.kept c.if-not-is_passed.true)
+    subst (λ (w : ℤ). int_le w c.args.test.now.square ≡ true) c.loop-at.invariant.width_is (c.is_passed.ensures.kept c.if-not-is_passed.true)
 
 pub returns-clause-behind : goal.returns-clause-behind
 returns-clause-behind c = c.loop-at.invariant.behind
@@ -66,14 +66,14 @@ returns-clause-behind c = c.loop-at.invariant.behind
 pub returns-clause-there : goal.returns-clause-there
 returns-clause-there c =
     let e : c.args.l ≡ c.loop-at.at = omega (arith, c.loop-at.invariant.from, c.loop-at-test.false) in
-    subst (λ (x : ℕ). is_narrow_after c.args.hold.now c.args.first.now c.args.step.now (pos x) ≡ true) e c.requires.narrow
+    subst (λ (x : ℕ). is_narrow_after c.args.test.now c.args.first.now c.args.step.now (pos x) ≡ true) e c.requires.narrow
 
 pub loop-at-preserved : goal.loop-at-preserved
 loop-at-preserved c =
-    let t = c.args.step.now in let first = c.args.first.now in let hold = c.args.hold.now in let levels = c.args.levels.now in
+    let t = c.args.step.now in let first = c.args.first.now in let test = c.args.test.now in let bands = c.args.bands.now in
     let at = c.loop-at.at in let inv = c.loop-at.invariant in let fits = c.requires.fits at inv.from inv.to in
     let some : 0 < at = omega (arith, c.loop-at-test.true) in
-    let here = passed_by hold levels first t (pos at) _ _ _ inv.height_is inv.side_is inv.width_is
+    let here = passed_by test bands first t (pos at) _ _ _ inv.height_is inv.side_is inv.width_is
     (c.is_passed.ensures.passed c.if-not-is_passed.false) in
     record {
       from = omega (arith, c.loop-at-test.true);
@@ -82,5 +82,5 @@ loop-at-preserved c =
       side_is = (side_back first t _ at fits inv.side_is some).value;
       width_is = (width_off first t _ _ at fits inv.width_is inv.rise_is some).value;
       rise_is = (rise_off first t _ at fits inv.rise_is some).value;
-      behind = one_more_behind (λ (x : ℕ). IsPassedAfter hold levels first t (pos x)) at c.args.m inv.behind here;
+      behind = one_more_behind (λ (x : ℕ). IsPassedAfter test bands first t (pos x)) at c.args.m inv.behind here;
     }

@@ -12,7 +12,7 @@ invariant-loop-at l = record {
   side_is : l.side ≡ side_at l.first l.step (pos l.at);
   width_is : l.width ≡ width_at l.first l.step (pos l.at);
   rise_is : l.rise ≡ back_at l.first l.step (pos l.at);
-  behind : (x : ℕ) → l.at < x → x ≤ l.m → IsPassedAfter l.hold l.levels l.first l.step (pos x);
+  behind : (x : ℕ) → l.at < x → x ≤ l.m → IsPassedAfter l.test l.bands l.first l.step (pos x);
 }
 
 abbrev pub decreases-loop-at : goal.decreases-loop-at

@@ -30,7 +30,7 @@ invariant_of-nearest c =
 
 pub returns-clause-wide : goal.returns-clause-wide
 returns-clause-wide c = λ yes x from to.
-    let s = c.args.first.now in let t = c.args.step.now in let hold = c.args.hold.now in
+    let s = c.args.first.now in let t = c.args.step.now in let test = c.args.test.now in
     let low = c.after-low in let high = c.after-high in let second = c.least_size in let third = c.least_size-2 in
     let p = least_by _ _ _ _ second.result (moment_bits low.result.second low.result.second_small ∙ low.ensures.second)
     (moment_bits high.result.second high.result.second_small ∙ high.ensures.second) second.ensures.least in
@@ -39,13 +39,13 @@ returns-clause-wide c = λ yes x from to.
     let width = width_kept c.width.result c.width.ensures.small ∙ c.width.ensures.value
     ∙ squares_by _ _ _ s.along second.result third.result (moment_bits s.along s.along_small) (moment_bits second.result second.ensures.small)
     (moment_bits third.result third.ensures.small) in
-    let wide = subst (λ (z : ℤ). hold.square <ℤ z) width
-    (below_if_not _ hold.square (sym c.has_width.ensures ∙ not_so c.has_width.result yes)) in
-    wide_between hold s t second.result third.result c.args.l x c.args.m from to p q wide
+    let wide = subst (λ (z : ℤ). test.square <ℤ z) width
+    (below_if_not _ test.square (sym c.has_width.ensures ∙ not_so c.has_width.result yes)) in
+    wide_between test s t second.result third.result c.args.l x c.args.m from to p q wide
 
 pub returns-clause-near : goal.returns-clause-near
 returns-clause-near c = λ no p q hp hq.
-    let s = c.args.first.now in let hold = c.args.hold.now in
+    let s = c.args.first.now in let test = c.args.test.now in
     let low = c.after-low in let high = c.after-high in let second = c.least_size in let third = c.least_size-2 in
     let p_most = second.ensures.most p (least_by _ _ _ _ p (sym (moment_bits low.result.second low.result.second_small ∙ low.ensures.second))
     (sym (moment_bits high.result.second high.result.second_small ∙ high.ensures.second)) hp) in
@@ -54,6 +54,6 @@ returns-clause-near c = λ no p q hp hq.
     let width = width_kept c.width.result c.width.ensures.small ∙ c.width.ensures.value
     ∙ squares_by _ _ _ s.along second.result third.result (moment_bits s.along s.along_small) (moment_bits second.result second.ensures.small)
     (moment_bits third.result third.ensures.small) in
-    let near = subst (λ (z : ℤ). z ≤ℤ hold.square) width
-    ((decides_le _ hold.square).0 (sym c.has_width.ensures ∙ not_not c.has_width.result no)) in
-    near_between s.along p q second.result third.result hold.square near hp.0 p_most hq.0 q_most
+    let near = subst (λ (z : ℤ). z ≤ℤ test.square) width
+    ((decides_le _ test.square).0 (sym c.has_width.ensures ∙ not_not c.has_width.result no)) in
+    near_between s.along p q second.result third.result test.square near hp.0 p_most hq.0 q_most

@@ -36,8 +36,8 @@ ends_below c =
     ends c.args.a c.args.b _ _ low.result high.result c.requires.a c.requires.b (moment_bits c.args.a c.requires.a) (moment_bits c.args.b c.requires.b)
     low.ensures.value high.ensures.value low.ensures.self_bound high.ensures.self_bound
 
-turned : (c : goal.Then-high-lt0) → pos 0 -ℤ to_z w64 (of_z w64 c.max-high.result) ≡ pos 0 -ℤ c.max-high.result
-turned c = ap (λ z. pos 0 -ℤ z) (moment_bits c.max-high.result (ends_below c).high_small)
+ray_axis_first : (c : goal.Then-high-lt0) → pos 0 -ℤ to_z w64 (of_z w64 c.max-high.result) ≡ pos 0 -ℤ c.max-high.result
+ray_axis_first c = ap (λ z. pos 0 -ℤ z) (moment_bits c.max-high.result (ends_below c).high_small)
 
 below : (c : goal.Then-high-lt0) → IsLeastOf c.min-low.result c.max-high.result (pos 0 -ℤ c.max-high.result)
 below c =
@@ -49,11 +49,11 @@ fits : (c : goal.Then-high-lt0) → FitsSigned w64 (pos 0 -ℤ c.max-high.result
 fits c = small_fits moment_limit (pos 0 -ℤ c.max-high.result) moment_fits (below c).small
 
 pub overflow_sub-result : goal.overflow_sub-result
-overflow_sub-result c = subst (FitsSigned w64) (sym (turned c)) (fits c)
+overflow_sub-result c = subst (FitsSigned w64) (sym (ray_axis_first c)) (fits c)
 
 told_below : (c : goal.Then-high-lt0) → IsLeastOf c.args.a c.args.b (to_z w64 (of_z w64 (pos 0 -ℤ to_z w64 (of_z w64 c.max-high.result))))
 told_below c =
-    subst (IsLeastOf c.args.a c.args.b) (sym (as_bits w64 _ (pos 0 -ℤ c.max-high.result) (turned c) (fits c)))
+    subst (IsLeastOf c.args.a c.args.b) (sym (as_bits w64 _ (pos 0 -ℤ c.max-high.result) (ray_axis_first c) (fits c)))
     ((ends_below c).least (pos 0 -ℤ c.max-high.result) (below c))
 
 pub returns-then-high-lt0-clause-least : goal.returns-then-high-lt0-clause-least

@@ -10,7 +10,7 @@ loop-next-preserved c = record {
   marked = grind (arith, common_steps);
   sound =
       rw c.in_ok-push.ensures.items
-      (marked_more c.args.usual.now c.args.question.now c.loop-next.marker c.args.moves.now c.loop-next.marks.items c.loop-next.next-index _ c.in_ok-mark.field-0
+      (marked_more c.args.defaults.now c.args.question.now c.loop-next.marker c.args.moves.now c.loop-next.marks.items c.loop-next.next-index _ c.in_ok-mark.field-0
       c.loop-next.invariant.same c.loop-next-test.true c.loop-next.invariant.sound c.in_ok-mark.ensures.sound);
-  high = high_behind c.args.usual.now c.args.moves.now c.loop-next.next-index record { line = 0; rapid = false; from = []; to = []; axis_from = []; axis_to = []; cutter = None } c.loop-next-test.true c.loop-next.invariant.high;
+  high = high_behind c.args.defaults.now c.args.moves.now c.loop-next.next-index record { line = 0; rapid = false; from = []; to = []; axis_from = []; axis_to = []; cutter = None } c.loop-next-test.true c.loop-next.invariant.high;
 }

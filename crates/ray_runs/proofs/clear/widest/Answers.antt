@@ -2,7 +2,7 @@ use Rattle.std.proofs.Common.{◌-◌, ◌<◌, length, FitsSigned, arith, rules
 use Rattle.std.specs.List.{All}
 use Rattle.std.proofs.lemmas.Int.{to_z-of_z}
 use mir.Syntax.{w32}
-use Rattle.ray_runs.specs.Apart.{IsNoWider}
+use Rattle.ray_runs.specs.Missed.{IsNoWider}
 use Rattle.ray_runs.proofs.ClearPoints.{all_no_wider}
 use Rattle.ray_runs.proofs.clear.widest.Goals as goal
 

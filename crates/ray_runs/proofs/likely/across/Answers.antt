@@ -3,7 +3,7 @@ use mir.Syntax.{w64}
 use mir.Val.{hbits}
 use Rattle.space.specs.Ranges.{axis_unit, metre}
 use Rattle.space.specs.Vectors.{at}
-use Rattle.box_bisect.proofs.Reread.{small_back}
+use Rattle.space.proofs.Reread.{small_back}
 use Rattle.ray_runs.specs.Sizes.{moment_limit}
 use Rattle.ray_runs.proofs.likely.across.Goals as goal
 

@@ -2,9 +2,9 @@ use Rattle.std.proofs.Common.{◌*◌, ◌<◌, ◌^◌, arith}
 use mir.Syntax.{w64, w128}
 use mir.Val.{hbits}
 use Rattle.space.specs.Vectors.{at}
-use Rattle.box_bisect.proofs.Reread.{small_back}
+use Rattle.space.proofs.Reread.{small_back}
 use Rattle.ray_runs.specs.Sizes.{moment_limit}
-use Rattle.ray_runs.proofs.Fits.{sum_fits, sums_fit, sums_small}
+use Rattle.moment_forms.proofs.Fits.{sum_fits, sums_fit, sums_small}
 use Rattle.ray_runs.proofs.likely.along.Goals as goal
 
 moment_fits : moment_limit < 2 ^ hbits w64

@@ -3,7 +3,7 @@ use mir.Syntax.{w32, w64}
 use mir.Val.{hbits}
 use Rattle.space.specs.Ranges.{axis_unit}
 use Rattle.space.specs.Vectors.{at}
-use Rattle.box_bisect.proofs.Reread.{small_back}
+use Rattle.space.proofs.Reread.{small_back}
 use Rattle.ray_runs.proofs.likely.mean_axis.Goals as goal
 
 unit_fits : axis_unit < 2 ^ hbits w32

@@ -2,7 +2,7 @@ use Rattle.std.proofs.Common.{◌*◌, ◌*ℤ◌, arith}
 use mir.Syntax.{w64}
 use Rattle.space.specs.Ranges.{axis_unit, metre}
 use Rattle.space.proofs.Naturals.{abs_mul}
-use Rattle.box_bisect.proofs.Reread.{small_as, product_fits, product_is}
+use Rattle.space.proofs.Reread.{small_as, product_fits, product_is}
 use Rattle.ray_runs.proofs.likely.product.Goals as goal
 
 pub overflow_mul-result : goal.overflow_mul-result

@@ -1,8 +1,8 @@
 use Rattle.std.proofs.Common.{◌*◌, ◌*ℤ◌, arith}
 use Rattle.space.proofs.Naturals.{abs_mul}
-use Rattle.box_bisect.proofs.Reread.{small_as}
+use Rattle.space.proofs.Reread.{small_as}
 use Rattle.ray_runs.specs.Sizes.{moment_limit}
-use Rattle.ray_runs.proofs.Fits.{wide_product_fits, wide_product_is}
+use Rattle.moment_forms.proofs.Fits.{wide_product_fits, wide_product_is}
 use Rattle.ray_runs.proofs.likely.square.Goals as goal
 
 pub overflow_mul-result : goal.overflow_mul-result

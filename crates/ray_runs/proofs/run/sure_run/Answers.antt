@@ -1,6 +1,6 @@
 use Rattle.std.proofs.Common.{◌^◌, refl, subst, ◌≤◌}
 use Rattle.ray_grid.specs.Lattice.{point_of}
-use Rattle.box_bisect.proofs.RayLines.{ray_line}
+use Rattle.ray_boxes.proofs.Lines.{ray_line}
 use Rattle.ray_runs.proofs.Runs.{are_sure}
 use Rattle.ray_runs.proofs.run.sure_run.Goals as goal
 

@@ -1,4 +1,4 @@
--- Each of the last six planes is seen to be the side that it is to be.
+-- Each of the last six planes is found to be the side that it should be.
 use Rattle.std.proofs.Common.{◌<◌, ◌-◌, ℕ, ℤ, pos, negsuc, List, length, get_or, arith, subst, sym, ◌∙◌}
 use Rattle.std.proofs.lemmas.Bool.{true≢false}
 use Rattle.std.proofs.lemmas.List.{get_or_default}

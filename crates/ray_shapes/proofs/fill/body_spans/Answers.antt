@@ -1,5 +1,5 @@
 use Rattle.std.proofs.Common.{◌∙◌, ap, List}
-use Rattle.ray_shapes.specs.declared.half_line.Interval.{Interval}
+use Rattle.ray_shapes.specs.declared.half_line.IndexRange.{IndexRange}
 use Rattle.ray_shapes.specs.Lines.{position}
 use Rattle.ray_shapes.specs.Parts.{covers_some}
 use Rattle.ray_shapes.proofs.Filled.{filled}
@@ -10,4 +10,4 @@ returns c =
     let line = c.of-line.result in
     let parts = c.deref_mut.result.now in
     filled c.cover.result c.args.grid.now c.args.ray.now c.args.bodies.now parts (λ l. position line.family line.first line.step l) line.points c.of-line.ensures.points c.of-line.ensures.position
-    (λ l. ap (λ (z : List Interval). covers_some z l) c.deref_mut.ensures.value ∙ c.in_ok-parts.ensures.exact l) c.cover.ensures.bound c.cover.ensures.covered
+    (λ l. ap (λ (z : List IndexRange). covers_some z l) c.deref_mut.ensures.value ∙ c.in_ok-parts.ensures.exact l) c.cover.ensures.bound c.cover.ensures.covered

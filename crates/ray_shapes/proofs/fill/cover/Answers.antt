@@ -2,15 +2,15 @@ use Rattle.std.proofs.Common.{◌≡◌, ◌≤◌, ◌∙◌, ℕ, rules, sym}
 use Rattle.std.proofs.lemmas.Result.{IfOk-weaker}
 use Rattle.std.proofs.lemmas.List.Sorted.{IsNonDecreasingBy-from_sort_by_key, All-permutation, list_any-IsPermutation}
 use Rattle.vf_spans.specs.Members.{has}
-use Rattle.ray_shapes.specs.declared.half_line.Interval.{Interval}
+use Rattle.ray_shapes.specs.declared.half_line.IndexRange.{IndexRange}
 use Rattle.ray_shapes.specs.Parts.{is_in, covers_some}
 use Rattle.ray_shapes.proofs.fill.cover.Goals as goal
 
 pub join-requires-clause-order : goal.join-requires-clause-order
-join-requires-clause-order c = IsNonDecreasingBy-from_sort_by_key (λ (part : Interval). part.lo) _ c.sort_unstable_by_key.ensures.sorted (λ a r f' k. search rules)
+join-requires-clause-order c = IsNonDecreasingBy-from_sort_by_key (λ (part : IndexRange). part.lo) _ c.sort_unstable_by_key.ensures.sorted (λ a r f' k. search rules)
 
 pub join-requires-clause-within : goal.join-requires-clause-within
-join-requires-clause-within c = All-permutation (λ (part : Interval). part.hi ≤ c.args.bound) _ _ c.sort_unstable_by_key.ensures.permutation c.requires
+join-requires-clause-within c = All-permutation (λ (part : IndexRange). part.hi ≤ c.args.bound) _ _ c.sort_unstable_by_key.ensures.permutation c.requires
 
 pub returns-clause-covered : goal.returns-clause-covered
 returns-clause-covered c =

@@ -1,7 +1,7 @@
 use Rattle.std.proofs.Common.{◌≡◌, ◌<◌, ◌≤◌, ◌||◌, ◌&&◌, ◌∙◌, max, leb, ltb, ℕ, get_or, List, length, arith, ap, subst, sym}
 use Rattle.std.proofs.lemmas.List.{take_all}
 use Rattle.vf_spans.specs.Members.{has}
-use Rattle.ray_shapes.specs.declared.half_line.Interval.{Interval}
+use Rattle.ray_shapes.specs.declared.half_line.IndexRange.{IndexRange}
 use Rattle.ray_shapes.specs.Parts.{covers_some}
 use Rattle.ray_shapes.proofs.Covering.{part_more, nothing_new, beyond_end, below_push, full_push, read_itself, later}
 use Rattle.ray_shapes.proofs.fill.join.Goals as goal
@@ -10,8 +10,8 @@ pub loop-part-preserved-then-lo-part : goal.loop-part-preserved-then-lo-part
 loop-part-preserved-then-lo-part c =
     let parts = c.args.parts.now in
     let k = c.loop-part.part-index in
-    let zero : Interval = record { lo = 0; hi = 0 } in
-    let part : Interval = get_or parts k zero in
+    let zero : IndexRange = record { lo = 0; hi = 0 } in
+    let part : IndexRange = get_or parts k zero in
     let inv = c.loop-part.invariant in
     let end = c.loop-part.end in
     let lt : k < length parts = c.loop-part-test.true in
@@ -37,14 +37,14 @@ push_range-requires-clause-above c = λ i t. let low = c.loop-part.invariant.bel
 pub returns-clause-covered : goal.returns-clause-covered
 returns-clause-covered c =
     λ i. c.loop-part.invariant.held i
-    ∙ ap (λ (parts : List Interval). covers_some parts i) (take_all c.loop-part.part-index c.args.parts.now c.loop-part-test.false)
+    ∙ ap (λ (parts : List IndexRange). covers_some parts i) (take_all c.loop-part.part-index c.args.parts.now c.loop-part-test.false)
 
 pub loop-part-preserved : goal.loop-part-preserved
 loop-part-preserved c =
     let parts = c.args.parts.now in
     let k = c.loop-part.part-index in
-    let zero : Interval = record { lo = 0; hi = 0 } in
-    let part : Interval = get_or parts k zero in
+    let zero : IndexRange = record { lo = 0; hi = 0 } in
+    let part : IndexRange = get_or parts k zero in
     let inv = c.loop-part.invariant in
     let end = c.loop-part.end in
     let lt : k < length parts = c.loop-part-test.true in

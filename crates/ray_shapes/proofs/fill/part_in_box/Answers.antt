@@ -1,5 +1,5 @@
 use Rattle.std.proofs.Common.{◌≡◌, ◌+◌, ◌-◌, ℕ, pos, negsuc, length, arith, subst}
-use Rattle.ray_shapes.specs.declared.half_line.Interval.{Interval}
+use Rattle.ray_shapes.specs.declared.half_line.IndexRange.{IndexRange}
 use Rattle.ray_shapes.specs.BodyParts.{IsPartOf}
 use Rattle.ray_shapes.proofs.BodyParts.{side_at}
 use Rattle.ray_shapes.proofs.fill.part_in_box.Goals as goal
@@ -10,7 +10,7 @@ returns c =
     let end = length planes in
     let sides = c.requires.sides in
     let many = sides.many in
-    let at = λ (n m : ℕ) (part : Interval) (same : n ≡ m) (is : IsPartOf planes c.args.line.now n part).
+    let at = λ (n m : ℕ) (part : IndexRange) (same : n ≡ m) (is : IsPartOf planes c.args.line.now n part).
     subst (λ (k : ℕ). IsPartOf planes c.args.line.now k part) same is in
     let with_upper_x = c.part_with-part.ensures.exact planes (end - 6)
     (side_at planes (end - 6) _ (pos 1) (pos 0) (pos 0) c.side-upper_x.result c.side-upper_x.ensures (omega (arith, many)) sides.upper_x) c.requires.part in

@@ -2,7 +2,7 @@
 use Rattle.std.proofs.Common.{◌≡◌, ◌≤◌, ◌&&◌, ◌||◌, ◌∙◌, ℕ, Bool, ltb, List, Vec, Global, ap, subst, sym, All, [], ◌∷◌, ◌++◌}
 use Rattle.std.proofs.lemmas.List.{take_all}
 use Rattle.std.proofs.lemmas.List.Elements.{All-push}
-use Rattle.ray_shapes.specs.declared.half_line.Interval.{Interval}
+use Rattle.ray_shapes.specs.declared.half_line.IndexRange.{IndexRange}
 use Rattle.ray_shapes.specs.Lines.{position}
 use Rattle.ray_shapes.specs.Parts.{is_in, covers_some}
 use Rattle.ray_shapes.specs.Planes.{in_bodies}
@@ -19,16 +19,16 @@ loop-body-preserved c =
     c.loop-body-test.true c.body-item.is (c.body_part-part.ensures.exact i) (inv.exact i) added in
     elim c.if-part.branch [
       | then-part+in_ok-push w ↦
-          let pushed : c.if-part.parts.items ≡ parts ++ part ∷ [] = ap (λ (v : Vec Interval Global). v.items) w.parts-is ∙ w.in_ok-push.ensures.items in
+          let pushed : c.if-part.parts.items ≡ parts ++ part ∷ [] = ap (λ (v : Vec IndexRange Global). v.items) w.parts-is ∙ w.in_ok-push.ensures.items in
           record {
-            within = subst (All (λ (p : Interval). p.hi ≤ line.points)) (sym pushed) (All-push (λ (p : Interval). p.hi ≤ line.points) parts part inv.within c.body_part-part.ensures.within);
-            exact = λ i. more i _ (ap (λ (ps : List Interval). covers_some ps i) pushed ∙ part_pushed parts part i);
+            within = subst (All (λ (p : IndexRange). p.hi ≤ line.points)) (sym pushed) (All-push (λ (p : IndexRange). p.hi ≤ line.points) parts part inv.within c.body_part-part.ensures.within);
+            exact = λ i. more i _ (ap (λ (ps : List IndexRange). covers_some ps i) pushed ∙ part_pushed parts part i);
           }
       | else-part w ↦
-          let same : c.if-part.parts.items ≡ parts = ap (λ (v : Vec Interval Global). v.items) w.parts-is in
+          let same : c.if-part.parts.items ≡ parts = ap (λ (v : Vec IndexRange Global). v.items) w.parts-is in
           record {
-            within = subst (All (λ (p : Interval). p.hi ≤ line.points)) (sym same) inv.within;
-            exact = λ i. more i _ (ap (λ (ps : List Interval). covers_some ps i) same ∙ empty_part i part _ w.if-part.false);
+            within = subst (All (λ (p : IndexRange). p.hi ≤ line.points)) (sym same) inv.within;
+            exact = λ i. more i _ (ap (λ (ps : List IndexRange). covers_some ps i) same ∙ empty_part i part _ w.if-part.false);
           }
     ]
 

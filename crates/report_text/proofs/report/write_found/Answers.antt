@@ -5,7 +5,7 @@ use Rattle.report_text.specs.Report.{counts_text, safe_text}
 use Rattle.report_text.proofs.report.write_found.Goals as goal
 use Rattle.report_text.proofs.report.write_found.Goals.{then-is_safe, else-is_safe}
 
--- what was written behind the head and the counts
+-- what was written after the head and the counts
 behind : {T E : Type 0} (result : Result T E) (page first mid new head counts end safe : List ℕ) → OnOk result (new ≡ mid ++ end) → mid ≡ first ++ counts → first ≡ page ++ head → end ≡ safe
     → OnOk result (new ≡ page ++ ((head ++ counts) ++ safe))
 behind (Err fault) page first mid new head counts end safe written is was last = tt

@@ -57,29 +57,11 @@ loop-number-preserved g c =
       numbers = λ k t at. (all k t at).number_is;
     }
 
-pub fresh-requires-clause-stock_callable : goal.fresh-requires-clause-stock_callable
-fresh-requires-clause-stock_callable g c = c.requires.stock_callable
+pub fresh-requires-clause-stock : goal.fresh-requires-clause-stock
+fresh-requires-clause-stock g c = c.requires.stock
 
-pub fresh-requires-clause-part_callable : goal.fresh-requires-clause-part_callable
-fresh-requires-clause-part_callable g c = c.requires.others_callable
+pub fresh-requires-clause-part : goal.fresh-requires-clause-part
+fresh-requires-clause-part g c = c.requires.others
 
-pub fresh-requires-clause-fixture_callable : goal.fresh-requires-clause-fixture_callable
-fresh-requires-clause-fixture_callable g c = c.requires.others_callable
-
-pub fresh-requires-clause-stock_gives : goal.fresh-requires-clause-stock_gives
-fresh-requires-clause-stock_gives g c = c.requires.stock_gives
-
-pub fresh-requires-clause-part_gives : goal.fresh-requires-clause-part_gives
-fresh-requires-clause-part_gives g c = c.requires.others_gives
-
-pub fresh-requires-clause-fixture_gives : goal.fresh-requires-clause-fixture_gives
-fresh-requires-clause-fixture_gives g c = c.requires.others_gives
-
-pub fresh-requires-clause-stock_grid : goal.fresh-requires-clause-stock_grid
-fresh-requires-clause-stock_grid g c = c.requires.stock_grid
-
-pub fresh-requires-clause-part_grid : goal.fresh-requires-clause-part_grid
-fresh-requires-clause-part_grid g c = c.requires.others_grid
-
-pub fresh-requires-clause-fixture_grid : goal.fresh-requires-clause-fixture_grid
-fresh-requires-clause-fixture_grid g c = c.requires.others_grid
+pub fresh-requires-clause-fixture : goal.fresh-requires-clause-fixture
+fresh-requires-clause-fixture g c = c.requires.others

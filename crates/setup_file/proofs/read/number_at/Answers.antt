@@ -1,4 +1,4 @@
--- What stands at the key and is no whole number is refused.
+-- A value at the key that is no whole number is refused.
 use Rattle.std.proofs.Common.{refl}
 use Rattle.setup_file.proofs.read.number_at.Goals as goal
 

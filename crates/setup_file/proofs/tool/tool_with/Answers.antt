@@ -14,6 +14,7 @@ invariant_of-result c =
       omega (arith, ints),
       c.requires.radius.from_least,
       omega (arith, ints),
+      omega (arith, ints),
       tool_cutter c.args.diameter c.args.radius c.args.height c.requires.diameter c.requires.radius c.requires.height c.requires.corner c.requires.rounded,
     )
 
@@ -25,4 +26,5 @@ returns-clause-valid c =
     rw (d, r, h) record {
       valid = tool_cutter c.args.diameter c.args.radius c.args.height c.requires.diameter c.requires.radius c.requires.height c.requires.corner c.requires.rounded;
       upright = refl;
+      from_tip = refl;
     }

@@ -5,6 +5,6 @@ use Rattle.strip_journal.proofs.fresh.fresh_rays.Given as goal
 
 abbrev pub invariant-loop-n : goal.invariant-loop-n
 invariant-loop-n g l = record {
-  rays : AreFreshRays l.grid l.strip l.n l.stock.solid l.part.solid l.fixture.solid l.rays;
+  rays : AreFreshRays l.grid l.strip l.n l.stock.solid.value l.part.solid.value l.fixture.solid.value l.rays;
   points : l.points ≡ stock_points l.rays;
 }

@@ -7,16 +7,16 @@ use Rattle.strip_journal.proofs.OneTurned.{one_turned}
 use Rattle.strip_journal.proofs.RaysTurned.{change_turned}
 use Rattle.strip_journal.proofs.rays.give_all.Goals as goal
 
-pub turn_ray-requires : goal.turn_ray-requires
-turn_ray-requires c =
+pub change_ray-requires : goal.change_ray-requires
+change_ray-requires c =
     let k = c.loop-change.change-index in
     change_turned c.args.rays.now c.loop-change.rays (take k c.args.changes.now) false _ c.loop-change.invariant
     (c.requires k no_change c.loop-change-test.true)
 
 pub loop-change-preserved : goal.loop-change-preserved
 loop-change-preserved c =
-    one_turned c.args.rays.now c.loop-change.rays c.turn_ray.new.rays c.args.changes.now c.loop-change.change-index false
-    c.loop-change-test.true c.loop-change.invariant c.turn_ray.ensures.others c.turn_ray.ensures.turned
+    one_turned c.args.rays.now c.loop-change.rays c.change_ray.new.rays c.args.changes.now c.loop-change.change-index false
+    c.loop-change-test.true c.loop-change.invariant c.change_ray.ensures.others c.change_ray.ensures.turned
 
 pub returns : goal.returns
 returns c =

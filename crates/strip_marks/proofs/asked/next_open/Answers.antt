@@ -1,5 +1,5 @@
 use Rattle.std.proofs.Common.{arith}
-use Rattle.near_points.specs.Rays.{near_ray_at}
+use Rattle.near_points.specs.Rays.{cylinder_ray_at}
 use Rattle.strip_marks.specs.Marks.{sets_of}
 use Rattle.strip_marks.specs.RayMarks.{IsUnasked}
 use Rattle.strip_marks.proofs.AskedWords.{unasked_left}
@@ -11,7 +11,7 @@ pub loop-n-preserved : goal.loop-n-preserved
 loop-n-preserved c =
     let a = c.args in
     let n = c.loop-n.n in
-    let near = near_ray_at a.near.now n in
+    let near = cylinder_ray_at a.near.now n in
     let d = sets_of a.rays.now n in
     let left = c.unsettled-left.result in
     let none : IsUnasked near d left =

@@ -1,8 +1,8 @@
 use Rattle.std.proofs.Common.{◌≡◌, ℕ, ◌+◌, ◌-◌, ◌*◌, ◌/◌, ◌<◌, ◌^◌, arith, sym, subst}
 use Rattle.vf_spans.specs.Words.{words_below}
-use Rattle.near_points.specs.Rays.{near_ray_at}
+use Rattle.near_points.specs.Rays.{cylinder_ray_at}
 use Rattle.dexel_rays.specs.Sets.{HaveBound}
-use Rattle.job_facts.specs.Counts.{most_count}
+use Rattle.job_counts.specs.Counts.{most_count}
 use Rattle.wanted_marks.specs.Rays.{is_possible_at, is_sure_at}
 use Rattle.strip_marks.specs.RayMarks.{Adds, AreWordsMarked}
 use Rattle.strip_marks.proofs.AtWords.{asked_of, idle_unasked}
@@ -15,7 +15,7 @@ use Rattle.strip_marks.proofs.ray.mark_words.Goals as goal
 pub mark_word-requires-clause-asked : goal.mark_word-requires-clause-asked
 mark_word-requires-clause-asked c =
     let a = c.args in
-    asked_of (near_ray_at a.near.now a.n) a.marker.now a.ray.now.sets a.first.word a.window.0 a.window.1 a.first.points c.requires.ray c.requires.window c.requires.near
+    asked_of (cylinder_ray_at a.near.now a.n) a.marker.now a.ray.now.sets a.first.word a.window.0 a.window.1 a.first.points c.requires.ray c.requires.window c.requires.near
     c.requires.first.asked
 
 pub mark_word-requires-clause-few : goal.mark_word-requires-clause-few
@@ -31,9 +31,9 @@ mark_word-requires-in-loop-window-clause-within c =
 pub mark_word-requires-in-loop-window-clause-few : goal.mark_word-requires-in-loop-window-clause-few
 mark_word-requires-in-loop-window-clause-few c = omega arith
 
-pub asked_in-points-requires-clause-on : goal.asked_in-points-requires-clause-on
-asked_in-points-requires-clause-on c =
-    near_points_on (near_ray_at c.args.near.now c.args.n) c.args.marker.now c.args.window.1 c.requires.near c.requires.window.within
+pub candidates_in-points-requires-clause-on : goal.candidates_in-points-requires-clause-on
+candidates_in-points-requires-clause-on c =
+    near_points_on (cylinder_ray_at c.args.near.now c.args.n) c.args.marker.now c.args.window.1 c.requires.near c.requires.window.within
 
 pub overflow_add-word : goal.overflow_add-word
 overflow_add-word c = omega arith
@@ -56,7 +56,7 @@ loop-window-init c =
           (adds_none a.marked.now (λ added found. AreWordsMarked d (is_sure_at r) (is_possible_at r) a.rapid a.n lo word added found)
           (idle_words d (is_sure_at r) (is_possible_at r) a.rapid c.requires.ray.ordered a.n lo word
           (subst (λ b. HaveBound b d) (sym c.requires.ray.bound.stock) c.requires.ray.bound)
-          (λ l ge lt within. idle_unasked (near_ray_at a.near.now a.n) r d a.window.0 a.window.1 l c.requires.ray c.requires.window c.requires.near within
+          (λ l ge lt within. idle_unasked (cylinder_ray_at a.near.now a.n) r d a.window.0 a.window.1 l c.requires.ray c.requires.window c.requires.near within
           (c.requires.first.ahead.none l lt))))
           c.in_ok-mark_word.ensures;
     }
@@ -64,8 +64,8 @@ loop-window-init c =
 pub mark_word-requires-in-loop-window-clause-asked : goal.mark_word-requires-in-loop-window-clause-asked
 mark_word-requires-in-loop-window-clause-asked c =
     let a = c.args in
-    asked_of (near_ray_at a.near.now a.n) a.marker.now a.ray.now.sets c.loop-window.word a.window.0 a.window.1 c.asked_in-points.result c.requires.ray c.requires.window
-    c.requires.near c.asked_in-points.ensures
+    asked_of (cylinder_ray_at a.near.now a.n) a.marker.now a.ray.now.sets c.loop-window.word a.window.0 a.window.1 c.candidates_in-points.result c.requires.ray c.requires.window
+    c.requires.near c.candidates_in-points.ensures
 
 pub mark_word-requires-in-loop-window-clause-room : goal.mark_word-requires-in-loop-window-clause-room
 mark_word-requires-in-loop-window-clause-room c =

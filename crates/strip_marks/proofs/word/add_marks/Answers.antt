@@ -1,6 +1,6 @@
 use Rattle.std.proofs.Common.{◌+◌, ◌-◌, arith, refl, sym, subst}
-use Rattle.job_facts.specs.declared.counts.Counts.{Counts}
-use Rattle.job_facts.specs.Counts.{AreWithin, most_count, no_counts, plus}
+use Rattle.job_counts.specs.declared.counts.Counts.{Counts}
+use Rattle.job_counts.specs.Counts.{AreWithin, most_count, no_counts, plus}
 use Rattle.dexel_rays.specs.WordSets.{seen_bit}
 use Rattle.strip_marks.specs.Words.{AreMarksAdded}
 use Rattle.strip_marks.proofs.AtWords.{no_delta, no_found}

@@ -1,4 +1,4 @@
--- A change is noted exactly where one of the two words isn't nought.
+-- A change is noted exactly where one of the two words isn't 0.
 use Rattle.std.proofs.Common.{◌≡◌, ℕ, ◌==◌, ◌&&◌, false, [], ◌∷◌, ◌++◌, refl, sym, ap, ap₂, ◌∙◌, append-nil, eq-eqb, ne_eqb}
 use Rattle.dexel_rays.specs.declared.word_sets.WordDelta.{WordDelta}
 use Rattle.strip_marks.specs.Words.{noted}

@@ -1,5 +1,5 @@
 use Rattle.std.proofs.Common.{◌≡◌, ◌<◌, List, ap, length, rules, subst, sym}
-use Rattle.space.specs.Motion.{Motion}
+use Rattle.space.specs.Sweeps.{SweepOf}
 use Rattle.cutter_slabs.specs.Stacks.{StacksOf}
 use Rattle.sweep_boxes.specs.declared.point_box.PointBox.{PointBox}
 use Rattle.job_model.specs.Tasks.{JobMove}
@@ -30,7 +30,7 @@ loop-n-preserved c =
     c.requires.stacks lt c.index-place.ensures c.index.ensures c.index-moves-n.is in
     let by_list = subst (λ (xs : List PointBox). Covers xs region c.index.result.now c.next.inside.sweep c.args.depth) (sym c.deref.ensures.value) c.in_ok-held.ensures in
     let by_stacks = subst (λ (s : StacksOf). Covers held region s c.next.inside.sweep c.args.depth) own by_list in
-    let covers = subst (λ (m : Motion). Covers held region (record { cutter = next.cutter; slabs = slabs }) m c.args.depth) (ap (λ (m : JobMove). m.motion) c.next.view_is) by_stacks in
+    let covers = subst (λ (m : SweepOf). Covers held region (record { cutter = next.cutter; slabs = slabs }) m c.args.depth) (ap (λ (m : JobMove). m.sweep) c.next.view_is) by_stacks in
     let more = more_boxes grid slabs c.args.depth moves c.loop-n.made.hulls.items old new c.loop-n.made.starts.items c.loop-n.n next region held c.in_ok-hull.hull c.len.result c.loop-n.invariant
     ends c.index-moves-n.is c.bounds-region.ensures.holds covers c.in_ok-hull.ensures in
     rw (c.in_ok-push.ensures.items, c.in_ok-push-2.ensures.items) more

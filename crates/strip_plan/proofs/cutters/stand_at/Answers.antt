@@ -7,8 +7,8 @@ use Rattle.cutter_slabs.specs.Stacks.{StacksOf}
 use Rattle.strip_plan.specs.Cutters.{HasSlabs, IsStackPlace}
 use Rattle.strip_plan.proofs.cutters.stand_at.Goals as goal
 
-same_size : (a b : CutterSize) → (int_eq (pos a.d) (pos b.d) && (int_eq (pos a.r) (pos b.r) && (int_eq (pos a.h) (pos b.h) && eqb a.flank b.flank))) ≡ true
-    → a ≡ b
+same_size : (a b : CutterSize)
+    → (int_eq (pos a.d) (pos b.d) && (int_eq (pos a.r) (pos b.r) && (int_eq (pos a.h) (pos b.h) && (eqb a.flank b.flank && int_eq (pos a.base) (pos b.base))))) ≡ true → a ≡ b
 same_size a b same = search rules
 
 stands : (stacks : List StacksOf) (cutter : CutterSize) (slabs place : ℕ) (read : StacksOf) → place < length stacks → read ≡ get_or stacks place read

@@ -1,5 +1,5 @@
 use Rattle.std.proofs.Common.{◌≡◌, true, ◌<◌, ◌^◌, List, ℤ, ap, length, rules, subst}
-use Rattle.space.specs.Motion.{Motion}
+use Rattle.space.specs.Sweeps.{SweepOf}
 use Rattle.cutter_marks.specs.MarkBy.{is_possible_by}
 use Rattle.cutter_slabs.specs.Stacks.{StacksOf}
 use Rattle.sweep_boxes.specs.Boxes.{IsInBox}
@@ -24,8 +24,8 @@ loop-n-preserved c depth =
     subst (λ (s : StacksOf). (p : List ℤ) → IsInBox region p → is_possible_by s.cutter s.slabs c.next.inside.sweep p (2 ^ depth) ≡ true → IsInCylinder cylinder p) own
     (λ p. c.cylinder_of.ensures p depth) in
     let held =
-    subst (λ (m : Motion). (p : List ℤ) → IsInBox region p → is_possible_by next.cutter slabs m p (2 ^ depth) ≡ true → IsInCylinder cylinder p)
-    (ap (λ (m : JobMove). m.motion) c.next.view_is) by_stacks in
+    subst (λ (m : SweepOf). (p : List ℤ) → IsInBox region p → is_possible_by next.cutter slabs m p (2 ^ depth) ≡ true → IsInCylinder cylinder p)
+    (ap (λ (m : JobMove). m.sweep) c.next.view_is) by_stacks in
     let more = more_cylinders c.args.grid.now slabs depth moves c.loop-n.cylinders.items c.loop-n.n next region cylinder (c.loop-n.invariant depth) c.index-moves-n.is
     c.bounds-region.ensures.holds held in
     rw c.in_ok-push.ensures.items more

@@ -1,12 +1,12 @@
 use Rattle.std.proofs.Common.{◌≡◌, ℕ, ◌<◌, ap, length, rules, subst}
-use Rattle.space.specs.Motion.{Motion}
+use Rattle.space.specs.Sweeps.{SweepOf}
 use Rattle.cutter_slabs.specs.Stacks.{StacksOf}
 use Rattle.wanted_marks.specs.Rays.{move_of}
 use Rattle.wanted_marks.specs.Ready.{IsReadyMove}
 use Rattle.job_model.specs.Tasks.{JobMove}
 use Rattle.strip_plan.specs.ReadyMoves.{HasReadyMoves}
 use Rattle.strip_plan.proofs.Marked.{stacks_are, stacks_within}
-use Rattle.strip_plan.proofs.Readied.{more_ready_moves}
+use Rattle.strip_plan.proofs.Tables.{more_ready_moves}
 use Rattle.strip_plan.proofs.ready_moves.ready_moves_of.Goals as goal
 
 pub loop-n-preserved : goal.loop-n-preserved
@@ -19,8 +19,8 @@ loop-n-preserved c =
     let own = stacks_are moves slabs c.args.cutters.now.stacks.items c.args.cutters.now.places.items c.loop-n.n c.index-place.result.now next c.index.result.now
     c.requires.stacks lt c.index-place.ensures c.index.ensures c.index-moves-n.is in
     let by_stacks = subst (λ (s : StacksOf). IsReadyMove c.new.result (move_of s c.next.inside.sweep depth)) own c.new.ensures in
-    let is = subst (λ (m : Motion). IsReadyMove c.new.result record { cutter = next.cutter; slabs = slabs; motion = m; depth = depth })
-    (ap (λ (m : JobMove). m.motion) c.next.view_is) by_stacks in
+    let is = subst (λ (m : SweepOf). IsReadyMove c.new.result record { cutter = next.cutter; slabs = slabs; sweep = m; depth = depth })
+    (ap (λ (m : JobMove). m.sweep) c.next.view_is) by_stacks in
     let more = more_ready_moves slabs depth moves c.args.from c.loop-n.n c.loop-n.ready.items next c.new.result c.loop-n.invariant c.index-moves-n.is is in
     rw c.in_ok-push.ensures.items more
 

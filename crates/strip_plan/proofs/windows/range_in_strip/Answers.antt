@@ -8,7 +8,7 @@ use Rattle.strip_plan.specs.declared.index_box.IndexBox.{IndexBox}
 use Rattle.strip_plan.specs.declared.strip_range.StripRange.{StripRange}
 use Rattle.strip_plan.proofs.windows.range_in_strip.Goals as goal
 
--- what a walk for the family g gives is so for the family f that was asked for, where that is g
+-- what a walk for the family g gives is so for the wanted family f, where that is g
 range_for : (f g : Family) (grid : GridSize) (which : StripRange) (range : ℕ × ℕ) → f ≡ g → IsRangeOf (count_of grid g which) range → IsRangeOf (count_of grid f which) range
 range_for f g grid which range e h = subst (λ (x : Family). IsRangeOf (count_of grid x which) range) (sym e) h
 

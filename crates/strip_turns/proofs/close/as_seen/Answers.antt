@@ -4,7 +4,7 @@ use Rattle.job_model.specs.Tasks.{PlanOf}
 use Rattle.strip_journal.specs.Strips.{StripOf}
 use Rattle.strip_turns.proofs.close.as_seen.Goals as goal
 
--- strips that are of a plan are so behind the first of them
+-- strips that are of a plan are so after the first of them
 rest_of : (plan : PlanOf) (all rest : List StripOf) (first : StripOf) → all ≡ first ∷ rest
     → ((k : ℕ) (d : StripOf) → k < length all → (slice_index_or all k d).job.plan ≡ plan)
     → (k : ℕ) (d : StripOf) → k < length rest → (slice_index_or rest k d).job.plan ≡ plan

@@ -2,9 +2,9 @@ use Rattle.std.proofs.Common.{◌≡◌, ℕ, ◌+◌, ◌<◌, ◌≤◌, lengt
 use Rattle.std.proofs.lemmas.List.{length-append}
 use Rattle.ray_grid.specs.Points.{lattice_of}
 use Rattle.ray_grid.specs.Strips.{strips_of}
-use Rattle.job_facts.specs.Counts.{most_count}
-use Rattle.job_facts.specs.declared.totals.Totals.{Totals}
-use Rattle.job_facts.specs.Totals.{TotalsWithin, plus_totals}
+use Rattle.job_counts.specs.Counts.{most_count}
+use Rattle.job_counts.specs.declared.totals.Totals.{Totals}
+use Rattle.job_counts.specs.Totals.{TotalsWithin, plus_totals}
 use Rattle.job_model.specs.Points.{left_moves, strip_points, totals_over}
 use Rattle.job_model.specs.Tasks.{PlanOf}
 use Rattle.turn_core.proofs.Parts.{first_points, first_all, first_more, first_within, totals_more, plus_within}

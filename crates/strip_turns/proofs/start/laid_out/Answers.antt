@@ -3,7 +3,7 @@ use Rattle.std.proofs.lemmas.List.{length-map}
 use Rattle.job_model.specs.Tasks.{PlanOf}
 use Rattle.strip_journal.specs.Strips.{StripOf}
 use Rattle.strip_turns.specs.Cards.{card_of}
-use Rattle.strip_turns.specs.Sound.{word_of}
+use Rattle.strip_turns.specs.Sound.{strip_word}
 use Rattle.strip_turns.specs.Views.{fresh}
 use Rattle.strip_turns.specs.Starts.{AreHome, AreWithin, card_with}
 use Rattle.strip_turns.proofs.Starting.{starts}
@@ -24,7 +24,7 @@ returns-in-Ok-clause-slots c = c.in-Ok.ensures.ok.1 ∙ ap length c.in_ok-slots.
 
 pub returns-in-Ok-clause-words : goal.returns-in-Ok-clause-words
 returns-in-Ok-clause-words c =
-    c.in-Ok.ensures.ok.0 ∙ ap length c.as_slice.ensures.value ∙ c.in_ok-words.ensures.home.many ∙ ap word_of (sym (returns-in-Ok-clause-slots c))
+    c.in-Ok.ensures.ok.0 ∙ ap length c.as_slice.ensures.value ∙ c.in_ok-words.ensures.home.many ∙ ap strip_word (sym (returns-in-Ok-clause-slots c))
 
 pub returns-in-Ok-clause-card : goal.returns-in-Ok-clause-card
 returns-in-Ok-clause-card c = ap card_of c.in-Ok.ensures.ok.5 ∙ ap₂ card_with c.of.ensures (ap (λ v. v.items) c.of-2.ensures)

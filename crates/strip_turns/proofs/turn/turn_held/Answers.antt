@@ -2,7 +2,7 @@ use Rattle.std.proofs.Common.{◌≡◌, ℕ, List, [], ◌∷◌, Option, Some,
 use Rattle.atomic_table.specs.Table.{rest}
 use Rattle.job_model.specs.Tasks.{PlanOf}
 use Rattle.strip_journal.specs.Strips.{StripOf}
-use Rattle.strip_turns.specs.Passes.{IsTaken, Worked}
+use Rattle.strip_turns.specs.Passes.{IsTakenAt, Worked}
 use Rattle.strip_turns.proofs.OutAndBack.{same_slot}
 use Rattle.strip_turns.proofs.turn.turn_held.Goals as goal
 
@@ -25,7 +25,7 @@ pub turn_slot-requires : goal.turn_slot-requires
 turn_slot-requires c =
     let t = c.requires.held in
     let same = same_slot c.args.strip (Some t.0) c.slot_mut-slot.result.now _ _ _ t.1 c.slot_mut-slot.ensures.value in
-    subst (λ x. IsSomeAnd x (IsTaken c.args.board.now.plan c.args.from)) same t.2
+    subst (λ x. IsSomeAnd x (IsTakenAt c.args.board.now.plan c.args.from)) same t.2
 
 pub returns-clause-worked : goal.returns-clause-worked
 returns-clause-worked c =

@@ -5,17 +5,17 @@ use lib.Signed.{mag}
 use mir.Syntax.{w64, w128}
 use Rattle.space.specs.Vectors.{at}
 use Rattle.space.proofs.Facts.{fits128}
-use Rattle.sweep_boxes.specs.Limits.{side_limit}
-use Rattle.sweep_boxes.proofs.Words.{small_in}
+use Rattle.space.specs.Ranges.{vector_limit}
+use Rattle.space.proofs.Words.{small_in}
 use Rattle.sweep_boxes.proofs.around.narrow.Goals as goal
 
 -- a component is small enough for 64 bits
-small_for : (z : ℤ) → unsigned_abs z ≤ side_limit → unsigned_abs (to_z w128 (of_z w128 z)) ≤ 4 * 10 ^ 18
-small_for z h = small_in z (4 * 10 ^ 18) (fits128 z side_limit h (omega arith)) (omega (arith, h))
+small_for : (z : ℤ) → unsigned_abs z ≤ vector_limit → unsigned_abs (to_z w128 (of_z w128 z)) ≤ 4 * 10 ^ 18
+small_for z h = small_in z (4 * 10 ^ 18) (fits128 z vector_limit h (omega arith)) (omega (arith, h))
 
 -- and there the same
-same_for : (x z : ℤ) → mag x < 2 ^ 63 → unsigned_abs z ≤ side_limit → x ≡ to_z w128 (of_z w128 z) → to_z w64 (of_z w64 x) ≡ z
-same_for x z fits h is = to_z-of_z w64 x (sfits_of {w = w64} {z = x} fits) ∙ is ∙ to_z-of_z w128 z (fits128 z side_limit h (omega arith))
+same_for : (x z : ℤ) → mag x < 2 ^ 63 → unsigned_abs z ≤ vector_limit → x ≡ to_z w128 (of_z w128 z) → to_z w64 (of_z w64 x) ≡ z
+same_for x z fits h is = to_z-of_z w64 x (sfits_of {w = w64} {z = x} fits) ∙ is ∙ to_z-of_z w128 z (fits128 z vector_limit h (omega arith))
 
 three_of : (v : List ℤ) (x y z : ℤ) → length v ≡ 3 → x ≡ at v 0 → y ≡ at v 1 → z ≡ at v 2 → x ∷ y ∷ z ∷ [] ≡ v
 three_of [] x y z l e f g = absurd (omega (arith, l))

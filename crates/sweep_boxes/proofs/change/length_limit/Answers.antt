@@ -2,15 +2,15 @@ use Rattle.std.proofs.Common.{◌≡◌, ◌≤ℤ◌, ℤ, arith, ◌≤◌, �
 use Rattle.std.proofs.lemmas.Int.{ints, to_z-of_z}
 use borrow.Author.Differences.{abs_is}
 use Rattle.space.specs.Vectors.{at}
-use Rattle.sweep_boxes.specs.Limits.{side_limit}
+use Rattle.space.specs.Ranges.{vector_limit}
 use Rattle.sweep_boxes.proofs.Numbers.{squares_below}
-use Rattle.sweep_boxes.proofs.Words.{at_x, at_y, at_z, fits_of, kept_small, kept_some}
+use Rattle.space.proofs.Words.{at_x, at_y, at_z, fits_of, kept_small, kept_some}
 use Rattle.sweep_boxes.proofs.change.length_limit.Goals as goal
 
 abbrev same : (z w : ℤ) → w ≡ z → z ≤ℤ w
 same z w e = omega (arith, ints, e)
 
-length_few : (z : ℤ) (n : ℕ) → z ≡ pos n → n ≤ 2 * (side_limit * side_limit) → unsigned_abs z ≤ 4 * (side_limit * side_limit)
+length_few : (z : ℤ) (n : ℕ) → z ≡ pos n → n ≤ 2 * (vector_limit * vector_limit) → unsigned_abs z ≤ 4 * (vector_limit * vector_limit)
 length_few z n e h = omega (arith, ints, e, h, abs_is z)
 
 pub length_along-requires : goal.length_along-requires

@@ -5,16 +5,16 @@ use borrow.Author.Differences.{abs_is}
 use mir.Syntax.{w128}
 use Rattle.space.specs.Vectors.{dot}
 use Rattle.space.proofs.Naturals.{dot_natural}
-use Rattle.sweep_boxes.specs.Limits.{side_limit}
-use Rattle.sweep_boxes.proofs.Words.{kept_small, read_as}
+use Rattle.space.specs.Ranges.{vector_limit}
+use Rattle.space.proofs.Words.{kept_small, read_as}
 use Rattle.sweep_boxes.proofs.cut.longer.Goals as goal
 
-last_by : (f l x y : ℤ) → f ≡ x → l ≡ y → lt_z f l ≡ true → pos 0 ≤ℤ y → unsigned_abs l ≤ 3 * (side_limit * side_limit)
-    → (x ≤ℤ l) × (y ≤ℤ l) × (pos 0 ≤ℤ l) × (l ≤ℤ pos (3 * (side_limit * side_limit)))
+last_by : (f l x y : ℤ) → f ≡ x → l ≡ y → lt_z f l ≡ true → pos 0 ≤ℤ y → unsigned_abs l ≤ 3 * (vector_limit * vector_limit)
+    → (x ≤ℤ l) × (y ≤ℤ l) × (pos 0 ≤ℤ l) × (l ≤ℤ pos (3 * (vector_limit * vector_limit)))
 last_by f l x y e g t some h = (omega (arith, ints, e, t), omega (arith, ints, g), omega (arith, ints, g, some), omega (arith, ints, h, abs_is l))
 
-first_by : (f l x y : ℤ) → f ≡ x → l ≡ y → lt_z f l ≡ false → pos 0 ≤ℤ x → unsigned_abs f ≤ 3 * (side_limit * side_limit)
-    → (x ≤ℤ f) × (y ≤ℤ f) × (pos 0 ≤ℤ f) × (f ≤ℤ pos (3 * (side_limit * side_limit)))
+first_by : (f l x y : ℤ) → f ≡ x → l ≡ y → lt_z f l ≡ false → pos 0 ≤ℤ x → unsigned_abs f ≤ 3 * (vector_limit * vector_limit)
+    → (x ≤ℤ f) × (y ≤ℤ f) × (pos 0 ≤ℤ f) × (f ≤ℤ pos (3 * (vector_limit * vector_limit)))
 first_by f l x y e g t some h = (omega (arith, ints, e), omega (arith, ints, g, t), omega (arith, ints, e, some), omega (arith, ints, h, abs_is f))
 
 pub dot-first-requires : goal.dot-first-requires

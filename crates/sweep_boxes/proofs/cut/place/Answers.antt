@@ -5,7 +5,8 @@ use borrow.Author.Differences.{abs_is}
 use Rattle.space.specs.Vectors.{at}
 use Rattle.sweep_boxes.specs.Limits.{place_limit}
 use Rattle.sweep_boxes.proofs.Numbers.{place_is}
-use Rattle.sweep_boxes.proofs.Words.{fits_of, place_fits, two_read}
+use Rattle.space.proofs.Words.{fits_of, two_read}
+use Rattle.sweep_boxes.proofs.Words.{place_fits}
 use Rattle.sweep_boxes.proofs.cut.place.Goals as goal
 
 weights_small : (x y : ℤ) (time whole : ℕ) → time ≤ whole → whole ≤ 128 → unsigned_abs x ≤ (whole - time) * place_limit

@@ -1,6 +1,6 @@
 use Rattle.std.proofs.Common.{◌≤ℤ◌, ℤ, pos, unsigned_abs}
 use Rattle.space.specs.Vectors.{at}
-use Rattle.sweep_boxes.proofs.Words.{at_x, at_y, at_z, kept, kept_small}
+use Rattle.space.proofs.Words.{at_x, at_y, at_z, kept, kept_small}
 use Rattle.sweep_boxes.proofs.offsets.farthest.Goals as goal
 
 pub farther-requires : goal.farther-requires

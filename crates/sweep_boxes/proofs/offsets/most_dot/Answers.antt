@@ -1,11 +1,11 @@
 use Rattle.std.proofs.Common.{◌<◌, ◌*◌, ◌^◌, ◌≤ℤ◌, ℤ, arith, subst, sym}
 use Rattle.space.specs.Vectors.{at, dot}
-use Rattle.sweep_boxes.specs.Limits.{side_limit}
-use Rattle.sweep_boxes.proofs.ThreeWords.{all_three_fit, all_three_small, first_two_fit}
-use Rattle.sweep_boxes.proofs.Words.{at_x, at_y, at_z, sum_most, sum_read}
+use Rattle.space.specs.Ranges.{vector_limit}
+use Rattle.space.proofs.ThreeWords.{all_three_fit, all_three_small, first_two_fit}
+use Rattle.space.proofs.Words.{at_x, at_y, at_z, sum_most, sum_read}
 use Rattle.sweep_boxes.proofs.offsets.most_dot.Goals as goal
 
-few : 3 * (side_limit * side_limit) < 2 ^ 127
+few : 3 * (vector_limit * vector_limit) < 2 ^ 127
 few = omega arith
 
 pub most_product-requires : goal.most_product-requires

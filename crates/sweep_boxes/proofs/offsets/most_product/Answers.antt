@@ -5,7 +5,7 @@ use mir.Syntax.{w128}
 use borrow.Author.Differences.{abs_is}
 use Rattle.space.specs.Vectors.{at}
 use Rattle.sweep_boxes.proofs.Numbers.{product_anti, product_mono}
-use Rattle.sweep_boxes.proofs.Words.{kept_small}
+use Rattle.space.proofs.Words.{kept_small}
 use Rattle.sweep_boxes.proofs.offsets.most_product.Goals as goal
 
 pub returns-then-a-i-lt0-clause-value : goal.returns-then-a-i-lt0-clause-value

@@ -1,4 +1,4 @@
-use Rattle.sweep_boxes.proofs.Words.{at_x, at_y, at_z, kept_small, read_as, three_same}
+use Rattle.space.proofs.Words.{at_x, at_y, at_z, kept_small, read_as, three_same}
 use Rattle.sweep_boxes.proofs.offsets.offset_from.Goals as goal
 
 pub offset_along-requires : goal.offset_along-requires

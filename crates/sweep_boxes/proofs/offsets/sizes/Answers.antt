@@ -2,14 +2,14 @@ use Rattle.std.proofs.Common.{◌≡◌, ◌≤◌, ◌≤ℤ◌, ℕ, ℤ, pos,
 use Rattle.std.proofs.lemmas.Int.{ints}
 use borrow.Author.Differences.{abs_is}
 use Rattle.space.specs.Vectors.{at}
-use Rattle.sweep_boxes.specs.Limits.{side_limit}
-use Rattle.sweep_boxes.proofs.Words.{at_x, at_y, at_z, kept, kept_small}
+use Rattle.space.specs.Ranges.{vector_limit}
+use Rattle.space.proofs.Words.{at_x, at_y, at_z, kept, kept_small}
 use Rattle.sweep_boxes.proofs.offsets.sizes.Goals as goal
 
 at_least : (z : ℤ) (n : ℕ) → z ≡ pos n → pos n ≤ℤ z
 at_least z n e = omega (arith, ints, e)
 
-length_small : (z : ℤ) (n : ℕ) → z ≡ pos n → n ≤ side_limit → unsigned_abs z ≤ side_limit
+length_small : (z : ℤ) (n : ℕ) → z ≡ pos n → n ≤ vector_limit → unsigned_abs z ≤ vector_limit
 length_small z n e h = omega (arith, ints, e, h, abs_is z)
 
 pub size-requires : goal.size-requires

@@ -3,10 +3,10 @@ use Rattle.std.proofs.lemmas.Int.{ints, to_z-of_z}
 use lib.Signed.{mag}
 use mir.Syntax.{w128}
 use borrow.Author.Differences.{abs_is}
-use Rattle.space.specs.Vectors.{dot}
-use Rattle.sweep_boxes.specs.Vectors.{difference, sum}
+use Rattle.space.specs.Vectors.{difference, dot, sum}
 use Rattle.sweep_boxes.proofs.Shortest.{difference_square, sum_square}
-use Rattle.sweep_boxes.proofs.Words.{fits_of, kept, kept_at_most, kept_small, product_small}
+use Rattle.space.proofs.Words.{fits_of, kept, kept_at_most, kept_small}
+use Rattle.sweep_boxes.proofs.Words.{product_small}
 use Rattle.sweep_boxes.proofs.shared.least_square.Goals as goal
 
 -- the numbers are small
@@ -27,13 +27,13 @@ twice_fits : (s : ℤ) (d : ℕ) → s ≡ pos d → d ≤ 27 * 10 ^ 16 → Fits
 twice_fits s d e l = omega (arith, ints, e, l)
 
 pub dot-along-requires : goal.dot-along-requires
-dot-along-requires c = record { p = c.args.piece.now.axis_within; a = c.args.piece.now.axis_within }
+dot-along-requires c = record { p = c.args.interval.now.axis_within; a = c.args.interval.now.axis_within }
 
 pub dot-turned-requires : goal.dot-turned-requires
-dot-turned-requires c = record { p = c.args.piece.now.turn_within; a = c.args.piece.now.turn_within }
+dot-turned-requires c = record { p = c.args.interval.now.axis_change_within; a = c.args.interval.now.axis_change_within }
 
 pub dot-requires : goal.dot-requires
-dot-requires c = record { p = c.args.piece.now.axis_within; a = c.args.piece.now.turn_within }
+dot-requires c = record { p = c.args.interval.now.axis_within; a = c.args.interval.now.axis_change_within }
 
 pub distance-swing-requires : goal.distance-swing-requires
 distance-swing-requires c = kept_small c.dot.result _ c.dot.type_inv (product_small (unsigned_abs c.dot.result) c.dot.ensures.small)
@@ -117,7 +117,7 @@ returns-clause-first c =
     let x = c.dot-along in let y = c.dot-turned in let d = c.dot in let s = c.distance-swing in
     let read = squares_read x.result y.result s.result d.result x.type_inv y.type_inv s.type_inv d.type_inv
     x.ensures.small y.ensures.small d.ensures.small s.ensures in
-    let a = c.args.piece.now.axis in let t = c.args.piece.now.turn in let r = c.lesser in
+    let a = c.args.interval.now.axis in let t = c.args.interval.now.axis_change in let r = c.lesser in
     let less = less_first r.result x.result y.result s.result d.result (dot a a) (dot t t) (dot a t) (dot (difference a t) (difference a t))
     x.ensures.value y.ensures.value d.ensures.value read.swing (difference_square a t) (read.sum r.result r.ensures.second) in
     kept (λ (z : ℤ). z ≤ℤ dot (difference a t) (difference a t)) r.result r.type_inv less
@@ -127,7 +127,7 @@ returns-clause-last c =
     let x = c.dot-along in let y = c.dot-turned in let d = c.dot in let s = c.distance-swing in
     let read = squares_read x.result y.result s.result d.result x.type_inv y.type_inv s.type_inv d.type_inv
     x.ensures.small y.ensures.small d.ensures.small s.ensures in
-    let a = c.args.piece.now.axis in let t = c.args.piece.now.turn in let r = c.lesser in
+    let a = c.args.interval.now.axis in let t = c.args.interval.now.axis_change in let r = c.lesser in
     let less = less_last r.result x.result y.result s.result d.result (dot a a) (dot t t) (dot a t) (dot (sum a t) (sum a t))
     x.ensures.value y.ensures.value d.ensures.value read.swing (sum_square a t) (read.sum r.result r.ensures.second) in
     kept (λ (z : ℤ). z ≤ℤ dot (sum a t) (sum a t)) r.result r.type_inv less
@@ -137,7 +137,7 @@ returns-clause-middle c =
     let x = c.dot-along in let y = c.dot-turned in let d = c.dot in let s = c.distance-swing in
     let read = squares_read x.result y.result s.result d.result x.type_inv y.type_inv s.type_inv d.type_inv
     x.ensures.small y.ensures.small d.ensures.small s.ensures in
-    let a = c.args.piece.now.axis in let t = c.args.piece.now.turn in let r = c.lesser in
+    let a = c.args.interval.now.axis in let t = c.args.interval.now.axis_change in let r = c.lesser in
     let low = read.change r.result r.ensures.first in
     let less = less_middle r.result x.result y.result (dot a a) (dot t t) x.ensures.value y.ensures.value low in
     kept (λ (z : ℤ). z ≤ℤ (dot a a -ℤ dot t t)) r.result r.type_inv less

@@ -2,16 +2,16 @@ use Rattle.std.proofs.Common.{◌≡◌, ◌≤◌, ◌≤ℤ◌, ◌-ℤ◌, �
 use Rattle.std.proofs.lemmas.Int.{ints, to_z-of_z}
 use mir.Syntax.{w128}
 use borrow.Author.Differences.{abs_is}
-use Rattle.sweep_boxes.specs.Limits.{side_limit}
-use Rattle.sweep_boxes.proofs.Words.{fits_of, kept_small, kept_some, small_in}
+use Rattle.space.specs.Ranges.{vector_limit}
+use Rattle.space.proofs.Words.{fits_of, kept_small, kept_some, small_in}
 use Rattle.sweep_boxes.proofs.side.aside.Goals as goal
 
-height_small : (a : ℤ) → unsigned_abs a ≤ side_limit → unsigned_abs a ≤ 4 * 10 ^ 18
+height_small : (a : ℤ) → unsigned_abs a ≤ vector_limit → unsigned_abs a ≤ 4 * 10 ^ 18
 height_small a h = omega (arith, h)
 
 -- what is left of the square
-rest_of : (square along part : ℤ) → along ≡ part → part ≤ℤ square → unsigned_abs square ≤ 3 * (side_limit * side_limit)
-    → unsigned_abs along ≤ 4 * 10 ^ 18 * side_limit
+rest_of : (square along part : ℤ) → along ≡ part → part ≤ℤ square → unsigned_abs square ≤ 3 * (vector_limit * vector_limit)
+    → unsigned_abs along ≤ 4 * 10 ^ 18 * vector_limit
     → FitsSigned w128 (square -ℤ along) × (pos 0 ≤ℤ (square -ℤ along)) × (unsigned_abs (square -ℤ along) ≤ 10 ^ 36)
 rest_of square along part is most h k = (
   omega (arith, ints, h, k, abs_is square, abs_is along),
@@ -21,7 +21,7 @@ rest_of square along part is most h k = (
 
 pub height_along-requires : goal.height_along-requires
 height_along-requires c = record {
-  a = small_in c.args.a side_limit c.ranges.a c.requires.a;
+  a = small_in c.args.a vector_limit c.ranges.a c.requires.a;
   height = small_in c.args.a (4 * 10 ^ 18) c.ranges.a (height_small c.args.a c.requires.a);
 }
 

@@ -1,6 +1,7 @@
 use Rattle.std.proofs.lemmas.Int.{to_z-of_z}
 use Rattle.sweep_boxes.proofs.LineEnds.{line_fits, within_words}
-use Rattle.sweep_boxes.proofs.Words.{fits32, kept_axis, kept_moment, kept_place, kept_small, kept_square}
+use Rattle.space.proofs.Words.{fits32, kept_small}
+use Rattle.sweep_boxes.proofs.Words.{kept_axis, kept_moment, kept_place, kept_square}
 use Rattle.sweep_boxes.proofs.side.ends.Goals as goal
 
 pub aside-requires : goal.aside-requires
@@ -12,7 +13,7 @@ aside-requires c =
 pub margin-margin-requires : goal.margin-margin-requires
 margin-margin-requires c = record {
   aside = kept_small c.aside.result _ c.aside.type_inv c.aside.ensures.small;
-  moment = kept_moment c.args.hold.now.moment c.args.hold.now.moment_small;
+  moment = kept_moment c.args.bounds.now.moment c.args.bounds.now.moment_small;
 }
 
 pub first_end-requires : goal.first_end-requires
@@ -37,7 +38,7 @@ pub returns-clause-first : goal.returns-clause-first
 returns-clause-first c z u held =
     let aside = c.aside in let margin = c.margin-margin in let f = fits32 c.first_end.result c.first_end.type_inv in
     let both =
-    within_words c.args.line.now c.args.hold.now aside.result margin.result z u aside.type_inv margin.type_inv
+    within_words c.args.line.now c.args.bounds.now aside.result margin.result z u aside.type_inv margin.type_inv
     aside.ensures.some aside.ensures.value margin.ensures.value held in
     simp to_z-of_z (c.first_end.ensures.value z u held.after held.before held.above held.below both.0)
 
@@ -45,6 +46,6 @@ pub returns-clause-last : goal.returns-clause-last
 returns-clause-last c z u held =
     let aside = c.aside in let margin = c.margin-margin in let f = fits32 c.last_end.result c.last_end.type_inv in
     let both =
-    within_words c.args.line.now c.args.hold.now aside.result margin.result z u aside.type_inv margin.type_inv
+    within_words c.args.line.now c.args.bounds.now aside.result margin.result z u aside.type_inv margin.type_inv
     aside.ensures.some aside.ensures.value margin.ensures.value held in
     simp to_z-of_z (c.last_end.ensures.value z u held.after held.before held.above held.below both.1)

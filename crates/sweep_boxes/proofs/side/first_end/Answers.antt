@@ -1,13 +1,14 @@
 use Rattle.std.proofs.Common.{◌≡◌, ◌≤ℤ◌, ◌*ℤ◌, ◌+ℤ◌, ◌-ℤ◌, ℤ, pos, rules}
 use Rattle.std.proofs.lemmas.Int.{to_z-of_z}
 use Rattle.sweep_boxes.specs.Limits.{place_limit}
-use Rattle.sweep_boxes.proofs.LineEnds.{bound_fits, bound_from_tip, heights_along, hold_fits, line_fits, less, margin_before, square_scaled}
+use Rattle.sweep_boxes.proofs.LineEnds.{bound_fits, bound_from_tip, heights_along, bounds_fit, line_fits, less, margin_before, square_scaled}
 use Rattle.sweep_boxes.proofs.Lined.{first_of, not_beyond}
-use Rattle.sweep_boxes.proofs.Words.{fits32, fits_of, kept, kept_place, place_fits}
+use Rattle.space.proofs.Words.{fits32, fits_of, kept}
+use Rattle.sweep_boxes.proofs.Words.{kept_place, place_fits}
 use Rattle.sweep_boxes.proofs.side.first_end.Goals as goal
 
 pub least_along-requires : goal.least_along-requires
-least_along-requires c = heights_along c.args.line.now c.args.hold.now
+least_along-requires c = heights_along c.args.line.now c.args.bounds.now
 
 pub overflow_sub-bound : goal.overflow_sub-bound
 overflow_sub-bound c =
@@ -47,14 +48,14 @@ returns-clause-value c z u after before above below far =
     let p = fits_of c.quotient-place.result c.quotient-place.type_inv in
     let r = fits32 c.first_place.result c.first_place.type_inv in
     let record { square = square; axis = axis; tip = tip; low = low; high = high } = line_fits c.args.line.now in
-    let record { least = least; most = most; moment = moment } = hold_fits c.args.hold.now in
+    let record { least = least; most = most; moment = moment } = bounds_fit c.args.bounds.now in
     let margin = c.ranges.margin in
     let x = c.least_along in
     let small = margin_before x.result c.args.margin x.type_inv c.ranges.margin x.ensures.small c.requires.margin in
     let bound = simp to_z-of_z at (bound_fits (less x.result c.args.margin) small) in
     let d_is : c.from_tip.result ≡ (c.least_along.result -ℤ c.args.margin) +ℤ c.args.line.now.tip *ℤ c.args.line.now.square = simp to_z-of_z at c.from_tip.ensures in
     let e_is : c.scaled.result ≡ pos c.args.line.now.scale *ℤ c.args.line.now.square = simp to_z-of_z at c.scaled.ensures.value in
-    let value : (u : ℤ) → c.args.hold.now.least ≤ℤ u → u ≤ℤ c.args.hold.now.most → c.least_along.result ≤ℤ (u *ℤ c.args.line.now.axis) = simp to_z-of_z at c.least_along.ensures.value in
+    let value : (u : ℤ) → c.args.bounds.now.least ≤ℤ u → u ≤ℤ c.args.bounds.now.most → c.least_along.result ≤ℤ (u *ℤ c.args.line.now.axis) = simp to_z-of_z at c.least_along.ensures.value in
     let first : (z : ℤ) → c.from_tip.result ≤ℤ (z *ℤ c.scaled.result) → c.quotient-place.result ≤ℤ z = simp to_z-of_z at c.quotient-place.ensures.first in
     let place : (z : ℤ) → c.args.line.now.low ≤ℤ z → z ≤ℤ pos place_limit → c.quotient-place.result ≤ℤ z → c.first_place.result ≤ℤ z = simp to_z-of_z at c.first_place.ensures.value in
     simp to_z-of_z (place z after (not_beyond z c.args.line.now.high before (search rules))

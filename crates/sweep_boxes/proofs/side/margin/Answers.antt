@@ -1,7 +1,7 @@
 use Rattle.std.proofs.Common.{◌*◌, ◌^◌, arith, refl}
 use Rattle.std.proofs.lemmas.Int.{to_z-of_z}
 use Rattle.space.proofs.Naturals.{abs_mul}
-use Rattle.sweep_boxes.proofs.Numbers.{product_fits}
+use Rattle.space.proofs.Facts.{product_fits}
 use Rattle.sweep_boxes.proofs.side.margin.Goals as goal
 
 pub overflow_mul-result : goal.overflow_mul-result

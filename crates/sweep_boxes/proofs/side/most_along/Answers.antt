@@ -1,7 +1,7 @@
 use Rattle.std.proofs.Common.{◌≡◌, ◌≤ℤ◌, ◌*ℤ◌, arith}
 use Rattle.std.proofs.lemmas.Int.{ints, to_z-of_z}
 use Rattle.sweep_boxes.proofs.Numbers.{product_anti, product_mono}
-use Rattle.sweep_boxes.proofs.Words.{fits_of}
+use Rattle.space.proofs.Words.{fits_of}
 use Rattle.sweep_boxes.proofs.side.most_along.Goals as goal
 
 pub returns-then-a-lt0-clause-value : goal.returns-then-a-lt0-clause-value

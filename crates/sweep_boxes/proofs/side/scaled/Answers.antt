@@ -1,14 +1,15 @@
 use Rattle.std.proofs.Common.{◌≡◌, ◌≤◌, ◌*◌, ◌≤ℤ◌, ◌*ℤ◌, ℕ, ℤ, pos, unsigned_abs, FitsSigned, arith, ap, subst, sym}
 use Rattle.std.proofs.lemmas.Int.{to_z-of_z}
 use mir.Syntax.{w128}
-use Rattle.sweep_boxes.specs.Limits.{side_limit}
-use Rattle.sweep_boxes.proofs.Numbers.{product_fits, scaled_some}
-use Rattle.sweep_boxes.proofs.Words.{fits_of}
+use Rattle.space.specs.Ranges.{vector_limit}
+use Rattle.space.proofs.Facts.{product_fits}
+use Rattle.sweep_boxes.proofs.Numbers.{scaled_some}
+use Rattle.space.proofs.Words.{fits_of}
 use Rattle.sweep_boxes.proofs.side.scaled.Goals as goal
 
-fits_product : (scale : ℕ) (x square : ℤ) → x ≡ pos scale → scale ≤ 128 → unsigned_abs square ≤ 3 * (side_limit * side_limit)
+fits_product : (scale : ℕ) (x square : ℤ) → x ≡ pos scale → scale ≤ 128 → unsigned_abs square ≤ 3 * (vector_limit * vector_limit)
     → FitsSigned w128 (x *ℤ square)
-fits_product scale x square e h k = subst (λ (z : ℤ). FitsSigned w128 (z *ℤ square)) (sym e) (product_fits (pos scale) square 128 (3 * (side_limit * side_limit)) h k (omega arith))
+fits_product scale x square e h k = subst (λ (z : ℤ). FitsSigned w128 (z *ℤ square)) (sym e) (product_fits (pos scale) square 128 (3 * (vector_limit * vector_limit)) h k (omega arith))
 
 pub overflow_mul-result : goal.overflow_mul-result
 overflow_mul-result c =

@@ -3,9 +3,9 @@ use Rattle.std.proofs.lemmas.Int.{ints, to_z-of_z}
 use Rattle.std.proofs.lemmas.List.{get_or_default}
 use mir.Syntax.{w32}
 use Rattle.bern_form.specs.Slab.{SlabSize}
-use Rattle.sweep_boxes.specs.Pieces.{IsAsLarge}
+use Rattle.sweep_boxes.specs.Intervals.{IsAsLarge}
 use Rattle.sweep_boxes.proofs.Largest.{one_more}
-use Rattle.sweep_boxes.proofs.Words.{fits32}
+use Rattle.space.proofs.Words.{fits32}
 use Rattle.sweep_boxes.proofs.size.size_of.Goals as goal
 
 pub loop-slab-preserved : goal.loop-slab-preserved

@@ -1,6 +1,6 @@
 use Rattle.std.proofs.Common.{◌<◌, ◌≤ℤ◌, ℕ, pos, get_or}
 use Rattle.bern_form.specs.Slab.{SlabSize}
-use Rattle.sweep_boxes.specs.Pieces.{IsAsLarge}
+use Rattle.sweep_boxes.specs.Intervals.{IsAsLarge}
 use Rattle.sweep_boxes.proofs.size.size_of.Given as goal
 
 abbrev pub invariant-loop-slab : goal.invariant-loop-slab

@@ -2,7 +2,7 @@ use Rattle.std.proofs.Common.{◌≤◌, ◌*◌, ◌^◌, ◌*ℤ◌, ℤ, unsi
 use Rattle.std.proofs.lemmas.Int.{to_z-of_z}
 use mir.Syntax.{w128}
 use Rattle.space.proofs.Naturals.{abs_mul, square_not_negative}
-use Rattle.sweep_boxes.proofs.Numbers.{product_fits}
+use Rattle.space.proofs.Facts.{product_fits}
 use Rattle.sweep_boxes.proofs.spread.length_square.Goals as goal
 
 fits_square : (a : ℤ) → unsigned_abs a ≤ 5 * 10 ^ 16 → FitsSigned w128 (a *ℤ a)

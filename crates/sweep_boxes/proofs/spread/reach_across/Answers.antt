@@ -1,7 +1,7 @@
 use Rattle.std.proofs.Common.{◌≡◌, ◌≤◌, ◌≤ℤ◌, ◌+ℤ◌, ◌*ℤ◌, ◌*◌, ◌^◌, ℕ, ℤ, pos, unsigned_abs, arith, subst}
 use Rattle.std.proofs.lemmas.Int.{ints, to_z-of_z}
 use borrow.Author.Differences.{abs_is}
-use Rattle.sweep_boxes.proofs.Words.{fits_of, kept_in, kept_small, kept_some, small_in}
+use Rattle.space.proofs.Words.{fits_of, kept_in, kept_small, kept_some, small_in}
 use Rattle.sweep_boxes.proofs.spread.reach_across.Goals as goal
 
 square_small : (n : ℕ) → n ≤ 25 * 10 ^ 32 → n ≤ 10 ^ 37

@@ -4,19 +4,19 @@ use mir.Syntax.{w128}
 use borrow.Author.Differences.{abs_is}
 use Rattle.space.specs.Vectors.{at}
 use Rattle.space.proofs.Naturals.{abs_mul}
-use Rattle.sweep_boxes.specs.Limits.{side_limit}
-use Rattle.sweep_boxes.proofs.Numbers.{product_fits}
-use Rattle.sweep_boxes.proofs.Words.{fits_of}
+use Rattle.space.specs.Ranges.{vector_limit}
+use Rattle.space.proofs.Facts.{product_fits}
+use Rattle.space.proofs.Words.{fits_of}
 use Rattle.sweep_boxes.proofs.spread.reach_along.Goals as goal
 
-far_small : (n : ℕ) → n ≤ side_limit → n ≤ 2 * (side_limit * side_limit)
+far_small : (n : ℕ) → n ≤ vector_limit → n ≤ 2 * (vector_limit * vector_limit)
 far_small n h = omega (arith, h)
 
 length_small : (x : ℤ) (n m : ℕ) → x ≡ pos n → n ≤ m → unsigned_abs x ≤ m
 length_small x n m e h = omega (arith, ints, e, h, abs_is x)
 
-fits_product : (x y : ℤ) → unsigned_abs x ≤ side_limit → unsigned_abs y ≤ 2 * (side_limit * side_limit) → FitsSigned w128 (x *ℤ y)
-fits_product x y h k = product_fits x y side_limit (2 * (side_limit * side_limit)) h k (omega arith)
+fits_product : (x y : ℤ) → unsigned_abs x ≤ vector_limit → unsigned_abs y ≤ 2 * (vector_limit * vector_limit) → FitsSigned w128 (x *ℤ y)
+fits_product x y h k = product_fits x y vector_limit (2 * (vector_limit * vector_limit)) h k (omega arith)
 
 product_is : (x y : ℤ) (a b : ℕ) → x ≡ pos a → y ≡ pos b → x *ℤ y ≡ pos (a * b)
 product_is x y a b e f = ap (λ z. z *ℤ y) e ∙ ap (λ z. pos a *ℤ z) f
@@ -39,5 +39,5 @@ returns c =
     let fits = fits_product x.result y.result far v in
     record {
       value = simp to_z-of_z (product_is x.result y.result _ _ x.ensures y.ensures);
-      small = simp to_z-of_z (abs_mul x.result y.result side_limit (2 * (side_limit * side_limit)) far v);
+      small = simp to_z-of_z (abs_mul x.result y.result vector_limit (2 * (vector_limit * vector_limit)) far v);
     }

@@ -1,13 +1,13 @@
 use Rattle.std.proofs.Common.{◌≤◌, ◌<◌, ◌≤ℤ◌, ◌+ℤ◌, ◌*◌, ◌+◌, ◌^◌, ℕ, ℤ, pos, unsigned_abs, arith, subst, sym, ◌∙◌}
 use Rattle.std.proofs.lemmas.Int.{ints}
 use Rattle.space.specs.Vectors.{dot}
-use Rattle.sweep_boxes.specs.Limits.{side_limit}
+use Rattle.space.specs.Ranges.{vector_limit}
 use Rattle.sweep_boxes.proofs.AlongSide.{reach_below}
-use Rattle.sweep_boxes.proofs.ThreeWords.{all_three_fit, all_three_small, first_two_fit}
-use Rattle.sweep_boxes.proofs.Words.{at_x, at_y, at_z, same_sum, sum_read}
+use Rattle.space.proofs.ThreeWords.{all_three_fit, all_three_small, first_two_fit}
+use Rattle.space.proofs.Words.{at_x, at_y, at_z, same_sum, sum_read}
 use Rattle.sweep_boxes.proofs.spread.reach_of.Goals as goal
 
-few : 3 * (side_limit * (2 * (side_limit * side_limit))) < 2 ^ 127
+few : 3 * (vector_limit * (2 * (vector_limit * vector_limit))) < 2 ^ 127
 few = omega arith
 
 as_sum : (n a b d : ℕ) → n ≤ (a + b) + d → pos n ≤ℤ ((pos a +ℤ pos b) +ℤ pos d)

@@ -4,7 +4,7 @@ use mir.Syntax.{w128}
 use Rattle.space.proofs.Facts.{fits128}
 use Rattle.space.proofs.Naturals.{abs_mul}
 use Rattle.sweep_boxes.proofs.Stepped.{length_some}
-use Rattle.sweep_boxes.proofs.Words.{fits_of, kept_small, kept_some}
+use Rattle.space.proofs.Words.{fits_of, kept_small, kept_some}
 use Rattle.sweep_boxes.proofs.spread.root_of_product.Goals as goal
 
 small_of : (square wide : ℤ) → unsigned_abs square ≤ 192 → unsigned_abs wide ≤ 35 * 10 ^ 32 → unsigned_abs (square *ℤ wide) ≤ 10 ^ 36

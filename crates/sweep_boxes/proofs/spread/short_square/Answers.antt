@@ -2,7 +2,7 @@ use Rattle.std.proofs.Common.{◌≡◌, ◌≤◌, ◌≤ℤ◌, ◌+ℤ◌, �
 use Rattle.std.proofs.lemmas.Int.{ints, to_z-of_z}
 use mir.Syntax.{w128}
 use borrow.Author.Differences.{abs_is}
-use Rattle.sweep_boxes.proofs.Words.{fits_of}
+use Rattle.space.proofs.Words.{fits_of}
 use Rattle.sweep_boxes.proofs.spread.short_square.Goals as goal
 
 -- the sums of the squares

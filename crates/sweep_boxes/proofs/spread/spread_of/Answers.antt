@@ -4,20 +4,21 @@ use mir.Syntax.{w128}
 use Rattle.sweep_boxes.specs.Held.{IsSpread}
 use Rattle.sweep_boxes.proofs.AlongSide.{spread_by}
 use Rattle.sweep_boxes.proofs.Spares.{bends_of, bent_parts, changes_of, spare_few, spare_is, spare_parts, spare_thirds}
-use Rattle.sweep_boxes.proofs.Words.{fits_of, kept, kept_small, kept_some, long_few, long_fits, long_some, scale_few, small32_in, small_up_to, summand, two_read}
+use Rattle.space.proofs.Words.{fits_of, kept, kept_small, kept_some, small32_in, two_read}
+use Rattle.sweep_boxes.proofs.Words.{long_few, long_fits, long_some, scale_few, small_up_to, summand}
 use Rattle.sweep_boxes.proofs.spread.spread_of.Goals as goal
 
-pub sizes-turn-requires : goal.sizes-turn-requires
-sizes-turn-requires c = c.args.piece.now.turn_within
+pub sizes-axis_change-requires : goal.sizes-axis_change-requires
+sizes-axis_change-requires c = c.args.interval.now.axis_change_within
 
 pub cross-requires : goal.cross-requires
-cross-requires c = record { p = c.args.piece.now.shift_within; a = c.args.piece.now.axis_within }
+cross-requires c = record { p = c.args.interval.now.offset_change_within; a = c.args.interval.now.axis_within }
 
 pub cross-requires-2 : goal.cross-requires-2
-cross-requires-2 c = record { p = c.args.piece.now.shift_within; a = c.args.piece.now.turn_within }
+cross-requires-2 c = record { p = c.args.interval.now.offset_change_within; a = c.args.interval.now.axis_change_within }
 
 pub change_limit-change-requires : goal.change_limit-change-requires
-change_limit-change-requires c = record { c = c.cross.ensures.small; far = c.requires.far; turn = c.sizes-turn.ensures.small }
+change_limit-change-requires c = record { c = c.cross.ensures.small; far = c.requires.far; axis_change = c.sizes-axis_change.ensures.small }
 
 pub length_limit-bent-requires : goal.length_limit-bent-requires
 length_limit-bent-requires c = c.cross-2.ensures.small
@@ -33,10 +34,10 @@ sum-spare-requires c =
 
 pub radius-half-requires : goal.radius-half-requires
 radius-half-requires c = record {
-  scale = scale_few c.args.piece.now.scale c.args.piece.now.scaled.1;
+  scale = scale_few c.args.interval.now.scale c.args.interval.now.scaled.1;
   length = small32_in c.args.widest _ c.ranges.widest c.requires.widest;
-  some = long_some c.args.piece.now.longest c.args.piece.now.long;
-  few = long_few c.args.piece.now.longest c.args.piece.now.long;
+  some = long_some c.args.interval.now.longest c.args.interval.now.long;
+  few = long_few c.args.interval.now.longest c.args.interval.now.long;
 }
 
 pub short_square-requires : goal.short_square-requires
@@ -53,16 +54,16 @@ reach_across-reach-requires c =
       third = kept_small third.result _ third.type_inv third.ensures.small;
     }
 
-pub stray_of-requires : goal.stray_of-requires
-stray_of-requires c = record { side = c.requires.side; far = c.requires.far }
+pub side_slack_of-requires : goal.side_slack_of-requires
+side_slack_of-requires c = record { side = c.requires.side; far = c.requires.far }
 
-stray_small : (n : ℕ) → n ≤ 10 ^ 36 → n ≤ 10 ^ 37
-stray_small n h = omega (arith, h)
+side_slack_small : (n : ℕ) → n ≤ 10 ^ 36 → n ≤ 10 ^ 37
+side_slack_small n h = omega (arith, h)
 
 pub sum-requires-2 : goal.sum-requires-2
 sum-requires-2 c =
-    let reach = c.reach_across-reach in let stray = c.stray_of in
-    record { a = summand reach.result reach.type_inv reach.ensures.small; b = kept_small stray.result _ stray.type_inv (stray_small (unsigned_abs stray.result) stray.ensures.small) }
+    let reach = c.reach_across-reach in let side_slack = c.side_slack_of in
+    record { a = summand reach.result reach.type_inv reach.ensures.small; b = kept_small side_slack.result _ side_slack.type_inv (side_slack_small (unsigned_abs side_slack.result) side_slack.ensures.small) }
 
 pub third_of_square-requires : goal.third_of_square-requires
 third_of_square-requires c =
@@ -78,20 +79,20 @@ whole_some whole a b e h k = omega (arith, ints, e, h, k)
 
 pub returns-clause-some : goal.returns-clause-some
 returns-clause-some c =
-    let reach = c.reach_across-reach in let stray = c.stray_of in let whole = c.sum-2 in
+    let reach = c.reach_across-reach in let side_slack = c.side_slack_of in let whole = c.sum-2 in
     let a = fits_of reach.result reach.type_inv in
-    let b = fits_of stray.result stray.type_inv in
+    let b = fits_of side_slack.result side_slack.type_inv in
     let d = fits_of whole.result whole.type_inv in
-    let whole_is : whole.result ≡ reach.result +ℤ stray.result = whole.ensures.value ∙ two_read reach.result stray.result reach.type_inv stray.type_inv in
-    let some = whole_some whole.result reach.result stray.result whole_is reach.ensures.some stray.ensures.some in
+    let whole_is : whole.result ≡ reach.result +ℤ side_slack.result = whole.ensures.value ∙ two_read reach.result side_slack.result reach.type_inv side_slack.type_inv in
+    let some = whole_some whole.result reach.result side_slack.result whole_is reach.ensures.some side_slack.ensures.some in
     kept_some whole.result whole.type_inv some
 
 pub returns-clause-value : goal.returns-clause-value
 returns-clause-value c = λ small.
-    let piece = c.args.piece.now in let side = c.args.side.now in let far = c.args.far.now in
+    let interval = c.args.interval.now in let side = c.args.side.now in let far = c.args.far.now in
     let half = c.radius-half in let change = c.change_limit-change in let bent = c.length_limit-bent in
     let two = c.sum in let spare = c.sum-spare in let third = c.third_of_square in let short = c.short_square in
-    let reach = c.reach_across-reach in let stray = c.stray_of in let whole = c.sum-2 in
+    let reach = c.reach_across-reach in let side_slack = c.side_slack_of in let whole = c.sum-2 in
     let f0 = fits_of half.result half.type_inv in
     let f1 = fits_of change.result change.type_inv in
     let f2 = fits_of bent.result bent.type_inv in
@@ -100,17 +101,17 @@ returns-clause-value c = λ small.
     let f5 = fits_of third.result third.type_inv in
     let f6 = fits_of short.result short.type_inv in
     let f7 = fits_of reach.result reach.type_inv in
-    let f8 = fits_of stray.result stray.type_inv in
+    let f8 = fits_of side_slack.result side_slack.type_inv in
     let f9 = fits_of whole.result whole.type_inv in
     let w = c.ranges.widest in
-    let l = long_fits piece.longest piece.long.0 piece.long.1 in
+    let l = long_fits interval.longest interval.long.0 interval.long.1 in
     let is =
     spare_is change.result bent.result two.result spare.result change.type_inv bent.type_inv two.type_inv
     two.ensures.value spare.ensures.value in
-    let whole_is : whole.result ≡ reach.result +ℤ stray.result = whole.ensures.value ∙ two_read reach.result stray.result reach.type_inv stray.type_inv in
+    let whole_is : whole.result ≡ reach.result +ℤ side_slack.result = whole.ensures.value ∙ two_read reach.result side_slack.result reach.type_inv side_slack.type_inv in
     let rooted : (short.result *ℤ (half.result *ℤ half.result +ℤ third.result)) ≤ℤ (reach.result *ℤ reach.result) = simp to_z-of_z at reach.ensures.value in
-    let spread : IsSpread whole.result side piece c.args.widest far =
-    spread_by whole.result half.result change.result bent.result third.result reach.result stray.result piece c.args.widest side far
+    let spread : IsSpread whole.result side interval c.args.widest far =
+    spread_by whole.result half.result change.result bent.result third.result reach.result side_slack.result interval c.args.widest side far
     record {
       across_is = whole_is;
       change_some = change.ensures.some;
@@ -119,11 +120,11 @@ returns-clause-value c = λ small.
       reach_some = reach.ensures.some;
       wide = simp to_z-of_z at half.ensures.value;
       changes =
-          changes_of piece far c.cross.result c.sizes-turn.result change.result
-          c.cross.ensures.value c.sizes-turn.ensures.value change.ensures.value;
-      bends = bends_of piece c.cross-2.result bent.result c.cross-2.ensures.value bent.ensures.value;
+          changes_of interval far c.cross.result c.sizes-axis_change.result change.result
+          c.cross.ensures.value c.sizes-axis_change.ensures.value change.ensures.value;
+      bends = bends_of interval c.cross-2.result bent.result c.cross-2.ensures.value bent.ensures.value;
       thirds = spare_thirds spare.result _ third.result spare.type_inv is third.ensures.value;
       root = subst (λ (z : ℤ). (z *ℤ (half.result *ℤ half.result +ℤ third.result)) ≤ℤ (reach.result *ℤ reach.result)) short.ensures.value rooted;
-      strays = stray.ensures.value;
+      side_slacks = side_slack.ensures.value;
     } in
-    kept (λ (z : ℤ). IsSpread z side piece c.args.widest far) whole.result whole.type_inv spread
+    kept (λ (z : ℤ). IsSpread z side interval c.args.widest far) whole.result whole.type_inv spread

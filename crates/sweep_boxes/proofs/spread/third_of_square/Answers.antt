@@ -3,7 +3,7 @@ use Rattle.std.proofs.lemmas.Int.{ints, to_z-of_z}
 use mir.Syntax.{w128}
 use borrow.Author.Differences.{abs_is}
 use Rattle.sweep_boxes.proofs.AlongSide.{third_up}
-use Rattle.sweep_boxes.proofs.Words.{fits_of, small_in}
+use Rattle.space.proofs.Words.{fits_of, small_in}
 use Rattle.sweep_boxes.proofs.spread.third_of_square.Goals as goal
 
 third_some : (q n : ℤ) → ((p : ℤ) → (p *ℤ pos 3) ≤ℤ n → p ≤ℤ q) → pos 0 ≤ℤ n → pos 0 ≤ℤ q

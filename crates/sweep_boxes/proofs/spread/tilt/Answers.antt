@@ -1,10 +1,11 @@
 use Rattle.std.proofs.Common.{◌<◌, ◌*◌, ◌^◌, arith, ◌∙◌}
-use Rattle.sweep_boxes.specs.Limits.{aim_limit, side_limit}
-use Rattle.sweep_boxes.proofs.ThreeWords.{all_three_fit, all_three_small, first_two_fit}
-use Rattle.sweep_boxes.proofs.Words.{at_x, at_y, at_z, same_sum, sum_read}
+use Rattle.sweep_boxes.specs.Limits.{side_component_limit}
+use Rattle.space.specs.Ranges.{vector_limit}
+use Rattle.space.proofs.ThreeWords.{all_three_fit, all_three_small, first_two_fit}
+use Rattle.space.proofs.Words.{at_x, at_y, at_z, same_sum, sum_read}
 use Rattle.sweep_boxes.proofs.spread.tilt.Goals as goal
 
-few : 3 * (aim_limit * (2 * (side_limit * side_limit))) < 2 ^ 127
+few : 3 * (side_component_limit * (2 * (vector_limit * vector_limit))) < 2 ^ 127
 few = omega arith
 
 pub share-requires : goal.share-requires

@@ -2,8 +2,8 @@ use Rattle.std.proofs.Common.{◌+◌, ◌<◌, rules, length, arith, refl, sym,
 use Rattle.std.proofs.lemmas.List.{length-map}
 use Rattle.ray_grid.specs.Points.{lattice_of}
 use Rattle.ray_grid.specs.Strips.{strips_of}
-use Rattle.job_facts.specs.Counts.{most_count}
-use Rattle.job_facts.specs.Totals.{TotalsWithin, plus_totals}
+use Rattle.job_counts.specs.Counts.{most_count}
+use Rattle.job_counts.specs.Totals.{TotalsWithin, plus_totals}
 use Rattle.job_model.specs.Points.{left_moves, strip_points, totals_over}
 use Rattle.strip_journal.specs.Strips.{StripOf}
 use Rattle.turn_core.specs.World.{versions_of}

@@ -1,5 +1,5 @@
 use Rattle.std.proofs.Common.{◌≡◌, length, map, max}
-use Rattle.job_facts.specs.Totals.{TotalsWithin}
+use Rattle.job_counts.specs.Totals.{TotalsWithin}
 use Rattle.job_model.specs.Points.{left_moves, totals_over}
 use Rattle.job_model.specs.Tasks.{Job}
 use Rattle.turn_core.specs.World.{AreBetween, AreOfPlan, AreStrips, versions_of}

@@ -3,7 +3,8 @@ use Rattle.std.proofs.lemmas.Option.{slice_get_within}
 use Rattle.ray_grid.specs.Grids.{GridSize}
 use Rattle.ray_grid.specs.Strips.{strip_at}
 use Rattle.ray_grid.proofs.Rows.{only_place}
-use Rattle.job_model.specs.Points.{left_moves, point_in, state_after}
+use Rattle.ray_grid.specs.Points.{point_in}
+use Rattle.job_model.specs.Points.{left_moves, state_after}
 use Rattle.job_model.specs.Tasks.{Job}
 use Rattle.strip_journal.specs.Strips.{StripOf}
 use Rattle.turn_core.specs.World.{AreBetween, versions_of}

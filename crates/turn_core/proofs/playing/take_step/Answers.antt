@@ -2,7 +2,7 @@ use Rattle.std.proofs.Common.{◌+◌, List, [], ◌∷◌, ◌++◌, ℕ, lengt
 use Rattle.std.proofs.lemmas.List.{append-nil, get_or_default}
 use Rattle.edit_plan.specs.declared.query.Ask.TheVariants.{Count}
 use Rattle.edit_plan.specs.declared.query.Query.{Query}
-use Rattle.job_facts.specs.declared.totals.Answer.{Answer}
+use Rattle.job_counts.specs.declared.totals.Answer.{Answer}
 use Rattle.job_model.specs.Tasks.{Job}
 use Rattle.turn_core.specs.declared.step.Step.{Step}
 use Rattle.turn_core.specs.World.{AreBetween, AreStrips, AreStripsAt, IsStepOf, after_ask, after_step, answer_of, answers_to, versions_of}

@@ -3,7 +3,7 @@ use Rattle.std.specs.List.{All}
 use Rattle.std.proofs.lemmas.Int.{to_z-of_z}
 use Rattle.std.proofs.lemmas.List.Elements.{All-weaker}
 use mir.Syntax.{w32}
-use Rattle.ray_runs.specs.Apart.{IsNoWider as IsNarrow}
+use Rattle.ray_runs.specs.Missed.{IsNoWider as IsNarrow}
 use Rattle.ray_runs.proofs.ClearPoints.{all_no_wider}
 use Rattle.wanted_marks.specs.Limits.{IsNoWider}
 use Rattle.wanted_marks.proofs.limits.greatest_diameter.Goals as goal

@@ -1,26 +1,26 @@
 use Rattle.std.proofs.Common.{◌≡◌, ℤ, pos, ◌*◌, ◌*ℤ◌, FitsSigned, to_z, of_z, ap, ◌∙◌}
 use Rattle.std.proofs.lemmas.Int.{to_z-of_z}
 use mir.Syntax.{w128}
-use Rattle.box_bisect.proofs.Reread.{small_back}
-use Rattle.ray_runs.specs.Sizes.{turn_limit}
-use Rattle.ray_runs.proofs.Fits.{all_fit}
-use Rattle.ray_runs.proofs.StretchTests.{five_same}
+use Rattle.space.proofs.Reread.{small_back}
+use Rattle.moment_forms.specs.Sizes.{moments_limit}
+use Rattle.moment_forms.proofs.Fits.{all_fit}
+use Rattle.moment_forms.proofs.Middle.{five_same}
 use Rattle.wanted_marks.proofs.moments.eight_products.Goals as goal
 
 pub eight-requires : goal.eight-requires
-eight-requires c = small_back w128 c.times.result (9 * (turn_limit * turn_limit)) all_fit c.times.ensures.small
+eight-requires c = small_back w128 c.times.result (9 * (moments_limit * moments_limit)) all_fit c.times.ensures.small
 
 pub eight-requires-2 : goal.eight-requires-2
-eight-requires-2 c = small_back w128 c.times-2.result (9 * (turn_limit * turn_limit)) all_fit c.times-2.ensures.small
+eight-requires-2 c = small_back w128 c.times-2.result (9 * (moments_limit * moments_limit)) all_fit c.times-2.ensures.small
 
 pub eight-requires-3 : goal.eight-requires-3
-eight-requires-3 c = small_back w128 c.times-3.result (9 * (turn_limit * turn_limit)) all_fit c.times-3.ensures.small
+eight-requires-3 c = small_back w128 c.times-3.result (9 * (moments_limit * moments_limit)) all_fit c.times-3.ensures.small
 
 pub eight-requires-4 : goal.eight-requires-4
-eight-requires-4 c = small_back w128 c.times-4.result (9 * (turn_limit * turn_limit)) all_fit c.times-4.ensures.small
+eight-requires-4 c = small_back w128 c.times-4.result (9 * (moments_limit * moments_limit)) all_fit c.times-4.ensures.small
 
 pub eight-requires-5 : goal.eight-requires-5
-eight-requires-5 c = small_back w128 c.times-5.result (9 * (turn_limit * turn_limit)) all_fit c.times-5.ensures.small
+eight-requires-5 c = small_back w128 c.times-5.result (9 * (moments_limit * moments_limit)) all_fit c.times-5.ensures.small
 
 eight_is : (x y z : ℤ) → FitsSigned w128 x → FitsSigned w128 y → y ≡ z → x ≡ pos 8 *ℤ to_z w128 (of_z w128 y) → to_z w128 (of_z w128 x) ≡ pos 8 *ℤ z
 eight_is x y z hx hy e is = to_z-of_z w128 x hx ∙ is ∙ ap (λ t. pos 8 *ℤ t) (to_z-of_z w128 y hy ∙ e)

@@ -2,15 +2,15 @@ use Rattle.std.proofs.Common.{◌≤◌, ◌*◌, pos, FitsSigned, arith, rules}
 use mir.Syntax.{w64}
 use Rattle.space.specs.Vectors.{at}
 use Rattle.bern_form.specs.Sizes.{axis_limit, offset_limit}
-use Rattle.ray_runs.specs.Sizes.{turn_limit}
-use Rattle.ray_runs.proofs.StretchTests.{three_same}
+use Rattle.moment_forms.specs.Sizes.{moments_limit}
+use Rattle.moment_forms.proofs.Middle.{three_same}
 use Rattle.wanted_marks.proofs.Small.{linear_is, linear_within}
 use Rattle.wanted_marks.proofs.moments.heights_moved.Goals as goal
 
-outer_within : 3 * (offset_limit * axis_limit) ≤ 2 * turn_limit
+outer_within : 3 * (offset_limit * axis_limit) ≤ 2 * moments_limit
 outer_within = omega arith
 
-middle_within : 2 * (3 * (offset_limit * axis_limit)) ≤ 2 * turn_limit
+middle_within : 2 * (3 * (offset_limit * axis_limit)) ≤ 2 * moments_limit
 middle_within = omega arith
 
 pub linear-requires : goal.linear-requires
@@ -18,21 +18,21 @@ linear-requires c =
     let a = c.args.a.now in let b = c.args.b.now in
     let f : FitsSigned w64 (at a 0) = search rules in
     let g : FitsSigned w64 (at b 0) = search rules in
-    linear_within w64 (at a 0) (at b 0) (pos c.args.j) (3 * (offset_limit * axis_limit)) (2 * turn_limit) f g outer_within c.requires.first
+    linear_within w64 (at a 0) (at b 0) (pos c.args.j) (3 * (offset_limit * axis_limit)) (2 * moments_limit) f g outer_within c.requires.first
 
 pub linear-requires-2 : goal.linear-requires-2
 linear-requires-2 c =
     let a = c.args.a.now in let b = c.args.b.now in
     let f : FitsSigned w64 (at a 1) = search rules in
     let g : FitsSigned w64 (at b 1) = search rules in
-    linear_within w64 (at a 1) (at b 1) (pos c.args.j) (2 * (3 * (offset_limit * axis_limit))) (2 * turn_limit) f g middle_within c.requires.middle
+    linear_within w64 (at a 1) (at b 1) (pos c.args.j) (2 * (3 * (offset_limit * axis_limit))) (2 * moments_limit) f g middle_within c.requires.middle
 
 pub linear-requires-3 : goal.linear-requires-3
 linear-requires-3 c =
     let a = c.args.a.now in let b = c.args.b.now in
     let f : FitsSigned w64 (at a 2) = search rules in
     let g : FitsSigned w64 (at b 2) = search rules in
-    linear_within w64 (at a 2) (at b 2) (pos c.args.j) (3 * (offset_limit * axis_limit)) (2 * turn_limit) f g outer_within c.requires.last
+    linear_within w64 (at a 2) (at b 2) (pos c.args.j) (3 * (offset_limit * axis_limit)) (2 * moments_limit) f g outer_within c.requires.last
 
 pub returns : goal.returns
 returns c =

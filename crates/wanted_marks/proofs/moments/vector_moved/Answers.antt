@@ -1,12 +1,12 @@
 use Rattle.std.proofs.Common.{◌≤◌, ◌*◌, ℤ, pos, unsigned_abs, FitsSigned, arith, rules, subst, sym}
 use mir.Syntax.{w64}
 use Rattle.space.specs.Vectors.{at}
-use Rattle.ray_runs.specs.Sizes.{turn_limit}
-use Rattle.ray_runs.proofs.StretchTests.{three_same}
+use Rattle.moment_forms.specs.Sizes.{moments_limit}
+use Rattle.moment_forms.proofs.Middle.{three_same}
 use Rattle.wanted_marks.proofs.Small.{linear_is, linear_within}
 use Rattle.wanted_marks.proofs.moments.vector_moved.Goals as goal
 
-twice_more : turn_limit ≤ 2 * turn_limit
+twice_more : moments_limit ≤ 2 * moments_limit
 twice_more = omega arith
 
 pub linear-requires : goal.linear-requires
@@ -14,21 +14,21 @@ linear-requires c =
     let a = c.args.a.now in let b = c.args.b.now in
     let f : FitsSigned w64 (at a 0) = search rules in
     let g : FitsSigned w64 (at b 0) = search rules in
-    linear_within w64 (at a 0) (at b 0) (pos c.args.j) turn_limit (2 * turn_limit) f g twice_more c.requires.0
+    linear_within w64 (at a 0) (at b 0) (pos c.args.j) moments_limit (2 * moments_limit) f g twice_more c.requires.0
 
 pub linear-requires-2 : goal.linear-requires-2
 linear-requires-2 c =
     let a = c.args.a.now in let b = c.args.b.now in
     let f : FitsSigned w64 (at a 1) = search rules in
     let g : FitsSigned w64 (at b 1) = search rules in
-    linear_within w64 (at a 1) (at b 1) (pos c.args.j) turn_limit (2 * turn_limit) f g twice_more c.requires.1
+    linear_within w64 (at a 1) (at b 1) (pos c.args.j) moments_limit (2 * moments_limit) f g twice_more c.requires.1
 
 pub linear-requires-3 : goal.linear-requires-3
 linear-requires-3 c =
     let a = c.args.a.now in let b = c.args.b.now in
     let f : FitsSigned w64 (at a 2) = search rules in
     let g : FitsSigned w64 (at b 2) = search rules in
-    linear_within w64 (at a 2) (at b 2) (pos c.args.j) turn_limit (2 * turn_limit) f g twice_more c.requires.2
+    linear_within w64 (at a 2) (at b 2) (pos c.args.j) moments_limit (2 * moments_limit) f g twice_more c.requires.2
 
 pub returns-clause-value : goal.returns-clause-value
 returns-clause-value c =
@@ -55,7 +55,7 @@ returns-clause-small c =
     let f2 : FitsSigned w64 (at a 2) = search rules in
     let g2 : FitsSigned w64 (at b 2) = search rules in
     let q0 = c.linear in let q1 = c.linear-2 in let q2 = c.linear-3 in (
-      subst (λ (z : ℤ). unsigned_abs z ≤ turn_limit) (sym (linear_is w64 q0.result (at a 0) (at b 0) l record { sfits = q0.type_inv } f0 g0 q0.ensures)) c.requires.0,
-      subst (λ (z : ℤ). unsigned_abs z ≤ turn_limit) (sym (linear_is w64 q1.result (at a 1) (at b 1) l record { sfits = q1.type_inv } f1 g1 q1.ensures)) c.requires.1,
-      subst (λ (z : ℤ). unsigned_abs z ≤ turn_limit) (sym (linear_is w64 q2.result (at a 2) (at b 2) l record { sfits = q2.type_inv } f2 g2 q2.ensures)) c.requires.2,
+      subst (λ (z : ℤ). unsigned_abs z ≤ moments_limit) (sym (linear_is w64 q0.result (at a 0) (at b 0) l record { sfits = q0.type_inv } f0 g0 q0.ensures)) c.requires.0,
+      subst (λ (z : ℤ). unsigned_abs z ≤ moments_limit) (sym (linear_is w64 q1.result (at a 1) (at b 1) l record { sfits = q1.type_inv } f1 g1 q1.ensures)) c.requires.1,
+      subst (λ (z : ℤ). unsigned_abs z ≤ moments_limit) (sym (linear_is w64 q2.result (at a 2) (at b 2) l record { sfits = q2.type_inv } f2 g2 q2.ensures)) c.requires.2,
     )

@@ -1,7 +1,7 @@
 use Rattle.std.proofs.Common.{◌≤◌, ◌*◌, ℤ, pos, unsigned_abs, arith, subst, sym}
 use Rattle.space.proofs.Naturals.{abs_mul}
 use Rattle.bern_form.specs.Sizes.{scale_limit}
-use Rattle.box_bisect.proofs.Reread.{long_product_fits, long_product_is}
+use Rattle.space.proofs.Reread.{long_product_fits, long_product_is}
 use Rattle.wanted_marks.proofs.scaled.weighted.Goals as goal
 
 pub overflow_mul-result : goal.overflow_mul-result

@@ -1,7 +1,7 @@
 use Rattle.std.proofs.Common.{pos, arith, rules}
 use mir.Syntax.{w128}
 use Rattle.space.specs.Vectors.{at}
-use Rattle.ray_runs.proofs.StretchTests.{five_same}
+use Rattle.moment_forms.proofs.Middle.{five_same}
 use Rattle.wanted_marks.proofs.Small.{linear_is, linear_small}
 use Rattle.wanted_marks.proofs.sheet.moved4.Goals as goal
 

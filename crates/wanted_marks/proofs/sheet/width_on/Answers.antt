@@ -1,6 +1,6 @@
 use Rattle.std.proofs.Common.{pos, arith, rules}
 use Rattle.space.specs.Vectors.{at}
-use Rattle.ray_runs.proofs.StretchTests.{five_same}
+use Rattle.moment_forms.proofs.Middle.{five_same}
 use Rattle.wanted_marks.proofs.Small.{quadratic_is, quadratic_small}
 use Rattle.wanted_marks.proofs.sheet.width_on.Goals as goal
 

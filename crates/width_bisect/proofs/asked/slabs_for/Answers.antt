@@ -1,4 +1,4 @@
--- The stack is the one that is asked for.
+-- The stack is the one that is wanted.
 use Rattle.std.proofs.Common.{ap, sym, ◌∙◌}
 use Rattle.cutter_slabs.specs.Stacks.{inner_stack, outer_stack}
 use Rattle.width_bisect.specs.Asked.{slabs_for}

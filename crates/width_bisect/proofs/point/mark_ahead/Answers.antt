@@ -1,5 +1,5 @@
 use Rattle.std.proofs.Common.{Bool, ℕ, ◌+◌, ◌^◌, pos, sym, ap, subst, ◌∙◌}
-use Rattle.space.specs.Motion.{IsSweep}
+use Rattle.space.specs.Sweeps.{IsSweep}
 use Rattle.bern_form.specs.Between.{d_between}
 use Rattle.bern_form.specs.Forms.{all_negative}
 use Rattle.bern_form.specs.Slab.{SlabSize}

@@ -1,5 +1,5 @@
 use Rattle.std.proofs.Common.{◌^◌, arith, ap, subst, ◌∙◌}
-use Rattle.space.specs.Motion.{IsSweep}
+use Rattle.space.specs.Sweeps.{IsSweep}
 use Rattle.bern_form.specs.Forms.{all_positive, lifted}
 use Rattle.cutter_slabs.specs.Stacks.{outer_stack}
 use Rattle.cutter_marks.specs.MarkBy.{mark_by}

@@ -1,8 +1,8 @@
 use Rattle.std.proofs.Common.{◌≡◌, FitsSigned, pos, sym, ap, subst, ◌∙◌}
 use Rattle.std.proofs.lemmas.Int.{to_z-of_z}
 use mir.Syntax.{w32}
-use Rattle.space.specs.Motion.{IsSweep}
 use Rattle.space.specs.Reach.{is_in_reach}
+use Rattle.space.specs.Sweeps.{IsSweep}
 use Rattle.axis_cells.specs.declared.mark.Mark.TheVariants.{Clear}
 use Rattle.cutter_slabs.specs.Stacks.{outer_stack, reach_of}
 use Rattle.cutter_marks.specs.MarkBy.{mark_by}

@@ -1,4 +1,4 @@
--- The slabs are those that the mark asks for.
+-- The slabs are those that the mark requires.
 use Rattle.std.proofs.Common.{ap, sym}
 use Rattle.width_bisect.specs.Early.{slabs_after}
 use Rattle.width_bisect.proofs.search.slabs_after.Goals as goal

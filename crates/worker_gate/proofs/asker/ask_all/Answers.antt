@@ -1,6 +1,6 @@
 use Rattle.std.proofs.Common.{arith, ap, sym, subst, List, [], ◌∷◌, length, length-append}
 use Rattle.std.proofs.lemmas.List.{take_all}
-use Rattle.job_facts.specs.declared.totals.Answer.{Answer}
+use Rattle.job_counts.specs.declared.totals.Answer.{Answer}
 use Rattle.edit_plan.specs.declared.query.Query.{Query}
 use Rattle.strip_turns.specs.Passes.{card}
 use Rattle.worker_gate.specs.Asking.{AskedAll}

@@ -4,7 +4,7 @@ use borrow.Author.Differences.{abs_is}
 use mir.Syntax.{w32, w128}
 use Rattle.axis_cells.proofs.Fits.{height_fits}
 use Rattle.box_bisect.specs.SlabTests.{is_reached}
-use Rattle.box_bisect.proofs.Reread.{both_back, small_back}
+use Rattle.space.proofs.Reread.{both_back, small_back}
 use Rattle.box_bisect.proofs.held.SampleReaches.reaches.Goals as goal
 
 pub returns : goal.returns

@@ -3,7 +3,7 @@ use Rattle.std.proofs.Common.{◌*◌, arith}
 use mir.Syntax.{w128}
 use Rattle.bern_form.specs.Sizes.{length_limit}
 use Rattle.box_bisect.proofs.Lengths.{lengths_small}
-use Rattle.box_bisect.proofs.Reread.{small_back}
+use Rattle.space.proofs.Reread.{small_back}
 use Rattle.box_bisect.proofs.limits.Limits.is_past.Goals as goal
 
 pub scaled_square-requires-clause-length : goal.scaled_square-requires-clause-length

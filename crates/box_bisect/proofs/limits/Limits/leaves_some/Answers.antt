@@ -1,4 +1,4 @@
--- Where n is above 0 by its coefficients one slab decides, and else each is tried.
+-- Where n is above 0 by its coefficients one slab decides, and else each is tested.
 use Rattle.std.proofs.Common.{arith, sym, ◌∙◌}
 use Rattle.box_bisect.proofs.Leaving.{none_ahead}
 use Rattle.box_bisect.proofs.limits.Limits.leaves_some.Goals as goal

@@ -1,4 +1,4 @@
--- A move is made where its axes aren't opposite and there are fewer than may be.
+-- A move is made where its axes aren't opposite and there is room for one more.
 use Rattle.std.proofs.Common.{arith, ◌∙◌, sym}
 use Rattle.cl_moves.proofs.MadeLemmas.{added, moved_full, moved_made}
 use Rattle.cl_moves.proofs.fold.Fold.make_move.Goals as goal

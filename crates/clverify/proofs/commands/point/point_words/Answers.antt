@@ -1,4 +1,4 @@
--- What the words behind the name of the file ask is what they all ask.
+-- What the words after the name of the file ask is what they all ask.
 use Rattle.std.proofs.Common.{ap, string_bytes, sym, ◌∙◌, map, option_map}
 use Rattle.clverify.specs.Asked.{command_seen}
 use Rattle.clverify.specs.Commands.{mark_moves}

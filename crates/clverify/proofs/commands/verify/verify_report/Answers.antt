@@ -1,4 +1,4 @@
-use Rattle.verify_words.specs.Seen.{call_seen}
+use Rattle.call_words.specs.Seen.{call_seen}
 use Rattle.clverify.proofs.Read.{fault_of_read, report_of_read, true_of_read}
 use Rattle.clverify.proofs.commands.verify.verify_report.Goals as goal
 

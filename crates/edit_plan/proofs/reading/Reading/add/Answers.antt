@@ -1,4 +1,4 @@
--- Undoing and probing are what their own functions make of the script, once it is known which statement stands there.
+-- Undoing and probing are what their own functions make of the script, once it is known which statement the line is.
 use Rattle.edit_plan.proofs.reading.Reading.add.Goals as goal
 
 pub returns-in-UndoTimes : goal.returns-in-UndoTimes

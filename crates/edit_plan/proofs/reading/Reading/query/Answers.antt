@@ -1,4 +1,4 @@
--- The query is put behind the others with the number of the edits so far as its version.
+-- The query is put after the others with the number of the edits so far as its version.
 use Rattle.std.proofs.Common.{◌≡◌, [], ◌∷◌, ◌++◌, true, length, nat_lt, refl, rules}
 use Rattle.edit_plan.specs.Limits.{most_queries}
 use Rattle.edit_plan.proofs.reading.Reading.query.Goals as goal

@@ -1,8 +1,8 @@
 use Rattle.std.proofs.Common.{ℤ, subst}
 use Rattle.std.proofs.lemmas.Int.{to_z-of_z}
 use mir.Syntax.{w64}
-use Rattle.ray_runs.specs.Apart.{AreBesideAt}
-use Rattle.ray_runs.proofs.Fits.{turn_within}
+use Rattle.ray_runs.specs.Missed.{AreBesideAt}
+use Rattle.moment_forms.proofs.Fits.{turn_within}
 use Rattle.ray_runs.proofs.pair.Pair.of_poses.Goals as goal
 
 pub invariant_of-result : goal.invariant_of-result

@@ -5,15 +5,15 @@ use Rattle.ray_runs.proofs.Open.{halves_open}
 use Rattle.ray_runs.proofs.Searching.{apart_between, around_whole, beside_by_word, pair_at}
 use Rattle.ray_runs.proofs.searched.Searched.+halves.Goals as goal
 
-pub returns-then-are_apart : goal.returns-then-are_apart
-returns-then-are_apart t c =
-    let a = c.args in apart_between a.self.now a.j (a.j + 2 ^ a.levels) _ _ (search rules) c.requires.start c.requires.end (c.if-are_apart.ensures refl)
+pub returns-then-are_missed : goal.returns-then-are_missed
+returns-then-are_missed t c =
+    let a = c.args in apart_between a.self.now a.j (a.j + 2 ^ a.levels) _ _ (search rules) c.requires.start c.requires.end (c.if-are_missed.ensures refl)
 
-pub are_apart-requires-clause-start : goal.are_apart-requires-clause-start
-are_apart-requires-clause-start t c = beside_by_word c.args.self.now _ _ (search rules) c.requires.start
+pub are_missed-requires-clause-start : goal.are_missed-requires-clause-start
+are_missed-requires-clause-start t c = beside_by_word c.args.self.now _ _ (search rules) c.requires.start
 
-pub are_apart-requires-clause-end : goal.are_apart-requires-clause-end
-are_apart-requires-clause-end t c = beside_by_word c.args.self.now _ _ (search rules) c.requires.end
+pub are_missed-requires-clause-end : goal.are_missed-requires-clause-end
+are_missed-requires-clause-end t c = beside_by_word c.args.self.now _ _ (search rules) c.requires.end
 
 pub returns-then-levels-self : goal.returns-then-levels-self
 returns-then-levels-self t c = around_whole c.args.self.now c.args.j c.args.levels c.requires.levels

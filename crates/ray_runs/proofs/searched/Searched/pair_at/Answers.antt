@@ -1,7 +1,7 @@
 use Rattle.std.proofs.Common.{rules, ℤ, FitsSigned, subst}
 use Rattle.std.proofs.lemmas.Int.{to_z-of_z}
 use mir.Syntax.{w64}
-use Rattle.ray_runs.specs.Apart.{AreBesideAt}
+use Rattle.ray_runs.specs.Missed.{AreBesideAt}
 use Rattle.ray_runs.proofs.searched.Searched.pair_at.Goals as goal
 
 pub returns : goal.returns

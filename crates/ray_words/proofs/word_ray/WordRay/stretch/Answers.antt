@@ -6,7 +6,7 @@ use Rattle.ray_words.specs.Rays.{KeptSets}
 use Rattle.ray_words.proofs.word_ray.WordRay.stretch.Goals as goal
 use Rattle.ray_words.proofs.word_ray.WordRay.stretch.Goals.{then-first-lo, else-first-lo}
 
--- an end that is no less than what is asked and what is kept is capped by the ray's own
+-- an end that is no less than what is wanted and what is kept is capped by the ray's own
 capped : (r : KeptSets) (lo hi from end wide words to : ℕ) → (from ≤ lo) × (from ≤ r.first) → hi ≤ wide → end ≤ hi
     → hi ≤ words_below (length r.sets.stock) → end ≡ r.first + r.count → words ≡ words_below (length r.sets.stock) → to ≡ min wide words
     → IsStretch r lo hi (from, to)

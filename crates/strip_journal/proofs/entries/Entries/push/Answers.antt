@@ -3,7 +3,7 @@ use Rattle.std.proofs.Common.{◌≡◌, ◌∙◌, List, [], ◌∷◌, ◌++�
 use Rattle.strip_journal.specs.declared.entries.KeptEntry.{KeptEntry}
 use Rattle.strip_journal.specs.Entries.{EntryList}
 use Rattle.strip_journal.specs.Kept.{NameHits, whole_entries, whole_entry}
-use Rattle.strip_journal.proofs.EditLines.{pushed}
+use Rattle.strip_journal.proofs.EditHistories.{pushed}
 use Rattle.strip_journal.proofs.KeptHits.{named_pushed, whole_pushed}
 use Rattle.strip_journal.proofs.entries.Entries.push.Goals as goal
 use Rattle.strip_journal.proofs.entries.Entries.push.Goals.{After-push-kept}
@@ -20,7 +20,7 @@ new_kept c = record {
   is_undo = c.args.entry.now.is_undo;
 }
 
--- it stands behind the others
+-- it comes after the others
 put : (c : After-push-kept) → c.push-kept.new.self.items ≡ c.self.inside.kept.items ++ new_kept c ∷ []
 put c =
     let room = ap (λ (e : EntryList). e.room) c.self.view_is in

@@ -1,5 +1,5 @@
 use Rattle.std.proofs.Common.{◌∙◌, ℕ, sym, subst}
-use Rattle.job_facts.specs.declared.counts.Counts.{Counts}
+use Rattle.job_counts.specs.declared.counts.Counts.{Counts}
 use Rattle.strip_journal.specs.Entries.{HasNo}
 use Rattle.strip_journal.specs.Found.{IsFoundBy}
 use Rattle.strip_journal.proofs.FoundIs.{ahead_within, found_is, found_none}

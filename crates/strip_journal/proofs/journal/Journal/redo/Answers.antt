@@ -1,4 +1,4 @@
--- A Redo goes one forth in the line, and gives again what the edit there changed.
+-- A Redo goes one forward in the line, and gives again what the edit there changed.
 use Rattle.std.proofs.Common.{false, rules, arith, subst}
 use Rattle.strip_journal.specs.Steps.{IsTurnedFrom}
 use Rattle.strip_journal.proofs.MovedAt.{moved_on, stands_next, unmoved_at}

@@ -22,7 +22,7 @@ returns c =
     (subst (λ (n : ℕ). AreCleared n j.rays rays) all c.clear_all.ensures) in
     record {
       journal =
-          first_journal _ j.plan.value j.stock.value j.part.value j.fixture.value refl refl refl refl h.valid h.grid h.strip h.few
+          first_journal _ j.plan.value j.stock.value.value j.part.value.value j.fixture.value.value refl refl refl refl h.valid h.grid h.strip h.few
           h.named fresh
           (record {
             of = h.of ∙ sym (first_stock (job_of j) j.number rays fresh);

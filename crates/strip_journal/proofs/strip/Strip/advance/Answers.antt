@@ -1,4 +1,4 @@
--- The journal does the edit that comes next; after want of memory it is seen as before.
+-- The journal does the edit that comes next; when out of memory it is seen as before.
 use Rattle.std.proofs.lemmas.Result.{on_err_weaker, on_ok_weaker}
 use Rattle.strip_journal.proofs.ToldNext.{done_told, next_told, on_either, plan_told, same_told}
 use Rattle.strip_journal.proofs.strip.Strip.advance.Goals as goal

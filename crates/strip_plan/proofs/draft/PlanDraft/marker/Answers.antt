@@ -27,7 +27,7 @@ of_ready-requires c =
     let is = marker_is plan s.moves.items s.cutters.slabs s.depth s.cutters.stacks.items s.cutters.places.items c.args.number
     c.index-place.result.now next next c.index-2.result.now c.behind-self.inside.sweep moves
     (ap (λ (p : PlanOf). p.slabs) c.self.view_is) (ap (λ (p : PlanOf). p.depth) c.self.view_is) c.self.invariant.5 lt
-    c.index-place.ensures c.index-2.ensures c.index.ensures (ap (λ (m : JobMove). m.motion) c.behind-self.view_is) named in
+    c.index-place.ensures c.index-2.ensures c.index.ensures (ap (λ (m : JobMove). m.sweep) c.behind-self.view_is) named in
     subst (IsReadyMove c.args.ready.now) (sym is) (c.requires.ready next named)
 
 pub returns-clause-marker : goal.returns-clause-marker
@@ -38,4 +38,4 @@ returns-clause-marker c move named =
     c.index-place.result.now move c.index.result.now c.index-2.result.now c.behind-self.inside.sweep
     (ap (λ (p : PlanOf). p.moves) c.self.view_is) (ap (λ (p : PlanOf). p.slabs) c.self.view_is)
     (ap (λ (p : PlanOf). p.depth) c.self.view_is) c.self.invariant.5 (search rules) c.index-place.ensures c.index-2.ensures
-    c.index.ensures (ap (λ (m : JobMove). m.motion) c.behind-self.view_is) named
+    c.index.ensures (ap (λ (m : JobMove). m.sweep) c.behind-self.view_is) named

@@ -11,7 +11,7 @@ use Rattle.strip_plan.proofs.plan.Plan.strip_along.Goals as goal
 pub returns-then-start-end : goal.returns-then-start-end
 returns-then-start-end c =
     let plan = c.args.self.now in
-    let own = c.self.inside.entered.boxes in
+    let own = c.self.inside.windows.boxes in
     let has = subst (λ (p : PlanOf). HasBoxes p.grid p.slabs p.depth p.moves own.hulls.items own.boxes.items own.starts.items
     (length p.moves)) c.self.view_is c.self.invariant.0.0 in
     let box = c.index.result.now in
@@ -28,7 +28,7 @@ returns-then-start-end c =
 pub range_in_strip-requires : goal.range_in_strip-requires
 range_in_strip-requires c =
     let plan = c.args.self.now in
-    let own = c.self.inside.entered.boxes in
+    let own = c.self.inside.windows.boxes in
     let has = subst (λ (p : PlanOf). HasBoxes p.grid p.slabs p.depth p.moves own.hulls.items own.boxes.items own.starts.items
     (length p.moves)) c.self.view_is c.self.invariant.0.0 in
     subst (λ (boxes : List IndexBox). c.index-end.result.now ≤ length boxes) (sym c.deref.ensures.value)
@@ -37,7 +37,7 @@ range_in_strip-requires c =
 pub returns : goal.returns
 returns c =
     let plan = c.args.self.now in
-    let own = c.self.inside.entered.boxes in
+    let own = c.self.inside.windows.boxes in
     let has = subst (λ (p : PlanOf). HasBoxes p.grid p.slabs p.depth p.moves own.hulls.items own.boxes.items own.starts.items
     (length p.moves)) c.self.view_is c.self.invariant.0.0 in
     let range = c.range_in_strip.ensures.range plan.grid (subst (AreBoxesOf plan.grid) (sym c.deref.ensures.value) has.boxes_fit) in

@@ -13,7 +13,7 @@ use Rattle.strip_plan.proofs.plan.Plan.strip_window.Goals as goal
 pub returns-then-window-clause-within : goal.returns-then-window-clause-within
 returns-then-window-clause-within c =
     let plan = c.args.self.now in
-    let own = c.self.inside.entered.boxes in
+    let own = c.self.inside.windows.boxes in
     let has = subst (λ (p : PlanOf). HasBoxes p.grid p.slabs p.depth p.moves own.hulls.items own.boxes.items own.starts.items (length p.moves)) c.self.view_is c.self.invariant.0.0 in
     let family = c.row-family.result.0 in
     let i = c.row-family.result.1 in
@@ -25,7 +25,7 @@ returns-then-window-clause-within c =
 pub returns-then-window-clause-holds : goal.returns-then-window-clause-holds
 returns-then-window-clause-holds c move named n ray l there is =
     let plan = c.args.self.now in
-    let own = c.self.inside.entered.boxes in
+    let own = c.self.inside.windows.boxes in
     let has = subst (λ (p : PlanOf). HasBoxes p.grid p.slabs p.depth p.moves own.hulls.items own.boxes.items own.starts.items (length p.moves)) c.self.view_is c.self.invariant.0.0 in
     let family = c.row-family.result.0 in
     let i = c.row-family.result.1 in
@@ -36,7 +36,7 @@ returns-then-window-clause-holds c move named n ray l there is =
 pub returns-then-start-end-clause-order : goal.returns-then-start-end-clause-order
 returns-then-start-end-clause-order c =
     let plan = c.args.self.now in
-    let own = c.self.inside.entered.boxes in
+    let own = c.self.inside.windows.boxes in
     let has = subst (λ (p : PlanOf). HasBoxes p.grid p.slabs p.depth p.moves own.hulls.items own.boxes.items own.starts.items (length p.moves)) c.self.view_is c.self.invariant.0.0 in
     let fits = hull_fits plan own.hulls.items own.boxes.items own.starts.items c.args.number c.index.result.now has c.requires.number c.index.ensures in
     (c.in_strip-window.ensures.range plan.grid fits).order
@@ -44,7 +44,7 @@ returns-then-start-end-clause-order c =
 pub returns-then-start-end-clause-within : goal.returns-then-start-end-clause-within
 returns-then-start-end-clause-within c =
     let plan = c.args.self.now in
-    let own = c.self.inside.entered.boxes in
+    let own = c.self.inside.windows.boxes in
     let has = subst (λ (p : PlanOf). HasBoxes p.grid p.slabs p.depth p.moves own.hulls.items own.boxes.items own.starts.items (length p.moves)) c.self.view_is c.self.invariant.0.0 in
     let family = c.row-family.result.0 in
     let i = c.row-family.result.1 in
@@ -56,7 +56,7 @@ returns-then-start-end-clause-within c =
 pub returns-then-start-end-clause-holds : goal.returns-then-start-end-clause-holds
 returns-then-start-end-clause-holds c move named n ray l there is =
     let plan = c.args.self.now in
-    let own = c.self.inside.entered.boxes in
+    let own = c.self.inside.windows.boxes in
     let has = subst (λ (p : PlanOf). HasBoxes p.grid p.slabs p.depth p.moves own.hulls.items own.boxes.items own.starts.items (length p.moves)) c.self.view_is c.self.invariant.0.0 in
     let family = c.row-family.result.0 in
     let i = c.row-family.result.1 in
@@ -67,7 +67,7 @@ returns-then-start-end-clause-holds c move named n ray l there is =
 pub range_in_strip-requires : goal.range_in_strip-requires
 range_in_strip-requires c =
     let plan = c.args.self.now in
-    let own = c.self.inside.entered.boxes in
+    let own = c.self.inside.windows.boxes in
     let has = subst (λ (p : PlanOf). HasBoxes p.grid p.slabs p.depth p.moves own.hulls.items own.boxes.items own.starts.items (length p.moves)) c.self.view_is c.self.invariant.0.0 in
     subst (λ (boxes : List IndexBox). c.index-end.result.now ≤ length boxes) (sym c.deref.ensures.value)
     (ends_within plan own.hulls.items own.boxes.items own.starts.items c.args.number c.index-end.result.now has c.requires.number c.index-end.ensures)
@@ -75,14 +75,14 @@ range_in_strip-requires c =
 pub returns-clause-order : goal.returns-clause-order
 returns-clause-order c =
     let plan = c.args.self.now in
-    let own = c.self.inside.entered.boxes in
+    let own = c.self.inside.windows.boxes in
     let has = subst (λ (p : PlanOf). HasBoxes p.grid p.slabs p.depth p.moves own.hulls.items own.boxes.items own.starts.items (length p.moves)) c.self.view_is c.self.invariant.0.0 in
     (c.range_in_strip.ensures.range plan.grid (subst (AreBoxesOf plan.grid) (sym c.deref.ensures.value) has.boxes_fit)).order
 
 pub returns-clause-within : goal.returns-clause-within
 returns-clause-within c =
     let plan = c.args.self.now in
-    let own = c.self.inside.entered.boxes in
+    let own = c.self.inside.windows.boxes in
     let has = subst (λ (p : PlanOf). HasBoxes p.grid p.slabs p.depth p.moves own.hulls.items own.boxes.items own.starts.items (length p.moves)) c.self.view_is c.self.invariant.0.0 in
     let family = c.row-family.result.0 in
     let i = c.row-family.result.1 in
@@ -94,7 +94,7 @@ returns-clause-within c =
 pub returns-clause-holds : goal.returns-clause-holds
 returns-clause-holds c move named n ray l there is =
     let plan = c.args.self.now in
-    let own = c.self.inside.entered.boxes in
+    let own = c.self.inside.windows.boxes in
     let has = subst (λ (p : PlanOf). HasBoxes p.grid p.slabs p.depth p.moves own.hulls.items own.boxes.items own.starts.items (length p.moves)) c.self.view_is c.self.invariant.0.0 in
     let family = c.row-family.result.0 in
     let i = c.row-family.result.1 in

@@ -1,4 +1,4 @@
--- What was taken out of the slots is in order, and what is given is seen alike.
+-- What was taken out of the slots is in order, and what is given is seen in the same way.
 use Rattle.std.proofs.Common.{◌≡◌, ℕ, List, Option, length, ap, sym, ◌∙◌, subst}
 use Rattle.std.proofs.lemmas.Result.{IfOk-weaker}
 use Rattle.std.specs.Mem.Slots.{slots_items}
@@ -13,7 +13,7 @@ use Rattle.strip_turns.specs.declared.board.Pass.{Pass}
 use Rattle.strip_turns.specs.Passes.{card, IsPass}
 use Rattle.strip_turns.specs.Plays.{IsAlone}
 use Rattle.strip_turns.specs.Sound.{IsSound}
-use Rattle.strip_turns.specs.Closed.{AllDrawn, AllHome, AllOut, InOrder}
+use Rattle.strip_turns.specs.Closed.{AllDrawn, AllHome, AllOut, AreBoardStrips}
 use Rattle.strip_turns.proofs.Closing.{all_home, all_of_plan, all_there, in_order, given_plan, given_job}
 use Rattle.strip_turns.proofs.board.Board.close.Goals as goal
 
@@ -24,7 +24,7 @@ module _ (b : Board) (p : Pass) (is : IsPass b p) (alone : IsAlone p.seat.me.0) 
   home = all_home (card b) p.seat.id p.seat.me.0 (card b) words slots is.named is.held alone final
 
   -- as many strips as the board has slots, taken out of them
-  ordered : (strips : List StripOf) → AllOut slots strips b.table.shared.table_id.slots → InOrder (card b) p.seat.me.0 strips
+  ordered : (strips : List StripOf) → AllOut slots strips b.table.shared.table_id.slots → AreBoardStrips (card b) p.seat.me.0 strips
   ordered strips out =
       let many = home.many ∙ b.whole.many ∙ ap (λ (plan : PlanOf). length (strips_of plan.grid)) b.card ∙ sym b.slots in
       in_order (card b) p.seat.me.0 words slots strips b.table.shared.table_id.slots home many out
@@ -54,8 +54,8 @@ returns-in-Ok-clause-strips c =
     let many = c.strips-count.ensures ∙ ap (λ (g : GridSize). length (strips_of g)) c.grid.ensures ∙ sym b.slots in
     let taken = ordered b p c.requires.pass c.requires.alone _ _ closed.values.2 strips
     (subst (AllOut (slots_items c.close_with-closed.result.slots) strips) many c.taken_out.ensures) in
-    IfOk-weaker c.as_seen.result (λ given. given.items ≡ strips) (λ given. InOrder (card b) p.seat.me.0 given.items)
-    (λ given seen. subst (InOrder (card b) p.seat.me.0) (sym seen) taken) c.as_seen.ensures
+    IfOk-weaker c.as_seen.result (λ given. given.items ≡ strips) (λ given. AreBoardStrips (card b) p.seat.me.0 given.items)
+    (λ given seen. subst (AreBoardStrips (card b) p.seat.me.0) (sym seen) taken) c.as_seen.ensures
 
 pub returns-in-Ok-clause-drawn : goal.returns-in-Ok-clause-drawn
 returns-in-Ok-clause-drawn c =
@@ -68,13 +68,13 @@ pub returns-in-Ok-clause-plan : goal.returns-in-Ok-clause-plan
 returns-in-Ok-clause-plan c =
     let b = c.args.self in
     let v = c.args.pass.seat.me.0 in
-    IfOk-weaker c.as_seen.result (λ given. InOrder (card b) v given.items) (λ given. AreOfPlan b.plan given.items)
+    IfOk-weaker c.as_seen.result (λ given. AreBoardStrips (card b) v given.items) (λ given. AreOfPlan b.plan given.items)
     (λ given. given_plan (card b) b.plan v given.items b.whole b.card) (returns-in-Ok-clause-strips c)
 
 pub returns-in-Ok-clause-job : goal.returns-in-Ok-clause-job
 returns-in-Ok-clause-job c =
     let b = c.args.self in
     let v = c.args.pass.seat.me.0 in
-    IfOk-weaker c.as_seen.result (λ given. InOrder (card b) v given.items)
+    IfOk-weaker c.as_seen.result (λ given. AreBoardStrips (card b) v given.items)
     (λ given. (job : _) → AreStrips job (card b).strips → AreStrips job given.items)
     (λ given is job all. given_job (card b) job v given.items b.whole all is) (returns-in-Ok-clause-strips c)

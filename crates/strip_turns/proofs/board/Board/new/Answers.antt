@@ -2,15 +2,15 @@ use Rattle.std.proofs.Common.{◌≡◌, ◌∙◌, List, length, arith, refl, a
 use Rattle.job_model.specs.Tasks.{PlanOf}
 use Rattle.strip_journal.specs.Strips.{StripOf}
 use Rattle.turn_core.specs.World.{AreOfPlan}
-use Rattle.strip_turns.specs.declared.view.Card.{Card}
+use Rattle.strip_turns.specs.declared.view.BoardStart.{BoardStart}
 use Rattle.strip_turns.proofs.board.Board.new.Goals as goal
 
 pub invariant_of-result : goal.invariant_of-result
 invariant_of-result c =
     let table = c.in_ok-table.table in
     let e = c.in_ok-table.ensures in
-    let card : table.shared.key.plan.value ≡ c.args.plan = ap (λ (k : Card). k.plan) e.card in
-    let list : table.shared.key.strips.value.items ≡ c.args.strips.items = ap (λ (k : Card). k.strips) e.card in
+    let card : table.shared.key.plan.value ≡ c.args.plan = ap (λ (k : BoardStart). k.plan) e.card in
+    let list : table.shared.key.strips.value.items ≡ c.args.strips.items = ap (λ (k : BoardStart). k.strips) e.card in
     let edits = ap (λ (p : PlanOf). length p.edits) card in
     record {
       words = e.words;

@@ -1,25 +1,25 @@
 use Rattle.std.proofs.Common.{◌≡◌, pos, ◌*ℤ◌, FitsSigned, of_z, to_z, ap₂, rules, subst, sym, ◌∙◌}
 use Rattle.std.proofs.lemmas.Int.{to_z-of_z}
 use mir.Syntax.{w32, w64}
-use Rattle.space.specs.Motion.{Motion, axis_at, offset_at}
+use Rattle.space.specs.Sweeps.{SweepOf, axis_at, offset_at}
 use Rattle.bern_form.specs.Cells.{dot_on_cell}
 use Rattle.ray_grid.specs.Grids.{GridSize}
 use Rattle.ray_grid.specs.declared.ray.Family.TheVariants.{X, Y, Z}
 use Rattle.ray_grid.specs.Lattice.{per_node}
 use Rattle.wanted_marks.specs.declared.grid_forms.GridForms.{GridForms}
 use Rattle.wanted_marks.specs.GridForms.{AreGridForms, step_way}
-use Rattle.wanted_marks.specs.Widths.{IsTurn}
+use Rattle.wanted_marks.specs.Widths.{IsAxisForms}
 use Rattle.wanted_marks.proofs.Stepping.{first_offset, last_offset, moments_are}
 use Rattle.wanted_marks.proofs.Steps.{crossed_is, step_is, way_x, way_y, way_z}
 use Rattle.wanted_marks.proofs.grid_forms.GridForms.of_grid.Goals as goal
 
 pub returns-clause-forms : goal.returns-clause-forms
 returns-clause-forms c =
-    let s = c.sweep.inside in let h = c.grid.inside in let t = c.args.turn.now in let k = c.args.scale in let S = pos k in
-    let m : Motion = record { from = s.from; to = s.to; axis_from = s.axis_from; axis_to = s.axis_to } in
+    let s = c.sweep.inside in let h = c.grid.inside in let t = c.args.axis_forms.now in let k = c.args.scale in let S = pos k in
+    let m : SweepOf = record { from = s.from; to = s.to; axis_from = s.axis_from; axis_to = s.axis_to } in
     let grid : GridSize = record { origin = h.origin; pitch = h.pitch; step = h.step; counts = h.counts } in
-    let turn = subst (λ (x : Motion). IsTurn t.first t.last t.n.c x k) (sym c.sweep.view_is) c.requires.turn in
-    let o = grid.origin in let A = axis_at m (pos 0) S in let C = axis_at m S S in let ea = turn.first_is in let ec = turn.last_is in
+    let axis_forms = subst (λ (x : SweepOf). IsAxisForms t.first t.last t.n.c x k) (sym c.sweep.view_is) c.requires.axis_forms in
+    let o = grid.origin in let A = axis_at m (pos 0) S in let C = axis_at m S S in let ea = axis_forms.first_is in let ec = axis_forms.last_is in
     let P = offset_at m o (pos 0) S in let Q = offset_at m o S S in
     let from = c.scaled_way-from in let to = c.scaled_way-to in let ef = from.ensures.way ∙ first_offset m o S in let et = to.ensures.way ∙ last_offset m o S in
     let start = moments_are c.between-start.result from.result to.result t.first t.last P Q A C
@@ -44,7 +44,7 @@ returns-clause-forms c =
       zx = record { c = c.eight_products-3.result };
     } in
     subst (λ (g : GridSize). AreGridForms forms c.args.sweep.now g k) c.grid.view_is
-    (subst (λ (d : Motion). AreGridForms forms d grid k) c.sweep.view_is
+    (subst (λ (d : SweepOf). AreGridForms forms d grid k) c.sweep.view_is
     record {
       per_node_is = subst (λ (g : GridSize). c.steps_of.result ≡ per_node g) (sym c.grid.view_is) c.steps_of.ensures;
       start = start;

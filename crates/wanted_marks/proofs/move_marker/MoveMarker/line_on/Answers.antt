@@ -32,8 +32,8 @@ line-requires c =
     let ready = subst (IsReadyMove s.ready.now) c.self.view_is c.self.invariant in
     let few : S ≤ scale_limit = subst (λ k. k ≤ scale_limit) ready.scale_is ready.few in
     let first = point_at r.grid ray.family ray.i 0 0 in let beside = point_at r.grid ray.family ray.i 1 0 in let v01 = way_to strip 0 1 S in
-    ray_fits c.args.sheet.now v.motion (point_of r.grid ray 0) v01 S (pos ray.j)
-    (ray_is c.args.sheet.now v.motion first beside v01 (point_of r.grid ray 0) S (pos ray.j) c.requires.sheet.forms (across_rays r ray.family ray.i ray.j))
+    ray_fits c.args.sheet.now v.sweep (point_of r.grid ray 0) v01 S (pos ray.j)
+    (ray_is c.args.sheet.now v.sweep first beside v01 (point_of r.grid ray 0) S (pos ray.j) c.requires.sheet.forms (across_rays r ray.family ray.i ray.j))
     ready.valid (subst IsPoint c.point-start.ensures.position c.point-start.ensures.near) few c.requires.sheet.within
 
 pub returns : goal.returns
@@ -45,7 +45,7 @@ returns c =
     let few : S ≤ scale_limit = subst (λ k. k ≤ scale_limit) ready.scale_is ready.few in
     let first = point_at r.grid ray.family ray.i 0 0 in let beside = point_at r.grid ray.family ray.i 1 0 in
     let o = point_of r.grid ray 0 in let v01 = way_to strip 0 1 S in
-    let has = ray_is c.args.sheet.now v.motion first beside v01 o S (pos ray.j) c.requires.sheet.forms (across_rays r ray.family ray.i ray.j) in
+    let has = ray_is c.args.sheet.now v.sweep first beside v01 o S (pos ray.j) c.requires.sheet.forms (across_rays r ray.family ray.i ray.j) in
     line_of_ray c.line.result r 0 (c.points-points.result - 1) S refl few ready.valid
-    (line_is c.line.result c.args.sheet.now v.motion first v01 (way_to strip 1 0 S) o S (pos ray.j) c.requires.sheet.forms has c.line.ensures)
+    (line_is c.line.result c.args.sheet.now v.sweep first v01 (way_to strip 1 0 S) o S (pos ray.j) c.requires.sheet.forms has c.line.ensures)
     (subst IsPoint c.point-start.ensures.position c.point-start.ensures.near) (subst IsPoint c.point-last.ensures.position c.point-last.ensures.near) (omega (arith, c.points-points.ensures))

@@ -14,7 +14,7 @@ returns c =
     let r : RayOf = record { sweep = v; grid = c.args.grid.now; ray = c.args.ray.now } in
     let ready = subst (IsReadyMove s.ready.now) c.self.view_is c.self.invariant in
     let start = c.point-start in let next = c.point-next in let last = c.point-last in
-    let step = λ (x : MoveOf) (a b : List ℤ). IsThroughOn c.through.result t x.motion a (scaled_way (pos s.ready.now.scale) a b) s.ready.now.scale in
+    let step = λ (x : MoveOf) (a b : List ℤ). IsThroughOn c.through.result t x.sweep a (scaled_way (pos s.ready.now.scale) a b) s.ready.now.scale in
     let is = subst (λ (b : List ℤ). step v (point_of r.grid r.ray 0) b) next.ensures.position
     (subst (λ (a : List ℤ). step v a next.result) start.ensures.position (subst (λ (x : MoveOf). step x start.result next.result) c.self.view_is c.through.ensures)) in
     stretch_line_of_ray c.through.result t r (c.points-points.result - 1) s.ready.now.scale ready.scale_is ready.few ready.valid

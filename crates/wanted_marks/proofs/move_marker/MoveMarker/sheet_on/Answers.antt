@@ -17,7 +17,7 @@ pub strip-requires : goal.strip-requires
 strip-requires c =
     let s = c.self.inside in let v = c.args.self.now in
     let ready = subst (IsReadyMove s.ready.now) c.self.view_is c.self.invariant in
-    strip_fits c.args.forms.now v.motion c.args.grid.now c.args.family c.args.i (2 ^ v.depth) c.requires.forms (subst IsGrid c.grid.view_is c.grid.invariant) c.requires.strip ready.valid
+    strip_fits c.args.forms.now v.sweep c.args.grid.now c.args.family c.args.i (2 ^ v.depth) c.requires.forms (subst IsGrid c.grid.view_is c.grid.invariant) c.requires.strip ready.valid
     (subst IsPoint c.point-first.ensures.position c.point-first.ensures.near) (subst (λ k. k ≤ scale_limit) ready.scale_is ready.few)
 
 pub returns : goal.returns

@@ -8,5 +8,5 @@ pub sheet_on-requires-clause-forms : goal.sheet_on-requires-clause-forms
 sheet_on-requires-clause-forms c =
     let s = c.self.inside in let v = c.args.self.now in let forms = s.ready.now.forms in
     let ready = subst (IsReadyMove s.ready.now) c.self.view_is c.self.invariant in
-    let same = subst (λ (g : GridSize). AreGridForms forms v.motion g s.ready.now.scale) (c.is_of.ensures c.if-is_of.true) ready.forms in
-    subst (λ (k : ℕ). AreGridForms forms v.motion c.args.grid.now k) ready.scale_is same
+    let same = subst (λ (g : GridSize). AreGridForms forms v.sweep g s.ready.now.scale) (c.is_of.ensures c.if-is_of.true) ready.forms in
+    subst (λ (k : ℕ). AreGridForms forms v.sweep c.args.grid.now k) ready.scale_is same

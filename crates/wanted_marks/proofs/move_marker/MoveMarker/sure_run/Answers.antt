@@ -8,7 +8,7 @@ use Rattle.wanted_marks.proofs.move_marker.MoveMarker.sure_run.Goals as goal
 
 -- points that are sure are possible too
 removed_each : (found : Option Run) (v : MoveOf) (point : ℕ → List ℤ) → ((p : List ℤ) → is_sure_in v p ≡ true → is_possible_in v p ≡ true)
-    → IfSome found (λ run. AreSure record { cutter = v.cutter; slabs = v.slabs } v.motion point (2 ^ v.depth) run.first run.last)
+    → IfSome found (λ run. AreSure record { cutter = v.cutter; slabs = v.slabs } v.sweep point (2 ^ v.depth) run.first run.last)
     → IfSome found (λ run. (l : ℕ) → run.first ≤ l → l ≤ run.last → IsRemovedBy v (point l))
 removed_each None v point both are = are
 removed_each (Some run) v point both are = λ l after before. let sure = are l after before in record { sure = sure; possible = both (point l) sure }

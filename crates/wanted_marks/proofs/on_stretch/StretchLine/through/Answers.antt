@@ -1,5 +1,5 @@
 use Rattle.std.proofs.Common.{◌≡◌, ◌+◌, ◌^◌, pos, ap, ap₂, subst, ◌∙◌}
-use Rattle.space.specs.Motion.{axis_at, offset_at}
+use Rattle.space.specs.Sweeps.{axis_at, offset_at}
 use Rattle.bern_form.specs.Between.{n_between}
 use Rattle.bern_form.specs.Cells.{dot_on_cell}
 use Rattle.wanted_marks.specs.Lines.{IsThroughBetween}

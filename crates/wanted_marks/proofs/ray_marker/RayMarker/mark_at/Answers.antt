@@ -18,7 +18,7 @@ pub returns-then-is_held_last-clause-held : goal.returns-then-is_held_last-claus
 returns-then-is_held_last-clause-held c =
     let ready = subst (IsReadyRay c.self.inside.line) c.self.view_is c.self.invariant in
     let r = c.args.self.now in let p = point_of r.grid r.ray c.args.l in let here = ap (λ x. x.sweep) c.self.view_is in
-    let forms = subst (λ (v : MoveOf). HasForms c.self.inside.line (pos c.args.l) v.motion p (2 ^ v.depth)) (sym here) (ready.line_of.forms c.args.l c.requires.within) in
+    let forms = subst (λ (v : MoveOf). HasForms c.self.inside.line (pos c.args.l) v.sweep p (2 ^ v.depth)) (sym here) (ready.line_of.forms c.args.l c.requires.within) in
     record {
       within = c.requires.within;
       there = record {
@@ -29,8 +29,8 @@ returns-then-is_held_last-clause-held c =
       };
     }
 
-pub returns-then-is_apart-clause-near : goal.returns-then-is_apart-clause-near
-returns-then-is_apart-clause-near c = c.requires.near
+pub returns-then-is_missed-clause-near : goal.returns-then-is_missed-clause-near
+returns-then-is_missed-clause-near c = c.requires.near
 
 pub returns-then-is_held_last-clause-near : goal.returns-then-is_held_last-clause-near
 returns-then-is_held_last-clause-near c = same_near c.is_held_last.new.near.bounds c.self.inside.mover.now c.args.self.now.sweep (ap (λ x. x.sweep) c.self.view_is) c.is_held_last.ensures.near

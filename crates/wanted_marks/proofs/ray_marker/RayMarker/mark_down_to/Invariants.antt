@@ -1,13 +1,13 @@
 use Rattle.wanted_marks.specs.Nears.{IsNear}
-use Rattle.wanted_marks.specs.Parts.{AreAmong, FollowsFrom}
+use Rattle.wanted_marks.specs.Progress.{AreAmong, FollowsFrom}
 use Rattle.wanted_marks.proofs.ray_marker.RayMarker.mark_down_to.Given as goal
 
-abbrev pub invariant-loop-part : goal.invariant-loop-part
-invariant-loop-part l = record {
+abbrev pub invariant-loop-progress : goal.invariant-loop-progress
+invariant-loop-progress l = record {
   near : IsNear l.near l.self.sweep;
-  fewer : AreAmong l.part.rest l.initial.part.rest;
-  part : FollowsFrom l.part l.initial.part l.self l.first l.sure_only;
+  fewer : AreAmong l.progress.rest l.initial.progress.rest;
+  progress : FollowsFrom l.progress l.initial.progress l.self l.first l.sure_only;
 }
 
-abbrev pub decreases-loop-part : goal.decreases-loop-part
-decreases-loop-part l = l.part.rest
+abbrev pub decreases-loop-progress : goal.decreases-loop-progress
+decreases-loop-progress l = l.progress.rest

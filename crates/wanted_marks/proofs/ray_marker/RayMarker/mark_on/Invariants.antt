@@ -1,8 +1,8 @@
-use Rattle.wanted_marks.specs.Parts.{AreAmong, IsPartOf}
+use Rattle.wanted_marks.specs.Progress.{AreAmong, IsProgressOf}
 use Rattle.wanted_marks.proofs.ray_marker.RayMarker.mark_on.Given as goal
 
-abbrev pub invariant-loop-part : goal.invariant-loop-part
-invariant-loop-part l = record { fewer : AreAmong l.part.rest l.wanted; part : IsPartOf l.part l.self l.first l.wanted l.sure_only }
+abbrev pub invariant-loop-progress : goal.invariant-loop-progress
+invariant-loop-progress l = record { fewer : AreAmong l.progress.rest l.wanted; progress : IsProgressOf l.progress l.self l.first l.wanted l.sure_only }
 
-abbrev pub decreases-loop-part : goal.decreases-loop-part
-decreases-loop-part l = l.part.rest
+abbrev pub decreases-loop-progress : goal.decreases-loop-progress
+decreases-loop-progress l = l.progress.rest

@@ -3,7 +3,7 @@ use Rattle.std.specs.List.{All}
 use Rattle.std.proofs.Math.Pow.{pow_mono}
 use Rattle.std.proofs.lemmas.Int.{to_z-of_z}
 use mir.Syntax.{w32}
-use Rattle.space.specs.Motion.{IsSweep}
+use Rattle.space.specs.Sweeps.{IsSweep}
 use Rattle.bern_form.specs.Between.{n_between}
 use Rattle.bern_form.specs.Marks.{held_at_sample}
 use Rattle.bern_form.specs.Slab.{SlabSize}
@@ -24,9 +24,9 @@ unfolding is_possible_by is_sure_by
 returns c =
     let valid = subst IsSweep c.sweep.view_is c.sweep.invariant in
     let m = c.args.sweep.now in let S = 2 ^ c.args.depth in
-    let scale = c.cells_of-scale in let turn = c.of_sweep-turn in let widest = c.greatest_diameter-diameter.result in
+    let scale = c.cells_of-scale in let axis_forms = c.of_sweep-axis_forms in let widest = c.greatest_diameter-diameter.result in
     let fits : FitsSigned w32 widest = search rules in
-    let n_is : turn.result.n.c ≡ n_between m 0 S S = turn.ensures.n_is ∙ ap (λ k. n_between m 0 k k) scale.ensures.cells in
+    let n_is : axis_forms.result.n.c ≡ n_between m 0 S S = axis_forms.ensures.n_is ∙ ap (λ k. n_between m 0 k k) scale.ensures.cells in
     let limits : c.limits_of-limits.result ≡ all_not_below_zero (squared (pos S) widest (n_between m 0 S S)) =
     (simp to_z-of_z at c.limits_of-limits.ensures.value) ∙ ap₂ (λ k n. all_not_below_zero (squared (pos k) widest n)) scale.ensures.cells n_is in
     record {
@@ -38,7 +38,7 @@ returns c =
       outer_rising = subst IsRising c.outer.ensures.stack c.outer.ensures.rising;
       scale_is = scale.ensures.cells;
       few = scale.ensures.few;
-      turn = turn.ensures;
+      axis_forms = axis_forms.ensures;
       limits_are = all_within S widest (n_between m 0 S S) c.limits_of-limits.result _ limits (subst (λ (l : List SlabSize). All (IsNoWider widest) l) c.outer.ensures.stack c.greatest_diameter-diameter.ensures.greatest);
       limits_small = c.limits_of-limits.ensures.small;
       forms = subst (λ (g : GridSize). AreGridForms c.of_grid-forms.result m g scale.result) (sym c.of_grid-forms.ensures.grid) c.of_grid-forms.ensures.forms;

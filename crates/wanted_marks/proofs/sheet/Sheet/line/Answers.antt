@@ -1,7 +1,7 @@
--- What the line of a ray has is what the first ray's has, moved by so many rays.
+-- What the line of a ray has is what the first ray's has, moved by the number of the ray.
 use Rattle.std.proofs.Common.{◌≡◌, List, ℤ, pos, refl, ◌∙◌}
 use Rattle.bern_form.specs.Forms.{scaled4}
-use Rattle.ray_runs.specs.Moments.{vector_product}
+use Rattle.moment_forms.specs.Moments.{vector_product}
 use Rattle.wanted_marks.proofs.sheet.Sheet.line.Goals as goal
 
 own_square : (x y z x' y' z' : List ℤ) → x ≡ x' → y ≡ y' → z ≡ z'

@@ -1,4 +1,4 @@
--- All coefficients are looked at.
+-- All coefficients are tested.
 use Rattle.width_bisect.proofs.lists.Lists.is_open.Goals as goal
 
 pub returns : goal.returns

@@ -4,7 +4,7 @@ use mir.Syntax.{w32}
 use Rattle.bern_form.specs.Cells.{scaled_square}
 use Rattle.bern_form.specs.Grids.{rows_positive}
 use Rattle.bern_form.specs.Slab.{SlabSize}
-use Rattle.box_bisect.specs.RayBoxes.{grid_less, is_excluded_by_grids}
+use Rattle.ray_boxes.specs.Boxes.{grid_less, is_excluded_by_grids}
 use Rattle.box_bisect.proofs.Lengths.{lengths_small}
 use Rattle.box_bisect.proofs.RayFitting.{last_of_four, second_of_four, third_of_four}
 use Rattle.box_bisect.proofs.ray.box_limits.BoxLimits.excludes.Goals as goal

@@ -1,11 +1,11 @@
--- The square of a length is small, and what is known of it as a word is so of it.
+-- The square of a length is small, and what is known of it as a word is true of it.
 use Rattle.std.proofs.Common.{◌*◌, FitsSigned, arith, ap, ◌∙◌}
 use Rattle.std.proofs.lemmas.Int.{to_z-of_z}
 use mir.Syntax.{w128}
 use Rattle.bern_form.specs.Grids.{rows_positive}
 use Rattle.bern_form.specs.Sizes.{length_limit}
-use Rattle.box_bisect.specs.RayBoxes.{grid_less}
-use Rattle.box_bisect.proofs.Reread.{small_back}
+use Rattle.ray_boxes.specs.Boxes.{grid_less}
+use Rattle.space.proofs.Reread.{small_back}
 use Rattle.box_bisect.proofs.ray.box_limits.BoxLimits.is_above.Goals as goal
 
 pub returns : goal.returns

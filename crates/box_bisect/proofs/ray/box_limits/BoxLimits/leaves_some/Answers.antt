@@ -1,6 +1,6 @@
 use Rattle.std.proofs.Common.{Bool, arith, sym, ◌∙◌}
 use Rattle.bern_form.specs.Slab.{SlabSize}
-use Rattle.box_bisect.specs.RayBoxes.{is_excluded_by_grids}
+use Rattle.ray_boxes.specs.Boxes.{is_excluded_by_grids}
 use Rattle.box_bisect.specs.declared.ray.box_limits.BoxLimits.{BoxLimits}
 use Rattle.box_bisect.proofs.SlabBySlab.{left_in, left_none, left_out}
 use Rattle.box_bisect.proofs.ray.box_limits.BoxLimits.leaves_some.Goals as goal

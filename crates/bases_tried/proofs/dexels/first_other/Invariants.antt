@@ -1,5 +1,0 @@
-use Rattle.dexel_rays.specs.Sets.{HaveBound}
-use Rattle.bases_tried.proofs.dexels.first_other.Given as goal
-
-abbrev pub invariant-loop-row : goal.invariant-loop-row
-invariant-loop-row l = HaveBound 8 l.ray

@@ -1,0 +1,4 @@
+pub mod HistoryLists
+pub mod HistoryOrder
+pub mod HistoryChain
+pub mod HistorySteps

@@ -1,4 +1,0 @@
-pub mod LinesLists
-pub mod LinesOrder
-pub mod LinesChain
-pub mod LinesSteps

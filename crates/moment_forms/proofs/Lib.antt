@@ -1,0 +1,4 @@
+pub mod Fits
+pub mod Fives
+pub mod Lagrange
+pub mod Middle

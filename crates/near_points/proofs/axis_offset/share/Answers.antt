@@ -1,0 +1,25 @@
+use Rattle.std.proofs.Common.{◌≤◌, ◌*◌, ℤ, FitsSigned, unsigned_abs, arith, subst, sym}
+use mir.Syntax.{w64}
+use Rattle.space.specs.Vectors.{at}
+use Rattle.space.proofs.Naturals.{abs_mul}
+use Rattle.sweep_boxes.specs.Limits.{side_component_limit}
+use Rattle.space.specs.Ranges.{vector_limit}
+use Rattle.near_points.proofs.Bits.{as_bits, times_fits, times_passed}
+use Rattle.near_points.proofs.axis_offset.share.Goals as goal
+
+pub overflow_mul-result : goal.overflow_mul-result
+overflow_mul-result c =
+    let x = at c.args.side.now c.args.i in let y = c.args.part in
+    subst (FitsSigned w64) (sym (times_passed side_component_limit (2 * (vector_limit * vector_limit)) x y (omega arith) (omega arith) c.requires.side c.requires.part))
+    (times_fits side_component_limit (2 * (vector_limit * vector_limit)) x y (omega arith) c.requires.side c.requires.part)
+
+pub returns-clause-value : goal.returns-clause-value
+returns-clause-value c =
+    let x = at c.args.side.now c.args.i in let y = c.args.part in
+    as_bits w64 _ _ (times_passed side_component_limit (2 * (vector_limit * vector_limit)) x y (omega arith) (omega arith) c.requires.side c.requires.part)
+    (times_fits side_component_limit (2 * (vector_limit * vector_limit)) x y (omega arith) c.requires.side c.requires.part)
+
+pub returns-clause-small : goal.returns-clause-small
+returns-clause-small c =
+    subst (λ (z : ℤ). unsigned_abs z ≤ side_component_limit * (2 * (vector_limit * vector_limit))) (sym (returns-clause-value c))
+    (abs_mul (at c.args.side.now c.args.i) c.args.part side_component_limit (2 * (vector_limit * vector_limit)) c.requires.side c.requires.part)

@@ -1,0 +1,4 @@
+pub mod Raised
+pub mod Mixed
+pub mod Excluded
+pub mod Lines

@@ -1,9 +1,0 @@
-use crate::change::WordChange;
-use job_facts::Counts;
-
-/// What a move changes on a strip, ray by ray and word by word, and what it finds there.
-#[derive(Drop)]
-pub struct Marked {
-    pub changes: Vec<WordChange>,
-    pub counts: Counts,
-}

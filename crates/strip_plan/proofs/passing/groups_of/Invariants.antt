@@ -1,9 +1,0 @@
-use Rattle.std.proofs.Common.{◌≡◌, length}
-use Rattle.strip_plan.specs.Passing.{AreGroups}
-use Rattle.strip_plan.proofs.passing.groups_of.Given as goal
-
-abbrev pub invariant-loop-number : goal.invariant-loop-number
-invariant-loop-number l = record {
-  many : length l.groups.items ≡ l.number;
-  groups : AreGroups l.hulls l.edits l.groups.items;
-}

@@ -1,5 +1,0 @@
--- what is reckoned of the first moves
-use Rattle.strip_plan.proofs.reckoned.fn.halves_at_once.front.Goals as goal
-
-pub returns : goal.returns
-returns c = c.ready_moves_of.ensures

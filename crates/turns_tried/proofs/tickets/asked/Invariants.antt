@@ -1,5 +1,0 @@
-use Rattle.strip_turns.specs.Passes.{IsPass}
-use Rattle.turns_tried.proofs.tickets.asked.Given as goal
-
-abbrev pub invariant-loop-query : goal.invariant-loop-query
-invariant-loop-query g l = IsPass l.board l.pass

@@ -1,7 +1,0 @@
-use Rattle.std.proofs.Common.{◌≡◌}
-use Rattle.strip_turns.specs.Passes.{IsPass}
-use Rattle.turns_tried.proofs.tickets.hundred.Given as goal
-
-abbrev pub invariant-loop-k : goal.invariant-loop-k
-invariant-loop-k l =
-    IsPass l.board l.pass × (l.pass.seat.me.0 ≡ record l.initial.pass.seat.me.0 { drawn = l.k; log = l.pass.seat.me.0.log })

@@ -1,0 +1,22 @@
+use Rattle.std.proofs.Common.{ap, subst, sym, ◌∙◌}
+use Rattle.bern_form.specs.Forms.{all_negative, all_positive, difference4}
+use Rattle.wanted_marks.specs.Ready.{IsReadyMove}
+use Rattle.wanted_marks.proofs.Dropping.{behind_is_clear, beside_is_clear}
+use Rattle.wanted_marks.proofs.move_marker.MoveMarker.are_missed.Goals as goal
+
+pub are_beside-requires-clause-limits : goal.are_beside-requires-clause-limits
+are_beside-requires-clause-limits c =
+    let s = c.self.inside in
+    (subst (IsReadyMove s.ready.now) c.self.view_is c.self.invariant).limits_small
+
+pub returns-then-are_behind : goal.returns-then-are_behind
+returns-then-are_behind c = λ yes x from to p forms.
+    let s = c.self.inside in
+    let ready = subst (IsReadyMove s.ready.now) c.self.view_is c.self.invariant in
+    behind_is_clear c.args.self.now p (ready.both p) (ap all_negative (sym forms.height) ∙ c.are_behind.ensures c.if-are_behind.true x from to)
+
+pub returns : goal.returns
+returns c = λ yes x from to p forms.
+    let s = c.self.inside in
+    let ready = subst (IsReadyMove s.ready.now) c.self.view_is c.self.invariant in
+    beside_is_clear c.args.self.now s.ready.now.limits p ready.limits_are (ready.both p) (ap (λ x. all_positive (difference4 x s.ready.now.limits)) (sym forms.width) ∙ c.are_beside.ensures yes x from to)
