@@ -1,0 +1,10 @@
+pub mod Limits
+pub mod Rays
+pub mod Saved
+pub mod Numbers
+pub mod GridTests
+pub mod RayLines
+pub mod Spelling
+pub mod Reading
+pub mod Law
+pub mod Taken
