@@ -19,7 +19,7 @@ is_slab_excluded sweep grid cell slab =
 abbrev pub are_slabs_excluded : SweepOf → GridSize → List SlabSize → CertCell → Bool
 are_slabs_excluded sweep grid slabs cell = list_all (is_slab_excluded sweep grid cell) slabs
 
--- the line's box excludes every outer slab of the cutter, cut into so many
+-- the line's box excludes every outer slab of the cutter, cut into `slabs` slabs
 abbrev pub box_holds : CertTask → ℕ → CertCell → Bool
 box_holds task slabs cell = are_slabs_excluded task.sweep task.grid (outer_stack task.cutter slabs) cell
 

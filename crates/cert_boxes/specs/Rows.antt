@@ -23,7 +23,7 @@ has_index l span = nat_le span.a l && nat_lt l span.b
 abbrev pub has_both : ℕ → ℕ → CellSpan → Bool
 has_both l e span = has_index l span && (nat_le span.from e && nat_lt e span.to)
 
--- at each of so many finest cells from one on some span has the index
+-- at each of n finest cells from one on some span has the index
 abbrev pub covers_from : List CellSpan → ℕ → ℕ → ℕ → Bool
 covers_from spans l from many = list_all (λ e. list_any (has_both l e) spans) (range_with_len from many)
 

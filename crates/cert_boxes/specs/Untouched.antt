@@ -37,7 +37,8 @@ TimesAreCovered =
     (grid : GridSize) (cells : List CertCell) (point : LatticePoint) → list_all (is_cell_on grid) cells ≡ true
     → (is_covered cells point ≡ true) ↔ ((a b : ℕ) → IsTime a b → NamesAt cells point a b)
 
--- a certificate in range that is accepted for the move and the cutter, cut into the certificate's own number of slabs, leaves them untouched
+-- a certificate in range that is accepted for the move and the cutter, cut into the certificate's own number of slabs, leaves part and
+-- fixtures untouched
 abbrev pub AcceptedIsUntouched : SweepOf → CutterSize → ℕ → Type 0
 AcceptedIsUntouched sweep cutter slabs =
     (grid : GridSize) (part fixture : Solid) (cert : Cert) → cert.slabs ≡ slabs → IsInRange grid cert
