@@ -82,4 +82,5 @@ line_of_cell number last ray = if is_last last ray then number else number + 1
 -- each cell has the number of its line in the text
 abbrev pub AreAtTheirLines : ℕ → Option Ray → List CertCell → Type 0
 AreAtTheirLines number last [] = Unit {0}
-AreAtTheirLines number last (cell ∷ cells) = (cell.line ≡ line_of_cell number last cell.ray) × AreAtTheirLines (cell.line + 1) (Some cell.ray) cells
+AreAtTheirLines number last (cell ∷ cells) =
+    (cell.line ≡ line_of_cell number last cell.ray) × AreAtTheirLines (cell.line + 1) (Some cell.ray) cells
