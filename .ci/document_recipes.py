@@ -61,6 +61,8 @@ verdict clean
 """
 FINDINGS = REPORT.replace("part 0 0", "part 1 2").replace("safe\ntotal", "unsafe\ntotal").replace("clean", "findings")
 MARKS = "clverify point 1\nmove 1 line 3 clear\nmove 2 line 4 removed\nmoves 2\n"
+CERT = "cert 1\nslabs 16\nray Z 0 0\ncell 0 0 0 1\nend\n"
+JOB = {"part.cls": b"FINI\n", "setup.toml": b"[grid]\n"}
 NUMBERED = "N10 UNITS/INCHES\nn0020\tGOTO/1,2,3\nGOTO/4,5,6\n"
 
 
@@ -99,6 +101,11 @@ CASES = {
         build({"point": (0, MARKS.replace("clear", "nocutter"))}, 1),
         build({"point": (0, "clverify point 1\nmoves 0\n")}, 1),
         build({"point": (3, "refused: cl line 1: AxisZero\n")}, 3),
+    ],
+    "mkdir -p certificates": [
+        ({**JOB, "answers": {"list": (0, LISTING), "certify": (0, CERT)}}, {"certificates/3.cert": CERT.encode()}, 0),
+        ({**JOB, "answers": {"list": (0, LISTING), "certify": (1, "nocert\n")}}, {}, 1),
+        ({**JOB, "answers": {"list": (0, "clverify list 1\nmoves 0 passed 7\n")}}, {}, 1),
     ],
 }
 

@@ -52,13 +52,15 @@ _clverify() {
     local word=${COMP_WORDS[COMP_CWORD]}
     COMPREPLY=()
     if [ "$COMP_CWORD" = 1 ]; then
-        _clverify_words "$word" 'list point selftest verify'
+        _clverify_words "$word" 'certify check list point selftest verify'
         return
     fi
-    # The words of point have one order: CL X Y Z --depth M --slabs N.
+    # These words have one order: CL X Y Z --depth M --slabs N of point, CL SETUP I of certify, CL SETUP I CERT of check.
     case ${COMP_WORDS[1]}:$COMP_CWORD in
     verify:*) _clverify_verify "$word" ;;
-    list:2 | point:2) _clverify_files "$word" ;;
+    list:2 | point:2 | certify:2 | check:2) _clverify_files "$word" ;;
+    certify:3 | check:3) _clverify_files "$word" .toml ;;
+    check:5) _clverify_files "$word" .cert ;;
     point:6) _clverify_words "$word" --depth ;;
     point:7) _clverify_words "$word" '0 1 2 3 4 5 6 7 8 9 10' ;;
     point:8) _clverify_words "$word" --slabs ;;

@@ -268,8 +268,8 @@ fn has_points(alloc: Global, planes: &[Numbers], count: u32) -> Result<bool, NoM
 
 #[test]
 fn closures_kept_beside_their_solid(rt: HostRuntime) -> Result<(), Fail> {
-    // On a z ray 4 points where x + y is 0, 3 where it is 1000 (twice), 1 where it is 2000 (three times): 13. On an x ray 5 where y + z is 0,
-    // 3 where it is 1000 (twice), 1 where it is 2000 (twice): 13. On the y rays the same number.
+    // On a z ray 4 points where x + y is 0, 3 where it is 1000 (twice), 1 where it is 2000 (three times): 13. On an x ray 5 where
+    // y + z is 0, 3 where it is 1000 (twice), 1 where it is 2000 (twice): 13. On the y rays the same number.
     assert!(rt; has_points(rt.alloc(), &SLANTED, 39)?, "slanted");
     // 3 on each of 9 z rays, 6 on each of 6 x rays and 6 y rays.
     assert!(rt; has_points(rt.alloc(), &BOX, 99)?, "box");

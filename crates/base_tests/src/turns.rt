@@ -145,7 +145,7 @@ fn is_row(row: &Row) -> bool {
     if !is_within(&row.point, 1_000_000) || !is_within(&row.there, 3_000_000) {
         return false;
     }
-    turn.forth(&row.point) == row.there && turn.back(&row.there) == row.point
+    turn.forth(row.point) == row.there && turn.back(row.there) == row.point
 }
 
 #[test]

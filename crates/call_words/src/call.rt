@@ -61,8 +61,8 @@ fn read_given(word: Option<&str>) -> Option<&str>
     read_name(word?)
 }
 
-/// A word that is a name.
-fn read_name(word: &str) -> Option<&str>
+/// A word that is a name: one that has a byte.
+pub fn read_name(word: &str) -> Option<&str>
     ensures { option_map (λ name. name.now) result ≡ named word.now }
 {
     if word.is_empty() { None } else { Some(word) }

@@ -1,7 +1,7 @@
 -- What an accepted certificate means: the upper cutter meets no point of the part or of the fixtures.
-use Rattle.std.proofs.Common.{◌≡◌, ℕ, zero, suc, ◌+◌, ◌-◌, ◌*◌, ◌^◌, ◌<◌, ◌≤◌, Bool, true, false, not, ◌&&◌, leb, ltb, List, [], ◌∷◌, Option, Some, None, ℤ, pos, arith, refl, ap, sym, subst, ⊎_elim, ◌∙◌}
-use Rattle.std.specs.List.{find, list_all, list_any}
-use Rattle.std.proofs.lemmas.Bool.{and_from, and_parts, cases_lt, leb-true, ltb-true, not-false}
+use Rattle.std.proofs.Common.{◌≡◌, ℕ, ◌+◌, ◌-◌, ◌*◌, ◌^◌, ◌<◌, ◌≤◌, Bool, true, false, not, ◌&&◌, leb, ltb, List, Option, Some, None, ℤ, pos, arith, refl, ap, sym, subst, ⊎_elim, ◌∙◌}
+use Rattle.std.specs.List.{list_any}
+use Rattle.std.proofs.lemmas.Bool.{and_parts, cases_lt, leb-true, ltb-true, not-false}
 use Rattle.space.specs.Reach.{is_in_reach}
 use Rattle.space.specs.Sweeps.{IsSweep, IsTime, SweepOf}
 use Rattle.bern_form.specs.Between.{is_unexcluded_between}
@@ -13,7 +13,7 @@ use Rattle.bern_form.proofs.Exclusion.{excluded_not_held}
 use Rattle.bern_form.proofs.Finer.{all_out}
 use Rattle.bern_form.proofs.Relations.{SomeHolds}
 use Rattle.cutter_slabs.specs.Cutter.{CutterSize}
-use Rattle.cutter_slabs.specs.Meets.{InUpperAt, MeetsUpper}
+use Rattle.cutter_slabs.specs.Meets.{InUpperAt}
 use Rattle.cutter_slabs.specs.Stacks.{outer_stack, reach_of}
 use Rattle.ray_grid.specs.Grids.{GridSize}
 use Rattle.ray_grid.specs.Lattice.{point_of}
@@ -23,20 +23,18 @@ use Rattle.ray_grid.proofs.Counted.{only_points}
 use Rattle.ray_boxes.specs.Boxes.{is_excluded_in_box}
 use Rattle.ray_boxes.proofs.Excluded.{none_left}
 use Rattle.ray_boxes.proofs.Lines.{IsLine, ray_line}
-use Rattle.ray_boxes.proofs.Mixed.{IsAlong}
-use Rattle.cert_lines.specs.Certificates.{IsInRange, is_cell_on}
+use Rattle.cert_lines.specs.Certificates.{IsInRange}
 use Rattle.cert_lines.specs.declared.cell.CertCell.{CertCell}
 use Rattle.cert_lines.specs.declared.cert.Cert.{Cert}
-use Rattle.cert_boxes.specs.declared.verdict.Verdict.{Verdict}
-use Rattle.cert_boxes.specs.declared.verdict.Verdict.TheVariants.{Accepted, BoxStands, Uncovered}
-use Rattle.cert_boxes.specs.Covering.{is_covered, wants_cover}
+use Rattle.cert_boxes.specs.declared.verdict.Verdict.TheVariants.{Accepted}
+use Rattle.cert_boxes.specs.Covering.{is_covered}
 use Rattle.cert_boxes.specs.Holding.{are_slabs_excluded, box_holds, is_slab_excluded}
 use Rattle.cert_boxes.specs.Tasks.{CertTask, is_guarded, cert_task}
-use Rattle.cert_boxes.specs.Untouched.{AcceptedIsUntouched, IsUntouched, NamesAt}
+use Rattle.cert_boxes.specs.Untouched.{AcceptedIsUntouched, IsUntouched}
 use Rattle.cert_boxes.specs.Verdicts.{first_line, first_point, is_uncovered, verdict_of, verdict_on}
 use Rattle.cert_boxes.proofs.Found.{none_found}
-use Rattle.cert_boxes.proofs.Listed.{all_listed, none_fails}
-use Rattle.cert_boxes.proofs.RowLemmas.{line_in_range, same_ray}
+use Rattle.cert_boxes.proofs.Listed.{none_fails}
+use Rattle.cert_boxes.proofs.RowLemmas.{same_ray}
 use Rattle.cert_boxes.proofs.Times.{named_at}
 
 -- the weights of an index between two
@@ -55,7 +53,7 @@ box_alone : (slabs : List SlabSize) (m : SweepOf) (point : ℕ → List ℤ) (S 
 box_alone slabs m point S j k a c line e h =
     none_left slabs m (point a) (point c) (point a) 1 0 j k S (line.each a a c 1 0 (omega arith) (omega arith)) h
 
-box_at : (slabs : List SlabSize) (m : SweepOf) (point : ℕ → List ℤ) (S j k a b l : ℕ) → IsLine point → a ≤ l → l < b
+pub box_at : (slabs : List SlabSize) (m : SweepOf) (point : ℕ → List ℤ) (S j k a b l : ℕ) → IsLine point → a ≤ l → l < b
     → list_any (λ s. not (is_excluded_in_box m (point a) (point (b - 1)) j k S s)) slabs ≡ false → is_unexcluded_between slabs m (point l) j k S ≡ false
 box_at slabs m point S j k a b l line after before h =
     let v = l - a in let w = (b - 1) - l in

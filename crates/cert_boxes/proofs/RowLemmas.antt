@@ -1,7 +1,7 @@
 -- The rows of a certificate's lines: each ray has its own by its number.
-use Rattle.std.proofs.Common.{◌≡◌, ℕ, zero, suc, ◌+◌, ◌-◌, ◌*◌, ◌^◌, ◌<◌, ◌≤◌, Bool, true, false, not, cond, eqb, leb, ltb, ◌||◌, ◌&&◌, List, [], ◌∷◌, ◌++◌, length, get_or, set, take, Some, arith, refl, ap, sym, subst, ⊎_elim, ◌∙◌}
-use Rattle.std.specs.List.{Contains, list_all, list_any, range_with_len, slice_get}
-use Rattle.std.proofs.lemmas.Bool.{and_from, and_parts, cases_eq, cases_Bool, eq-eqb, eqb-true, leb-true, ltb-true, ne_eqb}
+use Rattle.std.proofs.Common.{◌≡◌, ℕ, zero, suc, ◌+◌, ◌^◌, ◌<◌, Bool, true, false, cond, eqb, leb, ltb, ◌||◌, ◌&&◌, List, [], ◌∷◌, ◌++◌, length, get_or, set, take, refl, ap, sym, subst, ⊎_elim, ◌∙◌}
+use Rattle.std.specs.List.{list_all, list_any, range_with_len, slice_get}
+use Rattle.std.proofs.lemmas.Bool.{and_from, and_parts, cases_eq, eq-eqb, eqb-true, leb-true, ltb-true, ne_eqb}
 use Rattle.std.proofs.lemmas.List.{get_or-set_other, get_or-set_same, get_or_read, take_more}
 use Rattle.std.proofs.lemmas.List.Folds.{list_any-append}
 use Rattle.ray_grid.specs.Grids.{GridSize}
@@ -16,10 +16,10 @@ use Rattle.ray_grid.proofs.Numbered.{number_is_place}
 use Rattle.cert_lines.specs.Certificates.{is_cell_on, is_span_on}
 use Rattle.cert_lines.specs.Spelling.{is_same_family, is_same_ray}
 use Rattle.cert_lines.specs.declared.cell.CertCell.{CertCell}
-use Rattle.cert_boxes.specs.declared.row.CellSpan.{CellSpan}
+use Rattle.cert_boxes.specs.declared.span.CellSpan.{CellSpan}
 use Rattle.cert_boxes.specs.Covering.{finest_cells, is_among, is_covered, is_during, names}
 use Rattle.cert_boxes.specs.Holding.{IsLineInRange}
-use Rattle.cert_boxes.specs.Rows.{AreRows, covers_from, has_both, span_of}
+use Rattle.cert_boxes.specs.Rows.{AreRows, covers_throughout, has_both, span_of}
 use Rattle.cert_boxes.proofs.Covers.{same_tests}
 use Rattle.cert_boxes.proofs.Listed.{any_same}
 
@@ -69,7 +69,7 @@ same_ray r s h =
     let top = and_parts (is_same_family r.family s.family) (eqb r.i s.i && eqb r.j s.j) h in let nodes = and_parts (eqb r.i s.i) (eqb r.j s.j) top.1 in
     ray_by r s (same_family r.family s.family top.0) (eqb-true r.i s.i nodes.0) (eqb-true r.j s.j nodes.1)
 
-own_ray : (r : Ray) → is_same_ray r r ≡ true
+pub own_ray : (r : Ray) → is_same_ray r r ≡ true
 own_ray r = and_from (is_same_family r.family r.family) (eqb r.i r.i && eqb r.j r.j) (own_family r.family) (and_from (eqb r.i r.i) (eqb r.j r.j) (eq-eqb r.i r.i refl) (eq-eqb r.j r.j refl))
 
 -- the ray of a number is known
@@ -94,7 +94,8 @@ named_by_row grid cells rows point e are all on =
     (λ cell h. ap (λ b. b && (is_among point.l cell && is_during e cell)) (same_by_number grid cell.ray point.ray (line_in_range grid cell h).ray on)) cells all
 
 pub covered_by_row : (grid : GridSize) (cells : List CertCell) (rows : List (List CellSpan)) (point : LatticePoint) → AreRows grid cells rows → list_all (is_cell_on grid) cells ≡ true
-    → IsRay grid point.ray → covers_from (get_or rows (ray_number grid point.ray) []) point.l 0 finest_cells ≡ is_covered cells point
+    → IsRay grid point.ray → covers_throughout (get_or rows (ray_number grid point.ray) []) point.l ≡ is_covered cells point
+unfolding covers_throughout
 covered_by_row grid cells rows point are all on =
     let each = λ (e : ℕ). named_by_row grid cells rows point e are all on in
     λ t. list_all (λ e. each e t) (range_with_len 0 finest_cells)

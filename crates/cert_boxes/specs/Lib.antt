@@ -4,3 +4,8 @@ pub mod Covering
 pub mod Verdicts
 pub mod Untouched
 pub mod Rows
+pub mod Forms
+pub mod Search
+pub mod Making
+pub mod Made
+pub mod Drafts

@@ -1,5 +1,5 @@
 -- What an accepted certificate means, without a certificate, a slab or a mark; and what it is to be covered, without a finest cell.
-use Rattle.std.specs.Prelude.{◌≡◌, ℕ, ◌^◌, ◌↔◌, Bool, true, ◌&&◌, IsTrue, List, Contains}
+use Rattle.std.specs.Prelude.{◌≡◌, ℕ, ◌^◌, ◌↔◌, true, List, Contains}
 use Rattle.std.specs.List.{list_all}
 use Rattle.space.specs.Sweeps.{IsTime, SweepOf}
 use Rattle.bern_form.specs.Cells.{IsInCell}

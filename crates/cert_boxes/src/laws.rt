@@ -1,3 +1,4 @@
+ghost use Rattle.cert_boxes.specs.Made.{DueIsForTask};
 ghost use Rattle.cert_boxes.specs.Untouched.{AcceptedIsUntouched, TimesAreCovered};
 
 use axis_cells::Sweep;
@@ -6,6 +7,11 @@ use cutter_slabs::Stacks;
 /// The law of the times that lines cover: a contract, with nothing to run.
 pub fn time_laws()
     ensures { TimesAreCovered }
+{}
+
+/// The law of the certificate that is due: a contract, with nothing to run.
+pub fn making_law()
+    ensures { DueIsForTask }
 {}
 
 /// The law of accepted certificates, for a move and the stacks of a cutter: a contract, with nothing to keep.

@@ -1,10 +1,22 @@
-//! What a certificate means: when its lines hold and cover, which verdict is due, and what an accepted one says of the exact cutter.
+//! What a certificate means, and a judge of certificates that shares no bisection with the verifier.
 #![tactic(auto)]
 
+mod boxes;
+mod cover;
+mod draft;
+mod forms;
+mod judge;
 mod laws;
+mod making;
 mod row;
+mod search;
+mod span;
+mod test;
+mod tree;
 mod verdict;
 
-pub use laws::{acceptance_law, time_laws};
-pub use row::CellSpan;
+pub use judge::check;
+pub use laws::{acceptance_law, making_law, time_laws};
+pub use making::make;
+pub use span::CellSpan;
 pub use verdict::Verdict;

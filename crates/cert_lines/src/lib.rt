@@ -14,4 +14,4 @@ mod words;
 pub use cell::{Cells, CertCell};
 pub use cert::{Cert, MAX_CERT_BYTES, fits_cert, read_cert};
 pub use fault::{CertEnd, CertFault, CertWhy};
-pub use text::cert_text;
+pub use text::{cert_text, is_last};

@@ -85,7 +85,7 @@ fn write_number(page: &mut Page, n: u32) -> Result<(), NoMemory>
 }
 
 /// Whether the ray is that of the cell before.
-fn is_last(last: Option<Ray>, ray: Ray) -> bool
+pub fn is_last(last: Option<Ray>, ray: Ray) -> bool
     ensures { result ≡ is_last last ray }
 {
     match last {

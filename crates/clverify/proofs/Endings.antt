@@ -4,7 +4,7 @@ use Rattle.std.specs.Io.KnownBytes.{Keeps}
 use Rattle.vf_io.specs.Files.{Files}
 use Rattle.report_text.specs.Refusals.{refusal_of}
 use Rattle.input_faults.specs.declared.fault.Fault.{Fault}
-use Rattle.clverify.specs.Commands.{Command, list_moves, mark_moves, self_test, verify_moves}
+use Rattle.clverify.specs.Commands.{Command, certify_move, check_cert, list_moves, mark_moves, self_test, verify_moves}
 use Rattle.clverify.specs.Due.{command_due}
 use Rattle.clverify.specs.Reply.{Due, IsVerdict, refused, usage_due}
 use Rattle.job_inputs.specs.Inputs.{is_read_fault}
@@ -83,6 +83,8 @@ refusal_due files (list_moves file) fault same = ap (λ d. Some d) same
 refusal_due files (mark_moves file question) fault same = ap (λ d. Some d) same
 refusal_due files (verify_moves call) fault same = ap (λ d. Some d) same
 refusal_due files (self_test number) fault same = ap (λ d. Some d) same
+refusal_due files (certify_move call) fault same = ap (λ d. Some d) same
+refusal_due files (check_cert call) fault same = ap (λ d. Some d) same
 
 -- a text that is true with a status is true as a front, which says nothing of a status
 true_in_front : (status : Status) (files : Files) (command : Command) (text : List ℕ) → IsTrueText status files command text → IsTrueText ends.WriteFault files command text
@@ -94,6 +96,28 @@ true_in_front status files (verify_moves call) text h = record {
   reports_truly = record { facts = h.reports_truly.facts; report = h.reports_truly.report; is_true = h.reports_truly.is_true; ends = tt };
 }
 true_in_front status files (self_test number) text h = record { facts = h.facts; summary = h.summary; is_true = h.is_true; ends = tt }
+true_in_front status files (certify_move call) text h = record {
+  asked = h.asked;
+  found = h.found;
+  certifies_truly = record {
+    made = h.certifies_truly.made;
+    answer = h.certifies_truly.answer;
+    is_true = h.certifies_truly.is_true;
+    none = h.certifies_truly.none;
+    ends = tt;
+  };
+}
+true_in_front status files (check_cert call) text h = record {
+  given = h.given;
+  found = h.found;
+  judges_truly = record {
+    verdict = h.judges_truly.verdict;
+    answer = h.judges_truly.answer;
+    is_due = h.judges_truly.is_due;
+    untouched = h.judges_truly.untouched;
+    ends = tt;
+  };
+}
 
 -- a listing, and marks, that are true come without findings
 pub without_findings : (files : Option Files) (report : Result Reply Stopped) (P : Files → List ℕ → Type 0) → IfOk report (λ answer. answer.status ≡ ends.Clean)

@@ -1,5 +1,8 @@
+pub mod Certified
+pub mod Counting
 pub mod Done
 pub mod Endings
+pub mod Given
 pub mod Read
 pub mod Shapes
 pub mod Unread

@@ -2,16 +2,30 @@
 use Rattle.std.specs.Prelude.{ℕ, ◌≤◌}
 use Rattle.clverify.specs.Commands as words
 use Rattle.clverify.specs.declared.commands.Command.{Command}
-use Rattle.clverify.specs.declared.commands.Command.TheVariants.{List, Point, Selftest, Verify}
+use Rattle.clverify.specs.declared.commands.Command.TheVariants.{Certify, Check, List, Point, Selftest, Verify}
+use Rattle.clverify.specs.Commands.Certify.{MoveCall}
+use Rattle.clverify.specs.Commands.Check.{CheckCall}
+use Rattle.clverify.specs.declared.commands.asked.MoveWords.{MoveWords}
+use Rattle.clverify.specs.declared.commands.asked.CheckWords.{CheckWords}
 use Rattle.point_marks.specs.Questions.{IsQuestion}
 use Rattle.call_words.specs.Call.{most_workers}
 use Rattle.call_words.specs.Seen.{call_seen}
+
+-- a call that asks for a move
+abbrev pub move_seen : MoveWords → MoveCall
+move_seen said = record { file = said.file.now; setup = said.setup.now; number = said.number }
+
+-- a call that names a certificate too
+abbrev pub check_seen : CheckWords → CheckCall
+check_seen said = record { move_asked = move_seen said.move_asked; cert = said.cert.now }
 
 abbrev pub command_seen : Command → words.Command
 command_seen (List file) = words.list_moves file.now
 command_seen (Point file question) = words.mark_moves file.now question
 command_seen (Verify said) = words.verify_moves (call_seen said)
 command_seen (Selftest number) = words.self_test number
+command_seen (Certify said) = words.certify_move (move_seen said)
+command_seen (Check said) = words.check_cert (check_seen said)
 
 -- at least one worker, and not too many
 pub record AreWorkers (workers : ℕ) : Type 0 where
@@ -24,3 +38,5 @@ MayBeAsked (List file) = Unit {0}
 MayBeAsked (Point file question) = IsQuestion question
 MayBeAsked (Verify said) = AreWorkers said.workers
 MayBeAsked (Selftest number) = Unit {0}
+MayBeAsked (Certify said) = Unit {0}
+MayBeAsked (Check said) = Unit {0}

@@ -1,5 +1,6 @@
 pub mod Reply
 pub mod Asked
+pub mod Certificates
 pub mod Codes
 pub mod Commands
 pub mod Due

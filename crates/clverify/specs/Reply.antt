@@ -1,5 +1,5 @@
 -- An answer that is due: a text, and the status that goes with it.
-use Rattle.std.specs.Prelude.{ℕ, List, codes, Result, Ok, Err}
+use Rattle.std.specs.Prelude.{ℕ, List, ◌++◌, codes, Result, Ok, Err}
 use Rattle.vf_text.specs.Pages.{line}
 use Rattle.report_text.specs.Refusals.{refusal_of}
 use Rattle.input_faults.specs.declared.fault.Fault.{Fault}
@@ -13,7 +13,8 @@ pub record Due : Type 0 where
 -- the one line for words that are no command
 abbrev pub usage_line : List ℕ
 usage_line =
-    line (codes "usage: clverify list CL | point CL X Y Z --depth M [--slabs N] | verify CL SETUP [--script F] [--workers N] | selftest N")
+    line (codes "usage: clverify list CL | point CL X Y Z --depth M [--slabs N] | verify CL SETUP [--script F] [--workers N] | selftest N"
+    ++ codes " | certify CL SETUP I | check CL SETUP I CERT")
 
 -- words that are no command are due that line
 abbrev pub usage_due : Due

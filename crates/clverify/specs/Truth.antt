@@ -6,7 +6,9 @@ use Rattle.input_faults.specs.declared.fault.Fault.{Fault}
 use Rattle.vf_io.specs.Bytes.{AppendsFront}
 use Rattle.vf_io.specs.Files.{Files, bytes_of}
 use Rattle.clverify.specs.Reply.{refused}
-use Rattle.clverify.specs.Commands.{Command, list_moves, mark_moves, self_test, verify_moves}
+use Rattle.clverify.specs.Commands.{Command, certify_move, check_cert, list_moves, mark_moves, self_test, verify_moves}
+use Rattle.clverify.specs.Commands.Certify.{IsTrueCertification}
+use Rattle.clverify.specs.Commands.Check.{IsTrueCheck}
 use Rattle.clverify.specs.Commands.List.{IsTrueListing}
 use Rattle.clverify.specs.Commands.Point.{IsTrueMarking}
 use Rattle.clverify.specs.Commands.Selftest.{IsTrueSelftest}
@@ -26,6 +28,8 @@ IsTrueText status files (list_moves file) text = HasNoFindings status × IsTrueL
 IsTrueText status files (mark_moves file question) text = HasNoFindings status × IsTrueMarking question (bytes_of files file) text
 IsTrueText status files (verify_moves call) text = IsTrueVerification call files status text
 IsTrueText status files (self_test number) text = IsTrueSelftest number status text
+IsTrueText status files (certify_move call) text = IsTrueCertification call files status text
+IsTrueText status files (check_cert call) text = IsTrueCheck call files status text
 
 -- the text is the one line that a command's files are refused with
 pub record IsRefusal (files : Files) (command : Command) (text : List ℕ) : Type 0 where

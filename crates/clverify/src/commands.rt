@@ -10,12 +10,18 @@ ghost use Rattle.job_inputs.specs.Reads.{ReadsOnce};
 ghost use Rattle.clverify.specs.Settled.{IsReport};
 ghost use Rattle.clverify.specs.Truth.{IsTrueText};
 
+mod asked;
+mod certify;
+mod check;
 mod list;
 mod point;
 mod question;
 mod selftest;
 mod verify;
 
+use crate::commands::asked::{CheckWords, MoveWords};
+use crate::commands::certify::{certify_report, certify_words};
+use crate::commands::check::{check_report, check_words};
 use crate::commands::list::{list_report, list_words};
 use crate::commands::point::{point_report, point_words};
 use crate::commands::selftest::{selftest_report, selftest_words};
@@ -41,6 +47,10 @@ pub(crate) enum Command<'a> {
     Verify(VerifyWords<'a>),
     /// Verify a program that is generated from a number, with a setup of its own.
     Selftest { number: u32 },
+    /// Make a certificate that a move touches neither part nor fixtures.
+    Certify(MoveWords<'a>),
+    /// Judge such a certificate.
+    Check(CheckWords<'a>),
 }
 
 /// The command that words stand for, where they are one. Those after `verify` need memory.
@@ -60,6 +70,8 @@ pub(crate) fn read_command<'a>(
         "point" => Ok(point_words(more)),
         "verify" => verify_command(alloc, more),
         "selftest" => Ok(selftest_words(more)),
+        "certify" => Ok(certify_words(more)),
+        "check" => Ok(check_words(more)),
         _ => Ok(None),
     }
 }
@@ -85,5 +97,7 @@ pub(crate) fn report_on<R: Threads + Wait + Sync, S: Shelf, G: Gate + Sync>(
         Command::Point { file, question } => point_report(alloc, file, question, shelf),
         Command::Verify(said) => verify_report(rt, alloc, said, shelf, gate),
         Command::Selftest { number } => selftest_report(rt, alloc, *number, gate),
+        Command::Certify(said) => certify_report(alloc, said, shelf),
+        Command::Check(said) => check_report(alloc, said, shelf),
     }
 }

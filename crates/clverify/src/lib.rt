@@ -2,6 +2,7 @@
 #![tactic(auto)]
 
 pub mod arguments;
+mod certificates;
 mod commands;
 mod job;
 mod reply;

@@ -10,7 +10,7 @@ use std::process::ExitCode;
 pub enum Status {
     /// All was done, and nothing was found.
     Clean,
-    /// All was done, and some move isn't safe.
+    /// All was done, and something was found: some move isn't safe, there is no certificate for a move, or one isn't accepted.
     Findings,
     /// The words are no command.
     Usage,

@@ -24,10 +24,22 @@ impl Model for Cutter {
 
     ghost Value = { CutterSize };
 
-    ghost view = { λ c. record { d = unsigned_abs c.d; r = unsigned_abs c.r; h = unsigned_abs c.h; flank = c.flank; base = unsigned_abs c.base } };
+    ghost view = { λ c. record {
+      d = unsigned_abs c.d;
+      r = unsigned_abs c.r;
+      h = unsigned_abs c.h;
+      flank = c.flank;
+      base = unsigned_abs c.base;
+    } };
 
     ghost invariant = { λ c. (pos 0 ≤ℤ c.d) × (pos 0 ≤ℤ c.r) × (pos 0 ≤ℤ c.h) × (pos 0 ≤ℤ c.base)
-        × IsCutter record { d = unsigned_abs c.d; r = unsigned_abs c.r; h = unsigned_abs c.h; flank = c.flank; base = unsigned_abs c.base } };
+        × IsCutter record {
+          d = unsigned_abs c.d;
+          r = unsigned_abs c.r;
+          h = unsigned_abs c.h;
+          flank = c.flank;
+          base = unsigned_abs c.base;
+        } };
 
     ghost inverse = { λ c. record { d = pos c.d; r = pos c.r; h = pos c.h; flank = c.flank; base = pos c.base } };
 

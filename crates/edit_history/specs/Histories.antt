@@ -14,7 +14,8 @@ abbrev pub step : ℕ → Option Edit → History → History
 step v None history = history
 step v (Some (Apply number)) history = record { numbers = take history.at history.numbers ++ v ∷ []; at = history.at + 1 }
 step v (Some Undo) history = record { numbers = history.numbers; at = history.at - 1 }
-step v (Some Redo) history = record { numbers = history.numbers; at = if nat_lt history.at (length history.numbers) then history.at + 1 else history.at }
+step v (Some Redo) history =
+    record { numbers = history.numbers; at = if nat_lt history.at (length history.numbers) then history.at + 1 else history.at }
 
 -- the line after the first v edits
 abbrev pub history_at : List Edit → ℕ → History

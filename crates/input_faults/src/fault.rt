@@ -1,3 +1,4 @@
+use cert_lines::CertFault;
 use cl_lines::ClFault;
 use edit_plan::ScriptFault;
 use setup_keys::SetupFault;
@@ -11,6 +12,8 @@ pub enum Input {
     Setup,
     /// The script.
     Script,
+    /// The certificate.
+    Cert,
 }
 
 /// Why an input is refused.
@@ -26,4 +29,8 @@ pub enum Fault {
     CutterHeight(u32),
     /// The script has a fault.
     Script(ScriptFault),
+    /// No move has the number that was asked for: they are counted from 1 to this many.
+    MoveRange { asked: u32, moves: u32 },
+    /// The certificate has a fault.
+    Cert(CertFault),
 }

@@ -3,6 +3,7 @@ ghost use Rattle.setup_file.specs.Sound.{IsSetup};
 use crate::line::Word::{Count, Number, Text};
 use crate::line::{write_line, write_words};
 use itoa::Buffer;
+use ray_grid::Turn;
 use ray_shapes::{Body, Plane};
 use setup_file::{Setup, shifted};
 use std::alloc::Global;
@@ -10,7 +11,7 @@ use vf_io::NoMemory;
 use vf_text::Page;
 
 /// A line for each fact of a setup: the grid, the check, the tool, and each plane of each body, the part lowered by the
-/// tolerance and the fixtures raised by the clearance.
+/// tolerance and the fixtures raised by the clearance, and how the part is turned.
 pub(crate) fn setup_text(alloc: Global, setup: &Setup) -> Result<Vec<u8>, NoMemory>
     requires { IsSetup setup.now }
 {
@@ -24,6 +25,7 @@ pub(crate) fn setup_text(alloc: Global, setup: &Setup) -> Result<Vec<u8>, NoMemo
     write_bodies(&mut page, b"part ", part.as_slice())?;
     let fixture = shifted(alloc, setup.fixture.as_slice(), setup.clearance)?;
     write_bodies(&mut page, b"fixture ", fixture.as_slice())?;
+    write_turn(&mut page, &setup.turn)?;
     Ok(page.into_vec())
 }
 
@@ -70,6 +72,20 @@ fn write_tool(page: &mut Page, setup: &Setup) -> Result<(), NoMemory> {
     write_line(page, &[Text(b"tool.diameter "), Number(setup.tool.d)])?;
     write_line(page, &[Text(b"tool.radius "), Number(setup.tool.r)])?;
     write_line(page, &[Text(b"tool.height "), Number(setup.tool.h)])
+}
+
+/// The old axis of each new one, which are negated, and how far it is moved; no line where there is no turn.
+fn write_turn(page: &mut Page, turn: &Option<Turn>) -> Result<(), NoMemory> {
+    let Some(turn) = turn else {
+        return Ok(());
+    };
+    page.text(b"turn")?;
+    for n in 0..3 {
+        let sign: &[u8] = if turn.neg[n] { b" -" } else { b" +" };
+        write_words(page, &[Text(sign), Count(turn.axis[n] as usize)])?;
+    }
+    page.point(&turn.shift)?;
+    page.end_line()
 }
 
 /// A line with the number of the bodies, and one for each plane, with the number of its body from 1.

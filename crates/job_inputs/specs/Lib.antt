@@ -1,3 +1,4 @@
+pub mod Asked
 pub mod Inputs
 pub mod Reads
 pub mod Ready

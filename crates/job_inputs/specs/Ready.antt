@@ -1,13 +1,14 @@
 -- What is known of the inputs of a task that were read, so that it can be done.
-use Rattle.std.specs.Prelude.{◌≡◌, ◌≤◌, None, All, length}
+use Rattle.std.specs.Prelude.{◌≡◌, ◌≤◌, None, false, All, length}
 use Rattle.cl_moves.specs.Moves.{IsMove}
 use Rattle.cl_moves.specs.Program.{most_moves}
+use Rattle.cl_moves.specs.declared.moves.Move.{Move}
 use Rattle.cl_moves.specs.declared.program.Program.{Program}
 use Rattle.edit_plan.specs.Sound.{IsScript}
 use Rattle.edit_plan.specs.declared.script.Script.{Script}
 use Rattle.setup_file.specs.Sound.{IsSetup}
 use Rattle.setup_file.specs.declared.setup.Setup.{Setup}
-use Rattle.move_cutters.specs.Cutters.{first_low}
+use Rattle.move_cutters.specs.Cutters.{first_low, is_move_low}
 use Rattle.job_inputs.specs.Tasks.{tool_defaults}
 
 -- valid moves, not too many and none with too low a cutter, a setup in its ranges, and a script for both
@@ -17,3 +18,9 @@ pub record IsReady (program : Program) (setup : Setup) (script : Script) : Type 
   pub setup_in : IsSetup setup
   pub high : first_low (tool_defaults setup.tool) program.moves ≡ None
   pub script_in : IsScript (length program.moves) setup.grid script
+
+-- a setup in its ranges, and a valid move with no too low a cutter
+pub record IsAskable (setup : Setup) (move : Move) : Type 0 where
+  pub setup_in : IsSetup setup
+  pub valid : IsMove move
+  pub high : is_move_low (tool_defaults setup.tool) move ≡ false

@@ -11,7 +11,10 @@ use Rattle.job_model.specs.Tasks.{JobMove}
 use Rattle.job_report.specs.Tasks.{Task}
 use Rattle.made_program.specs.Made.{made_moves, made_of}
 use Rattle.made_setup.specs.Made.{made_setup}
-use Rattle.ray_shapes.specs.declared.solid.Solid.TheVariants.{Bodies}
+use Rattle.ray_grid.specs.declared.turn.Turn.{Turn}
+use Rattle.ray_shapes.specs.declared.plane.Plane.{Plane}
+use Rattle.ray_shapes.specs.declared.solid.Solid.{Solid}
+use Rattle.ray_shapes.specs.declared.solid.Solid.TheVariants.{Bodies, Turned}
 use Rattle.input_faults.specs.declared.fault.Fault.{Fault}
 use Rattle.input_faults.specs.declared.fault.Fault.TheVariants.{CutterHeight}
 use Rattle.setup_file.specs.Shift.{shifted_of}
@@ -37,7 +40,16 @@ job_move tool move = record {
   line = move.line;
 }
 
--- the task of what was read: the part is lowered by its tolerance, the fixtures are raised by their clearance
+-- bodies as they lie where there is a turn, and where there is none
+abbrev pub solid_turned : Option Turn → List (List Plane) → Solid
+solid_turned None bodies = Bodies bodies
+solid_turned (Some turn) bodies = Turned (record { bodies = bodies; turn = turn })
+
+-- the part of a setup: lowered by its tolerance, and then turned
+abbrev pub part_as_it_lies : Setup → Solid
+part_as_it_lies setup = solid_turned setup.turn (shifted_of (neg_ℤ setup.tolerance) setup.part)
+
+-- the task of what was read: the part as it lies, and the fixtures raised by their clearance
 abbrev pub task_by : Program → Setup → Script → Task
 task_by program setup script = record {
   job = record {
@@ -49,7 +61,7 @@ task_by program setup script = record {
       edits = script.edits;
     };
     stock = Bodies setup.stock;
-    part = Bodies (shifted_of (neg_ℤ setup.tolerance) setup.part);
+    part = part_as_it_lies setup;
     fixture = Bodies (shifted_of setup.clearance setup.fixture);
   };
   passed = program.passed;

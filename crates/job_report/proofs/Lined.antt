@@ -21,7 +21,7 @@ alone (y ∷ ys) zero x at = ap (λ z. z ∷ []) (same_Some y x at)
 alone (y ∷ ys) (suc i) x at = alone ys i x at
 
 -- a number below the length has an element
-element : {X : Type 0} (xs : List X) (i : ℕ) → i < length xs → (x : X) × (slice_get xs i ≡ Some x)
+pub element : {X : Type 0} (xs : List X) (i : ℕ) → i < length xs → (x : X) × (slice_get xs i ≡ Some x)
 element [] i lt = absurd (omega arith)
 element (x ∷ xs) zero lt = (x, refl)
 element (x ∷ xs) (suc i) lt = element xs i (omega (arith, lt))
@@ -34,7 +34,7 @@ headed job before numbers number move at =
     (alone job.plan.moves number move at)
 
 -- a line for each number
-lines_many : (job : Job) (before numbers : List ℕ) → All (IsBelow (length job.plan.moves)) numbers → length (found_from job before numbers) ≡ length numbers
+pub lines_many : (job : Job) (before numbers : List ℕ) → All (IsBelow (length job.plan.moves)) numbers → length (found_from job before numbers) ≡ length numbers
 lines_many job before [] named = refl
 lines_many job before (n ∷ ns) named =
     let here = element job.plan.moves n (All-head (IsBelow (length job.plan.moves)) n ns named) in
@@ -42,12 +42,12 @@ lines_many job before (n ∷ ns) named =
     ∙ ap (λ k. suc k) (lines_many job (before ++ n ∷ []) ns (All-tail (IsBelow (length job.plan.moves)) n ns named))
 
 -- the line of a move of the job
-record IsLineOf (job : Job) (before : List ℕ) (number : ℕ) (found : Found) : Type 0 where
-  move : JobMove
-  at : slice_get job.plan.moves number ≡ Some move
-  is : found ≡ found_by job (moves_of job.plan before) number move
+pub record IsLineOf (job : Job) (before : List ℕ) (number : ℕ) (found : Found) : Type 0 where
+  pub move : JobMove
+  pub at : slice_get job.plan.moves number ≡ Some move
+  pub is : found ≡ found_by job (moves_of job.plan before) number move
 
-line_at : (job : Job) (before numbers : List ℕ) (j number : ℕ) (found : Found) → All (IsBelow (length job.plan.moves)) numbers
+pub line_at : (job : Job) (before numbers : List ℕ) (j number : ℕ) (found : Found) → All (IsBelow (length job.plan.moves)) numbers
     → slice_get numbers j ≡ Some number → slice_get (found_from job before numbers) j ≡ Some found → IsLineOf job (before ++ take j numbers) number found
 line_at job before [] j number found named at line = absurd (none-some number at)
 line_at job before (n ∷ ns) zero number found named at line =

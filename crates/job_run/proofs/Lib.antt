@@ -8,5 +8,4 @@ pub mod Brought
 pub mod Counted
 pub mod FirstStrips
 pub mod Highs
-pub mod Planes
 pub mod Readied

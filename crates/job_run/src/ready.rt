@@ -1,11 +1,11 @@
-ghost use Rattle.std.specs.Prelude.{◌≡◌, neg_ℤ, map, length, None, All, IfOk, false};
+ghost use Rattle.std.specs.Prelude.{◌≡◌, map, length, None, All, IfOk, false};
 ghost use Rattle.cl_moves.specs.Moves.{IsMove};
 ghost use Rattle.edit_plan.specs.Queries.{IsQuery};
 ghost use Rattle.job_report.specs.Tasks.{IsTask};
 ghost use Rattle.setup_file.specs.Shift.{shifted_of};
 ghost use Rattle.setup_file.specs.Sound.{IsSetup, IsTool};
 ghost use Rattle.move_cutters.specs.Cutters.{first_low, is_move_low};
-ghost use Rattle.job_inputs.specs.Tasks.{job_move, tool_defaults};
+ghost use Rattle.job_inputs.specs.Tasks.{job_move, part_as_it_lies, tool_defaults};
 ghost use Rattle.ray_grid.specs.Grids.{GridSize};
 ghost use Rattle.job_run.specs.Jobs.{AreOver};
 ghost use Rattle.job_run.specs.Ready.{task_ready};
@@ -14,10 +14,10 @@ use crate::bodies::JobBodies;
 use cl_moves::Move;
 use cutter_slabs::Cutter;
 use edit_plan::{Queries, Script};
-use job_inputs::{TaskInputs, defaults_of, tool_text};
-use move_cutters::{size, sweep_of};
-use ray_shapes::{Bodies, Solid};
-use setup_file::{Setup, shifted};
+use job_inputs::{TaskInputs, move_cutter, part_as_it_lies, raised_fixture};
+use move_cutters::sweep_of;
+use ray_shapes::Solid;
+use setup_file::Setup;
 use std::alloc::Global;
 use strip_plan::{PlanDraft, PlanMove};
 use vf_io::NoMemory;
@@ -41,7 +41,7 @@ fn plan_move(tool: &Cutter, next: &Move) -> PlanMove
 {
     PlanMove::new(
         sweep_of(next),
-        size(&defaults_of(tool), &next.cutter.unwrap_or(tool_text(tool))),
+        move_cutter(tool, next),
         next.rapid,
         next.line,
     )
@@ -61,35 +61,19 @@ fn plan_moves(alloc: Global, tool: &Cutter, moves: &[Move]) -> Result<Vec<PlanMo
     Ok(made)
 }
 
-/// The part of a setup, lowered by its tolerance.
-fn lowered_part(alloc: Global, setup: &Setup) -> Result<Bodies, NoMemory>
-    requires { IsSetup setup.now }
-    ensures { IfOk result (λ part. part ≡ shifted_of (neg_ℤ setup.now.tolerance) setup.now.part) }
-{
-    shifted(alloc, setup.part.as_slice(), -setup.tolerance)
-}
-
-/// The fixtures of a setup, raised by their clearance.
-fn raised_fixture(alloc: Global, setup: &Setup) -> Result<Bodies, NoMemory>
-    requires { IsSetup setup.now }
-    ensures { IfOk result (λ fixture. fixture ≡ shifted_of setup.now.clearance setup.now.fixture) }
-{
-    shifted(alloc, setup.fixture.as_slice(), setup.clearance)
-}
-
-/// The stock of a setup, its part as it may be cut and its fixtures as they are kept clear.
+/// The stock of a setup, its part as it may be cut and as it lies, and its fixtures as they are kept clear.
 fn task_bodies(alloc: Global, setup: &Setup) -> Result<JobBodies, NoMemory>
     requires { IsSetup setup.now }
     ensures stock { IfOk result (λ made. made.stock ≡ Solid.Bodies setup.now.stock) }
-    ensures part { IfOk result (λ made. made.part ≡ Solid.Bodies (shifted_of (neg_ℤ setup.now.tolerance) setup.now.part)) }
+    ensures part { IfOk result (λ made. made.part ≡ part_as_it_lies setup.now) }
     ensures fixture { IfOk result (λ made. made.fixture ≡ Solid.Bodies (shifted_of setup.now.clearance setup.now.fixture)) }
     ensures over { (grid : GridSize) → IfOk result (AreOver grid) }
 {
-    let part = lowered_part(alloc, setup)?;
+    let part = part_as_it_lies(alloc, setup)?;
     let fixture = raised_fixture(alloc, setup)?;
     Ok(JobBodies {
         stock: Solid::Bodies(setup.stock.copy()?),
-        part: Solid::Bodies(part),
+        part,
         fixture: Solid::Bodies(fixture),
     })
 }

@@ -1,6 +1,5 @@
 -- The generated setup's numbers are all in their ranges.
-use Rattle.std.proofs.Common.{◌≡◌, ℕ, ◌≤◌, ◌<◌, ℤ, pos, neg_ℤ, ◌≤ℤ◌, List, [], ◌∷◌, inl, inr, refl, arith}
-use Rattle.std.specs.List.{All}
+use Rattle.std.proofs.Common.{ℕ, ◌≤◌, pos, neg_ℤ, List, [], ◌∷◌, inl, refl, arith}
 use Rattle.std.proofs.lemmas.Int.{ints}
 use Rattle.std.proofs.lemmas.List.Elements.{All-cons, All-nil}
 use Rattle.space.specs.Ranges.{IsBetween, metre}
@@ -8,8 +7,8 @@ use Rattle.ray_shapes.specs.declared.plane.Plane.{Plane}
 use Rattle.setup_file.specs.Bodies.{box_planes}
 use Rattle.setup_file.specs.Limits.{most_other_bodies, most_stock_bodies}
 use Rattle.setup_file.specs.Sound.{AreBodies, IsBody, IsSetup}
-use Rattle.setup_file.proofs.Boxes.{AreEnds, box_valid}
-use Rattle.made_setup.specs.Made.{made_setup, one_box}
+use Rattle.setup_file.proofs.Boxes.{box_valid}
+use Rattle.made_setup.specs.Made.{made_setup}
 
 -- a coordinate that isn't below 0
 near : (n : ℕ) → n ≤ metre → IsBetween (neg_ℤ (pos metre)) (pos metre) (pos n)
@@ -69,4 +68,5 @@ made_sound = record {
     upright = refl;
     from_tip = refl;
   };
+  turn_in = tt;
 }

@@ -1,6 +1,6 @@
 -- The setup of every self-test: a block of stock with a low part in one corner, on a grid of 11 by 11 by 6 nodes. Lengths are
 -- micrometres.
-use Rattle.std.specs.Prelude.{ℤ, pos, List, [], ◌∷◌}
+use Rattle.std.specs.Prelude.{ℤ, pos, List, [], ◌∷◌, None}
 use Rattle.ray_shapes.specs.declared.plane.Plane.{Plane}
 use Rattle.setup_file.specs.Bodies.{box_planes}
 use Rattle.setup_file.specs.declared.setup.Setup.{Setup}
@@ -20,4 +20,5 @@ made_setup = record {
   slabs = 4;
   depth = 4;
   tool = record { d = 4000; r = 1000; h = 30000; flank = 0; base = 0 };
+  turn = None;
 }

@@ -38,6 +38,7 @@ pub fn made_setup(alloc: Global) -> Result<Setup, NoMemory>
             flank: 0,
             base: 0,
         },
+        turn: None,
     })
 }
 

@@ -30,13 +30,14 @@ pub record IsReadyStrip (start across : AxisOffset) (step : RayStep) (test : Cyl
   pub sized : IsGrid s.grid
   pub first : s.i < nodes_of s.grid (first_axis s.family)
   pub start_is :
-      IsAxisOffset start (ray_axis_first s.family (offset_of s.cylinder (point_at s.grid s.family s.i 0 0))) (ray_axis_first s.family s.cylinder.axis)
-      (ray_axis_first s.family s.cylinder.side)
+      IsAxisOffset start (ray_axis_first s.family (offset_of s.cylinder (point_at s.grid s.family s.i 0 0)))
+      (ray_axis_first s.family s.cylinder.axis) (ray_axis_first s.family s.cylinder.side)
   pub across_is :
       IsAxisOffset across (way_across s.family (pos s.cylinder.scale *ℤ s.grid.pitch)) (ray_axis_first s.family s.cylinder.axis)
       (ray_axis_first s.family s.cylinder.side)
   pub step_is :
-      IsRayStep step (way_along (pos s.cylinder.scale *ℤ s.grid.step)) (ray_axis_first s.family s.cylinder.axis) (ray_axis_first s.family s.cylinder.side)
+      IsRayStep step (way_along (pos s.cylinder.scale *ℤ s.grid.step))
+      (ray_axis_first s.family s.cylinder.axis) (ray_axis_first s.family s.cylinder.side)
   pub test_is : IsTestOf test s.cylinder
 
 -- The axis offsets of the points of the ray, by the first one and by the step, have their moments, what of them is along the side, and

@@ -15,21 +15,21 @@ sum_size x y m n a b = let p = size_is x in let q = size_is y in let r = size_is
 difference_size : (x y : ℤ) (m n : ℕ) → unsigned_abs x ≤ m → unsigned_abs y ≤ n → unsigned_abs (x -ℤ y) ≤ m + n
 difference_size x y m n a b = let p = size_is x in let q = size_is y in let r = size_is (x -ℤ y) in omega (arith, ints)
 
--- a coordinate within a metre that is moved
+-- a coordinate that is moved
 pub record IsMoved (r x y : ℤ) : Type 0 where
   pub fits : FitsSigned w32 (r +ℤ to_z w32 (of_z w32 y))
   pub read : to_z w32 (of_z w32 (r +ℤ to_z w32 (of_z w32 y))) ≡ x +ℤ y
-  pub near : unsigned_abs (to_z w32 (of_z w32 (r +ℤ to_z w32 (of_z w32 y)))) ≤ 3000000
+  pub near : unsigned_abs (to_z w32 (of_z w32 (r +ℤ to_z w32 (of_z w32 y)))) ≤ 5000000
 
-pub is_moved : (r x y : ℤ) → r ≡ x → unsigned_abs x ≤ 1000000 → unsigned_abs y ≤ 2000000 → IsMoved r x y
+pub is_moved : (r x y : ℤ) → r ≡ x → unsigned_abs x ≤ 3000000 → unsigned_abs y ≤ 2000000 → IsMoved r x y
 is_moved r x y same a b =
     let sum : (r +ℤ to_z w32 (of_z w32 y)) ≡ x +ℤ y = ap₂ (λ u v. u +ℤ v) same (small_read y (omega arith)) in
-    let size : unsigned_abs (x +ℤ y) ≤ 3000000 = sum_size x y 1000000 2000000 a b in
+    let size : unsigned_abs (x +ℤ y) ≤ 5000000 = sum_size x y 3000000 2000000 a b in
     let read : to_z w32 (of_z w32 (r +ℤ to_z w32 (of_z w32 y))) ≡ x +ℤ y = ap (λ z. to_z w32 (of_z w32 z)) sum ∙ small_read (x +ℤ y) (omega arith) in
     record {
       fits = subst (FitsSigned w32) (sym sum) (small_fits (x +ℤ y) (omega arith));
       read = read;
-      near = subst (λ z. unsigned_abs z ≤ 3000000) (sym read) size;
+      near = subst (λ z. unsigned_abs z ≤ 5000000) (sym read) size;
     }
 
 -- one that is moved back

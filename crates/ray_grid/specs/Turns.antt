@@ -8,9 +8,13 @@ use Rattle.ray_grid.specs.declared.turn.Turn.{Turn}
 abbrev pub most_shift : ℕ
 most_shift = 2000000
 
--- no place within a metre of the origin is further from it on an axis when it is turned and moved
+-- how far from the origin on an axis a place may be that is turned, forth or back: 3,000 mm
 abbrev pub most_turned : ℕ
 most_turned = 3000000
+
+-- and how far it may be then
+abbrev pub most_moved : ℕ
+most_moved = 5000000
 
 -- the old axis of a new one, and whether it is negated
 abbrev pub old_axis : Turn → ℕ → ℕ

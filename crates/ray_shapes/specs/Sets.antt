@@ -45,8 +45,8 @@ Gives answers grid solid =
     → IfOk answer (HoldsPointsOf grid ray (in_solid solid grid))
 
 -- a kept closure gives its solid on the grid: it is kept for that grid, may be called on each ray, and answers the solid's points
-pub record GivesSolid {F : Type 0} (calls : Shared F (Bor Ray × Unit {0}) (Result (List Bool) NoMemory)) (grid : GridSize) (shape : RayShape F)
-    : Type 0 where
+pub record GivesSolid {F : Type 0} (calls : Shared F (Bor Ray × Unit {0}) (Result (List Bool) NoMemory)) (grid : GridSize)
+    (shape : RayShape F) : Type 0 where
   pub kept_for : shape.grid ≡ grid
   pub callable : (ray : Bor Ray) → IsRay grid ray.now → calls.pre shape.source (ray, tt)
   pub gives : Gives (FnReturnsAt calls shape.source) grid shape.solid.value

@@ -125,7 +125,7 @@ fn turned_coefficient(turn: &Turn, normal: &[i32; 3], n: usize) -> i32
     ensures value { result ≡ turned_coefficient turn.now normal.now n }
     ensures small { unsigned_abs result ≤ most_turned_normal }
 {
-    let old = normal[usize::from(turn.axis[n])];
+    let old = normal[turn.axis[n] as usize];
     negated_if(turn.neg[n], old)
 }
 

@@ -1,4 +1,6 @@
 pub mod Answers
+pub mod CertAnswers
+pub mod CertFaults
 pub mod Listing
 pub mod Marking
 pub mod Refusals

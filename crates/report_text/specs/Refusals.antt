@@ -7,16 +7,18 @@ use Rattle.cl_lines.specs.declared.fault.ClWhy.TheVariants.{NumberSyntax, Number
 use Rattle.cl_lines.specs.declared.fault.ClWhy.TheVariants.{AxisZero, NoPosition, AxisFlip, TooManyMoves}
 use Rattle.cl_lines.specs.Words.{word_name}
 use Rattle.input_faults.specs.declared.fault.Fault.{Fault}
-use Rattle.input_faults.specs.declared.fault.Fault.TheVariants.{TooLong, Cl, Setup, CutterHeight, Script}
+use Rattle.input_faults.specs.declared.fault.Fault.TheVariants.{TooLong, Cl, Setup, CutterHeight, Script, MoveRange, Cert}
 use Rattle.input_faults.specs.declared.fault.Input.{Input}
 use Rattle.input_faults.specs.declared.fault.Input.TheVariants as inputs
-use Rattle.report_text.specs.ScriptFaults.{script_fault_text}
+use Rattle.report_text.specs.CertFaults.{cert_fault_text}
+use Rattle.report_text.specs.ScriptFaults.{depths_text, script_fault_text}
 use Rattle.report_text.specs.SetupFaults.{setup_fault_text}
 
 abbrev pub input_name : Input → List ℕ
 input_name inputs.Cl = codes "cl"
 input_name inputs.Setup = codes "setup"
 input_name inputs.Script = codes "script"
+input_name inputs.Cert = codes "cert"
 
 abbrev pub why_name : ClWhy → List ℕ
 why_name LineLong = codes "LineLong"
@@ -44,6 +46,8 @@ fault_text (CutterHeight at) = codes "cl line " ++ decimal at ++ codes ": Cutter
 fault_text (Cl fault) = codes "cl line " ++ decimal fault.line ++ codes ": " ++ why_name fault.why ++ refused_word fault.why
 fault_text (Setup fault) = setup_fault_text fault
 fault_text (Script fault) = script_fault_text fault
+fault_text (MoveRange asked moves) = codes "cl: MoveRange" ++ depths_text asked moves
+fault_text (Cert fault) = cert_fault_text fault
 
 -- the one line of a refusal
 abbrev pub refusal_of : Fault → List ℕ

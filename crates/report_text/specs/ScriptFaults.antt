@@ -5,7 +5,7 @@ use Rattle.edit_plan.specs.declared.fault.ScriptWhy.{ScriptWhy}
 use Rattle.edit_plan.specs.declared.fault.ScriptWhy.TheVariants.{ScriptSyntax, ScriptRange, UndoDepth}
 use Rattle.edit_plan.specs.declared.fault.ScriptWhy.TheVariants.{TooManyEdits, TooManyQueries, RedoDepth}
 
--- how many moves were asked for, and how many there are
+-- the number that was asked for, and how many moves there are
 abbrev pub depths_text : ℕ → ℕ → List ℕ
 depths_text asked left = codes " " ++ decimal asked ++ codes " " ++ decimal left
 

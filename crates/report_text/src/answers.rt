@@ -63,7 +63,7 @@ fn write_count(page: &mut Page, totals: &Totals) -> Result<(), NoMemory>
     write_points(page, totals)
 }
 
-fn name_of_family(family: Family) -> &'static [u8]
+pub(crate) fn name_of_family(family: Family) -> &'static [u8]
     ensures { result.now ≡ family_name family }
 {
     match family {

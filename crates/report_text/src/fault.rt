@@ -1,8 +1,9 @@
 ghost use Rattle.std.specs.Prelude.{◌≡◌, ◌++◌, IfOk, OnOk};
 ghost use Rattle.report_text.specs.Refusals.{refusal_of, fault_text, input_name, refused_word, why_name};
 
+use crate::cert_fault::write_cert_fault;
 use crate::counted::write_counted;
-use crate::script_fault::write_script_fault;
+use crate::script_fault::{write_depths, write_script_fault};
 use crate::setup_fault::write_setup_fault;
 use cl_lines::ClWhy;
 use input_faults::{Fault, Input};
@@ -41,6 +42,11 @@ fn write_fault(page: &mut Page, fault: &Fault) -> Result<(), NoMemory>
         }
         Fault::Setup(fault) => write_setup_fault(page, *fault),
         Fault::Script(fault) => write_script_fault(page, fault),
+        Fault::MoveRange { asked, moves } => {
+            page.text(b"cl: MoveRange")?;
+            write_depths(page, *asked, *moves)
+        }
+        Fault::Cert(fault) => write_cert_fault(page, *fault),
     }
 }
 
@@ -51,6 +57,7 @@ fn name_of_input(input: Input) -> &'static [u8]
         Input::Cl => b"cl",
         Input::Setup => b"setup",
         Input::Script => b"script",
+        Input::Cert => b"cert",
     }
 }
 

@@ -2,6 +2,8 @@
 #![tactic(auto)]
 
 mod answers;
+mod cert_answer;
+mod cert_fault;
 mod counted;
 mod fault;
 mod listing;
@@ -12,6 +14,7 @@ mod selftest;
 mod setup_fault;
 mod verdict;
 
+pub use cert_answer::{cert_verdict_text, made_cert_text};
 pub use fault::refusal_text;
 pub use input_faults::{Fault, Input};
 pub use job_report::{Facts, Found};

@@ -35,8 +35,8 @@ fn write_why(page: &mut Page, why: ScriptWhy) -> Result<(), NoMemory>
     }
 }
 
-/// Writes how many moves were asked for, and how many there are.
-fn write_depths(page: &mut Page, asked: u32, left: u32) -> Result<(), NoMemory>
+/// Writes the number that was asked for, and how many moves there are.
+pub(crate) fn write_depths(page: &mut Page, asked: u32, left: u32) -> Result<(), NoMemory>
     ensures { OnOk result (page.new ≡ page.old ++ depths_text asked left) }
 {
     write_counted(page, b" ", asked as usize)?;

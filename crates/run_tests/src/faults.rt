@@ -94,3 +94,55 @@ fn faults_outside_are_told_apart(rt: HostRuntime) -> Result<(), Fail> {
     }
     Ok(())
 }
+
+/// The same job with a certificate. Nothing of it has to be covered, since it has neither part nor fixtures.
+const CERTIFIED: [(&str, &[u8]); 3] = [("A", FLAT), ("S", STOCK), ("C", b"cert 1\nslabs 8\nend\n")];
+
+const CERTIFY: &[&str] = &["certify", "A", "S", "1"];
+
+const CHECK: &[&str] = &["check", "A", "S", "1", "C"];
+
+/// As above. Each file is opened, read, and read at its end; the certificate isn't opened where the move isn't there.
+const CERT_FAULTS: [(&[&str], &[u64], &[u64], u8, &str); 15] = [
+    (CERTIFY, &[0], &[], 4, ""),
+    (CERTIFY, &[3], &[], 4, ""),
+    (CERTIFY, &[5], &[], 4, ""),
+    (CERTIFY, &[6], &[], 0, "cert 1\nslabs 8\nend\n"),
+    (CERTIFY, &[], &[0], 5, ""),
+    (CERTIFY, &[], &[2], 5, "cert 1\nslabs 8\n"),
+    (CHECK, &[2], &[], 4, ""),
+    (CHECK, &[5], &[], 4, ""),
+    (CHECK, &[6], &[], 4, ""),
+    (CHECK, &[7], &[], 4, ""),
+    (CHECK, &[8], &[], 4, ""),
+    (CHECK, &[9], &[], 0, "cert accepted\n"),
+    (CHECK, &[], &[0], 5, ""),
+    (
+        &["check", "A", "S", "2", "C"],
+        &[6],
+        &[],
+        3,
+        "refused: cl: MoveRange 2 1\n",
+    ),
+    (&["check", "A", "S", "1", "D"], &[], &[], 4, ""),
+];
+
+#[test]
+fn certificates_and_faults_outside(rt: HostRuntime) -> Result<(), Fail> {
+    for (words, reads, writes, code, text) in &CERT_FAULTS {
+        let is_due = is_answered(
+            &rt,
+            rt.alloc(),
+            words,
+            &CERTIFIED,
+            reads,
+            writes,
+            (*code, text),
+        )?;
+        assert!(rt;
+            is_due,
+            "{code} {text}: the reads {reads:?} and writes {writes:?}"
+        );
+    }
+    Ok(())
+}

@@ -27,7 +27,7 @@ fn is_command<R: Threads + Wait + Sync>(
 }
 
 /// Words that are a command.
-const COMMANDS: [&str; 14] = [
+const COMMANDS: [&str; 17] = [
     "list a",
     "list --x",
     "verify a s.toml",
@@ -42,10 +42,13 @@ const COMMANDS: [&str; 14] = [
     "point a 0 0 0 --depth 2 --slabs 1",
     "point a 0 0 0 --depth 2 --slabs 256",
     "point a 1000.0004 -1000 +.5E2 --depth 10",
+    "certify a s 1",
+    "certify a s 00000",
+    "check a s 99999 --c",
 ];
 
 /// Words that are none.
-const NO_COMMANDS: [&str; 33] = [
+const NO_COMMANDS: [&str; 42] = [
     "list",
     "list ",
     "list a b",
@@ -79,6 +82,15 @@ const NO_COMMANDS: [&str; 33] = [
     "point a 0 0 0 --depth 2 --slabs 0",
     "point a 0 0 0 --depth 2 --slabs 257",
     "point a 0 0 0 --depth 2 --slabs 4 5",
+    "certify a s",
+    "certify  s 1",
+    "certify a s 000001",
+    "certify a s -1",
+    "certify a s 1 c",
+    "check a s 1",
+    "check a s 1 ",
+    "check a s 1 c d",
+    "CHECK a s 1 c",
 ];
 
 #[test]

@@ -13,3 +13,4 @@ pub mod Planes
 pub mod Boxes
 pub mod BodyLists
 pub mod Mapped
+pub mod Turnables

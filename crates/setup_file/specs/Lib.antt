@@ -3,6 +3,7 @@ pub mod Reads
 pub mod Grids
 pub mod Tables
 pub mod Bodies
+pub mod TurnTable
 pub mod Unknown
 pub mod Setups
 pub mod Sound

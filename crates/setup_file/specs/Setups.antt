@@ -3,6 +3,7 @@ use Rattle.std.specs.Prelude.{ℕ, List, Option, Some, None, Result, Ok, Err, if
 use Rattle.std.specs.Str.{is_utf8}
 use Rattle.toml.specs.Data.{Members}
 use Rattle.toml.specs.Parse.{parse_document}
+use Rattle.ray_grid.specs.declared.turn.Turn.{Turn}
 use Rattle.ray_shapes.specs.declared.plane.Plane.{Plane}
 use Rattle.setup_keys.specs.declared.fault.SetupFault.{SetupFault}
 use Rattle.setup_keys.specs.declared.fault.SetupFault.TheVariants.{SetupKey, SetupSyntax}
@@ -13,11 +14,12 @@ use Rattle.setup_file.specs.declared.setup.Setup.{Setup}
 use Rattle.setup_file.specs.Bodies.{bodies_at, fixture_list, part_list, stock_list}
 use Rattle.setup_file.specs.Reads.{◌>>=◌, table_at}
 use Rattle.setup_file.specs.Tables.{check_of, grid_of, tool_of}
+use Rattle.setup_file.specs.TurnTable.{turn_at}
 use Rattle.setup_file.specs.Unknown.{first_unknown}
 
 -- a setup of its parts
-abbrev pub setup_from : Numbers → List (List Plane) → List (List Plane) → List (List Plane) → Setup
-setup_from numbers stock part fixture = record {
+abbrev pub setup_from : Numbers → List (List Plane) → List (List Plane) → List (List Plane) → Option Turn → Setup
+setup_from numbers stock part fixture turn = record {
   grid = numbers.grid;
   stock = stock;
   part = part;
@@ -27,6 +29,7 @@ setup_from numbers stock part fixture = record {
   clearance = numbers.check.clearance;
   slabs = numbers.check.slabs;
   depth = numbers.check.depth;
+  turn = turn;
 }
 
 -- what is read, unless a table holds a key that isn't known
@@ -49,7 +52,8 @@ setup_in setup = do
   stock ← bodies_at stock_list setup
   part ← bodies_at part_list setup
   fixture ← bodies_at fixture_list setup
-  unless_unknown (first_unknown setup) (setup_from numbers stock part fixture)
+  turn ← turn_at setup
+  unless_unknown (first_unknown setup) (setup_from numbers stock part fixture turn)
 
 -- the table that a text is, where it is UTF-8 and TOML
 abbrev pub table_of_text : List ℕ → Option Members

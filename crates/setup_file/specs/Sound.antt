@@ -1,8 +1,9 @@
 -- What is true of every setup that is read. Lengths are micrometres.
-use Rattle.std.specs.Prelude.{◌≡◌, ℕ, ◌≤◌, pos, neg_ℤ, List, All, length}
+use Rattle.std.specs.Prelude.{◌≡◌, ℕ, ◌≤◌, pos, neg_ℤ, List, All, IfSome, length}
 use Rattle.space.specs.Ranges.{IsBetween}
 use Rattle.cutter_slabs.specs.Cutter.{CutterSize, IsCutter}
 use Rattle.ray_grid.specs.Ranges.{IsGrid}
+use Rattle.ray_grid.specs.Turns.{IsTurn}
 use Rattle.ray_shapes.specs.declared.plane.Plane.{Plane}
 use Rattle.setup_file.specs.declared.check.Check.{Check}
 use Rattle.setup_file.specs.declared.setup.Setup.{Setup}
@@ -55,3 +56,4 @@ pub record IsSetup (setup : Setup) : Type 0 where
   pub fixture_in : AreBodies 0 most_other_bodies setup.fixture
   pub check_in : IsCheck (settings setup)
   pub tool_in : IsTool setup.tool
+  pub turn_in : IfSome setup.turn IsTurn

@@ -1,4 +1,4 @@
-//! Setup files: the grid, the check's settings, the tool, and the bodies of stock, part and fixture, from the bytes.
+//! Setup files: the grid, the check's settings, the tool, the bodies of stock, part and fixture, and how the part is turned, from the bytes.
 #![tactic(auto)]
 
 mod bodies;
@@ -11,6 +11,7 @@ mod read;
 mod setup;
 mod shift;
 mod tool;
+mod turn_table;
 mod unknown;
 
 pub use setup::{Setup, read_setup};

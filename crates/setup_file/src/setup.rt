@@ -11,9 +11,10 @@ use crate::check::{Check, read_check};
 use crate::grid::read_grid;
 use crate::read::table_at;
 use crate::tool::read_tool;
+use crate::turn_table::turn_at;
 use crate::unknown::first_unknown;
 use cutter_slabs::Cutter;
-use ray_grid::Grid;
+use ray_grid::{Grid, Turn};
 use ray_shapes::Bodies;
 use setup_keys::{KeyName, SetupEnd, SetupFault};
 use std::alloc::Global;
@@ -36,6 +37,8 @@ pub struct Setup {
     pub depth: u32,
     /// The tool of a move that has no cutter of its own, with an upright flank and the base 0.
     pub tool: Cutter,
+    /// How the part is turned, where it is: it is given as it lay before.
+    pub turn: Option<Turn>,
 }
 
 /// The setup that the bytes stand for; a refusal is the first fault, in the order of the keys. Lengths are micrometres.
@@ -71,6 +74,10 @@ fn read_table(alloc: Global, setup: &Table) -> Result<Setup, SetupEnd>
     let stock = bodies_at(alloc, setup, &STOCK)?;
     let part = bodies_at(alloc, setup, &PART)?;
     let fixture = bodies_at(alloc, setup, &FIXTURE)?;
+    let turn = match turn_at(setup) {
+        Ok(turn) => turn,
+        Err(fault) => return Err(SetupEnd::Refused(fault)),
+    };
     if let Some(table) = first_unknown(setup) {
         return Err(SetupEnd::Refused(SetupFault::SetupKey(table)));
     }
@@ -84,6 +91,7 @@ fn read_table(alloc: Global, setup: &Table) -> Result<Setup, SetupEnd>
         slabs: check.slabs,
         depth: check.depth,
         tool,
+        turn,
     })
 }
 

@@ -12,7 +12,7 @@ use setup_keys::KeyName;
 use toml::{Table, Value};
 
 /// The tables, in the order in which they are searched.
-const TABLES: [KeyName; 7] = [
+const TABLES: [KeyName; 8] = [
     KeyName::Setup,
     KeyName::Grid,
     KeyName::Check,
@@ -20,6 +20,7 @@ const TABLES: [KeyName; 7] = [
     KeyName::Stock,
     KeyName::Part,
     KeyName::Fixture,
+    KeyName::Turn,
 ];
 
 /// The first table of a setup that holds a key that isn't known.

@@ -31,6 +31,9 @@ key_text keys.PartPlanes = codes "part.planes"
 key_text keys.Fixture = codes "fixture"
 key_text keys.FixtureBox = codes "fixture.box"
 key_text keys.FixturePlanes = codes "fixture.planes"
+key_text keys.Turn = codes "turn"
+key_text keys.TurnAxes = codes "turn.axes"
+key_text keys.TurnShift = codes "turn.shift"
 
 -- what comes after the point of a text, or the whole text where it has none
 abbrev pub behind_point : List ℕ → List ℕ
@@ -42,18 +45,19 @@ name_of key = behind_point (key_text key)
 
 -- the keys that a table may hold, and each body of a list of bodies; `Setup` is the top level
 abbrev pub keys_in : KeyName → List KeyName
-keys_in keys.Setup = keys.Grid ∷ keys.Check ∷ keys.Tool ∷ keys.Stock ∷ keys.Part ∷ keys.Fixture ∷ []
+keys_in keys.Setup = keys.Grid ∷ keys.Check ∷ keys.Tool ∷ keys.Stock ∷ keys.Part ∷ keys.Fixture ∷ keys.Turn ∷ []
 keys_in keys.Grid = keys.GridOrigin ∷ keys.GridPitch ∷ keys.GridStep ∷ keys.GridCounts ∷ []
 keys_in keys.Check = keys.CheckTolerance ∷ keys.CheckClearance ∷ keys.CheckSlabs ∷ keys.CheckDepth ∷ []
 keys_in keys.Tool = keys.ToolDiameter ∷ keys.ToolRadius ∷ keys.ToolHeight ∷ []
 keys_in keys.Stock = keys.StockBox ∷ keys.StockPlanes ∷ []
 keys_in keys.Part = keys.PartBox ∷ keys.PartPlanes ∷ []
 keys_in keys.Fixture = keys.FixtureBox ∷ keys.FixturePlanes ∷ []
+keys_in keys.Turn = keys.TurnAxes ∷ keys.TurnShift ∷ []
 keys_in _ = []
 
 -- the tables, in the order in which they are searched for keys that aren't known
 abbrev pub setup_tables : List KeyName
-setup_tables = keys.Setup ∷ keys.Grid ∷ keys.Check ∷ keys.Tool ∷ keys.Stock ∷ keys.Part ∷ keys.Fixture ∷ []
+setup_tables = keys.Setup ∷ keys.Grid ∷ keys.Check ∷ keys.Tool ∷ keys.Stock ∷ keys.Part ∷ keys.Fixture ∷ keys.Turn ∷ []
 
 -- the name is that of a key that the table may hold
 abbrev pub is_known : KeyName → List ℕ → Bool

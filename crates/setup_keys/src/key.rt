@@ -28,6 +28,9 @@ pub enum KeyName {
     Fixture,
     FixtureBox,
     FixturePlanes,
+    Turn,
+    TurnAxes,
+    TurnShift,
 }
 
 impl KeyName {
@@ -60,6 +63,9 @@ impl KeyName {
             KeyName::Fixture => b"fixture",
             KeyName::FixtureBox => b"fixture.box",
             KeyName::FixturePlanes => b"fixture.planes",
+            KeyName::Turn => b"turn",
+            KeyName::TurnAxes => b"turn.axes",
+            KeyName::TurnShift => b"turn.shift",
         }
     }
 
@@ -86,6 +92,9 @@ impl KeyName {
             KeyName::Stock => "stock",
             KeyName::Part => "part",
             KeyName::Fixture => "fixture",
+            KeyName::Turn => "turn",
+            KeyName::TurnAxes => "axes",
+            KeyName::TurnShift => "shift",
             KeyName::StockBox | KeyName::PartBox | KeyName::FixtureBox => "box",
             KeyName::StockPlanes | KeyName::PartPlanes | KeyName::FixturePlanes => "planes",
         }
@@ -103,6 +112,7 @@ impl KeyName {
                 KeyName::Stock,
                 KeyName::Part,
                 KeyName::Fixture,
+                KeyName::Turn,
             ],
             KeyName::Grid => &[
                 KeyName::GridOrigin,
@@ -124,6 +134,7 @@ impl KeyName {
             KeyName::Stock => &[KeyName::StockBox, KeyName::StockPlanes],
             KeyName::Part => &[KeyName::PartBox, KeyName::PartPlanes],
             KeyName::Fixture => &[KeyName::FixtureBox, KeyName::FixturePlanes],
+            KeyName::Turn => &[KeyName::TurnAxes, KeyName::TurnShift],
             _ => &[],
         }
     }

@@ -16,6 +16,7 @@ pub fn product(p: &[i128; 3], i: usize, a: &[i128; 3], j: usize) -> i128
 }
 
 /// The scalar product of two vectors.
+#[inline]
 pub fn dot(p: &[i128; 3], a: &[i128; 3]) -> i128
     requires p { IsWithin vector_limit p.now }
     requires a { IsWithin vector_limit a.now }
@@ -41,6 +42,7 @@ fn minor(p: &[i128; 3], a: &[i128; 3], i: usize, j: usize) -> i128
 }
 
 /// The cross product of two vectors.
+#[inline]
 pub fn cross(p: &[i128; 3], a: &[i128; 3]) -> [i128; 3]
     requires p { IsWithin vector_limit p.now }
     requires a { IsWithin vector_limit a.now }
@@ -63,6 +65,7 @@ fn apart(p: &[i32; 3], q: &[i32; 3], i: usize) -> i128
 }
 
 /// How far apart two ends are along each axis.
+#[inline]
 pub fn difference(p: &[i32; 3], q: &[i32; 3]) -> [i128; 3]
     requires p { IsWithin 1000000 p.now }
     requires q { IsWithin 1000000 q.now }

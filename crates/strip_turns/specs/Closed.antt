@@ -28,7 +28,8 @@ IsHomeWord words k s = slice_index words (strip_word k) ≡ (s.done + 1) * 2 ^ 4
 -- each slot has its strip
 pub record AllHome (c : BoardStart) (v : View) (words : List ℕ) (slots : List (Option StripOf)) : Type 0 where
   pub many : length slots ≡ length c.strips
-  pub each : (k : ℕ) → k < length slots → (s : StripOf) × (get_elem? slots k ≡ some (Some s)) × IsReturnedStrip c v k s × IsHomeWord words k s
+  pub each : (k : ℕ) → k < length slots
+      → (s : StripOf) × (get_elem? slots k ≡ some (Some s)) × IsReturnedStrip c v k s × IsHomeWord words k s
   pub drawn : AllDrawn v
 
 -- all strips of the card, in order

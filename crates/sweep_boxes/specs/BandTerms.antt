@@ -14,7 +14,8 @@ IsStepAt begin widest slabs = (s : SlabSize) → Contains slabs s → (begin ≤
 
 -- half the width of slabs of this width, times the length of the axis at either end of an interval, is no more than the number
 abbrev pub IsHalfWidth : ℤ → ℤ → SweepInterval → Type 0
-IsHalfWidth half widest interval = (((pos interval.scale *ℤ widest) *ℤ (pos interval.scale *ℤ widest)) *ℤ interval.longest) ≤ℤ (half *ℤ half)
+IsHalfWidth half widest interval =
+    (((pos interval.scale *ℤ widest) *ℤ (pos interval.scale *ℤ widest)) *ℤ interval.longest) ≤ℤ (half *ℤ half)
 
 -- by the axis in the middle of an interval and the axis change: the number's square is at most that of twice the axis at either end, and
 -- four times the product of both
@@ -48,7 +49,8 @@ pub record IsSideSlack (side_slack : ℤ) (side : List ℤ) (interval : SweepInt
   pub q : ℕ
   pub s : ℕ
   pub total_is : side_slack ≡ pos (q + s)
-  pub side_change : (v : List ℤ) → IsNearer v far → unsigned_abs (dot side (moment_change v interval.axis interval.offset_change interval.axis_change)) ≤ q
+  pub side_change : (v : List ℤ) → IsNearer v far
+      → unsigned_abs (dot side (moment_change v interval.axis interval.offset_change interval.axis_change)) ≤ q
   pub side_bend : unsigned_abs (dot side (cross interval.offset_change interval.axis_change)) ≤ s
 
 -- what all bands of an interval share, whatever the width of their slabs
@@ -56,7 +58,8 @@ pub record AreBandTermsOf (band_terms : BandTerms) (interval : SweepInterval) (s
   pub height_slack : IsHeightSlack band_terms.height_slack interval far
   pub shortest : IsShortest band_terms.shortest interval.axis interval.axis_change
   pub long : interval.longest ≤ℤ (band_terms.longest *ℤ band_terms.longest)
-  pub change : (v : List ℤ) → IsNearer v far → IsNoLonger (moment_change v interval.axis interval.offset_change interval.axis_change) band_terms.change
+  pub change : (v : List ℤ) → IsNearer v far
+      → IsNoLonger (moment_change v interval.axis interval.offset_change interval.axis_change) band_terms.change
   pub bend : IsNoLonger (cross interval.offset_change interval.axis_change) band_terms.bent
   pub square_is : band_terms.square ≡ dot side side
   pub third : IsThirdOfSquare band_terms.third (band_terms.change +ℤ (band_terms.bent +ℤ band_terms.bent))

@@ -13,7 +13,8 @@ pub record IsGrown (total : ℤ) (interval : SweepInterval) (widest : ℤ) (far 
   pub total_is : total ≡ pos (r + (m + n))
   pub wide : (((pos interval.scale *ℤ widest) *ℤ (pos interval.scale *ℤ widest)) *ℤ interval.longest) ≤ℤ pos (r * r)
   pub change : (v : List ℤ) → IsNearer v far
-      → dot (moment_change v interval.axis interval.offset_change interval.axis_change) (moment_change v interval.axis interval.offset_change interval.axis_change) ≤ℤ pos (m * m)
+      → dot (moment_change v interval.axis interval.offset_change interval.axis_change)
+      (moment_change v interval.axis interval.offset_change interval.axis_change) ≤ℤ pos (m * m)
   pub bend : dot (cross interval.offset_change interval.axis_change) (cross interval.offset_change interval.axis_change) ≤ℤ pos (n * n)
 
 -- what the height of such an offset changes by, and by how much it is bent
@@ -38,9 +39,11 @@ pub record IsSpread (across : ℤ) (side : List ℤ) (interval : SweepInterval) 
   pub across_is : across ≡ pos (t + (q + s))
   pub wide : (((pos interval.scale *ℤ widest) *ℤ (pos interval.scale *ℤ widest)) *ℤ interval.longest) ≤ℤ pos (r * r)
   pub change : (v : List ℤ) → IsNearer v far
-      → dot (moment_change v interval.axis interval.offset_change interval.axis_change) (moment_change v interval.axis interval.offset_change interval.axis_change) ≤ℤ pos (m * m)
+      → dot (moment_change v interval.axis interval.offset_change interval.axis_change)
+      (moment_change v interval.axis interval.offset_change interval.axis_change) ≤ℤ pos (m * m)
   pub bend : dot (cross interval.offset_change interval.axis_change) (cross interval.offset_change interval.axis_change) ≤ℤ pos (n * n)
   pub spare : (m + 2 * n) * (m + 2 * n) ≤ 3 * e
   pub root : (dot side side *ℤ pos (r * r + e)) ≤ℤ pos (t * t)
-  pub side_change : (v : List ℤ) → IsNearer v far → unsigned_abs (dot side (moment_change v interval.axis interval.offset_change interval.axis_change)) ≤ q
+  pub side_change : (v : List ℤ) → IsNearer v far
+      → unsigned_abs (dot side (moment_change v interval.axis interval.offset_change interval.axis_change)) ≤ q
   pub side_bend : unsigned_abs (dot side (cross interval.offset_change interval.axis_change)) ≤ s

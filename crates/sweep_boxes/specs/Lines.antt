@@ -20,11 +20,13 @@ pub record IsOnLine (line : Line) (bounds : CylinderBounds) (z u : ℤ) : Type 0
 
 -- the point p is held on the interval
 abbrev pub IsHeldPlace : CylinderBounds → SweepInterval → List ℤ → Type 0
-IsHeldPlace bounds interval p = IsHeldOn bounds.least bounds.most bounds.moment (offset_from (pos interval.scale) interval.tip p) interval.axis
+IsHeldPlace bounds interval p =
+    IsHeldOn bounds.least bounds.most bounds.moment (offset_from (pos interval.scale) interval.tip p) interval.axis
 
 -- and it is no further to either side
 abbrev pub IsBesidePlace : SideBound → SweepInterval → List ℤ → Type 0
-IsBesidePlace side_bound interval p = IsBeside side_bound.side side_bound.across (offset_from (pos interval.scale) interval.tip p) interval.axis
+IsBesidePlace side_bound interval p =
+    IsBeside side_bound.side side_bound.across (offset_from (pos interval.scale) interval.tip p) interval.axis
 
 -- and it is at a band
 abbrev pub IsBandOf : Band → List ℤ → SweepInterval → List ℤ → Type 0

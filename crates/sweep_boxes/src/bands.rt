@@ -28,7 +28,8 @@ use bern_form::Slab;
 /// Half of a width, times the scale and the length of the axis.
 #[inline]
 fn half_of(interval: &SweepInterval, band_terms: &BandTerms, step: &SlabStep) -> i128
-    ensures value { (side far : List ℤ) → AreBandTermsOf band_terms.now interval.now side far → IsHalfWidth result step.now.widest interval.now }
+    ensures value { (side far : List ℤ) → AreBandTermsOf band_terms.now interval.now side far
+        → IsHalfWidth result step.now.widest interval.now }
     ensures some { pos 0 ≤ℤ result }
 {
     weighted(interval.scale, step.widest) * band_terms.longest
@@ -48,8 +49,8 @@ fn rise_of(interval: &SweepInterval, band_terms: &BandTerms, step: &SlabStep) ->
 fn moment_at(band_terms: &BandTerms, half: i128) -> i128
     requires some { pos 0 ≤ℤ half }
     requires small { half ≤ℤ pos (5 * 10 ^ 16) }
-    ensures value { (interval : SweepInterval) (widest : ℤ) (side far : List ℤ) → AreBandTermsOf band_terms.now interval side far → IsHalfWidth half widest interval
-        → IsGrown result interval widest far }
+    ensures value { (interval : SweepInterval) (widest : ℤ) (side far : List ℤ) → AreBandTermsOf band_terms.now interval side far
+        → IsHalfWidth half widest interval → IsGrown result interval widest far }
     ensures some { pos 0 ≤ℤ result }
     ensures small { unsigned_abs result ≤ 3 * 10 ^ 18 }
 {
@@ -60,8 +61,8 @@ fn moment_at(band_terms: &BandTerms, half: i128) -> i128
 fn across_at(band_terms: &BandTerms, half: i128) -> i128
     requires some { pos 0 ≤ℤ half }
     requires small { half ≤ℤ pos (5 * 10 ^ 16) }
-    ensures value { (interval : SweepInterval) (widest : ℤ) (side far : List ℤ) → AreBandTermsOf band_terms.now interval side far → IsHalfWidth half widest interval
-        → IsSpread result side interval widest far }
+    ensures value { (interval : SweepInterval) (widest : ℤ) (side far : List ℤ) → AreBandTermsOf band_terms.now interval side far
+        → IsHalfWidth half widest interval → IsSpread result side interval widest far }
     ensures some { pos 0 ≤ℤ result }
 {
     sum(
@@ -73,8 +74,8 @@ fn across_at(band_terms: &BandTerms, half: i128) -> i128
 /// The band below which only the slabs in front of a step are met. Where nothing is known of it, it is one that isn't used.
 fn band_at(interval: &SweepInterval, band_terms: &BandTerms, step: &SlabStep, least: i64) -> Band
     ensures { (m : SweepOf) (k S : ℕ) (slabs : List SlabSize) (side far p : List ℤ) → IsSweepInterval interval.now m k S
-        → AreBandTermsOf band_terms.now interval.now side far → IsStepAt step.now.begin step.now.widest slabs → IsNearer (middle_offset m p k S) far
-        → is_unexcluded_between slabs m p k (k + 1) S ≡ true
+        → AreBandTermsOf band_terms.now interval.now side far → IsStepAt step.now.begin step.now.widest slabs
+        → IsNearer (middle_offset m p k S) far → is_unexcluded_between slabs m p k (k + 1) S ≡ true
         → least ≤ℤ dot (offset_from (pos interval.now.scale) interval.now.tip p) interval.now.axis → IsBandOf result side interval.now p }
 {
     let rise = rise_of(interval, band_terms, step);
@@ -104,8 +105,9 @@ fn band_of(
     requires rising { IsRising slabs.now }
     requires several { 2 ≤ length slabs.now }
     requires number { number < 8 }
-    ensures { (m : SweepOf) (k S : ℕ) (side far p : List ℤ) → IsSweepInterval interval.now m k S → AreBandTermsOf band_terms.now interval.now side far
-        → IsNearer (middle_offset m p k S) far → is_unexcluded_between slabs.now m p k (k + 1) S ≡ true
+    ensures { (m : SweepOf) (k S : ℕ) (side far p : List ℤ) → IsSweepInterval interval.now m k S
+        → AreBandTermsOf band_terms.now interval.now side far → IsNearer (middle_offset m p k S) far
+        → is_unexcluded_between slabs.now m p k (k + 1) S ≡ true
         → least ≤ℤ dot (offset_from (pos interval.now.scale) interval.now.tip p) interval.now.axis → IsBandOf result side interval.now p }
 {
     let place = 1 + number * (slabs.len() - 1) / BANDS;
@@ -124,7 +126,8 @@ pub fn bands_of(
     requires side { IsWithin side_component_limit side.now }
     requires far { IsWithin vector_limit far.now }
     ensures { (m : SweepOf) (k S : ℕ) (p : List ℤ) → IsSweepInterval interval.now m k S → IsNearer (middle_offset m p k S) far.now
-        → is_unexcluded_between slabs.now m p k (k + 1) S ≡ true → IsHeldPlace bounds.now interval.now p → AreBandsOf result side.now interval.now p }
+        → is_unexcluded_between slabs.now m p k (k + 1) S ≡ true → IsHeldPlace bounds.now interval.now p
+        → AreBandsOf result side.now interval.now p }
 {
     let least = short(bounds.least);
     if slabs.len() < 2 {

@@ -33,7 +33,8 @@ fn change_along(
     requires far_k { unsigned_abs (at far.now k) ≤ vector_limit }
     requires axis_change_j { unsigned_abs (at axis_change.now j) ≤ vector_limit }
     requires axis_change_k { unsigned_abs (at axis_change.now k) ≤ vector_limit }
-    ensures value { result ≡ (pos (unsigned_abs (at c.now i)) +ℤ at far.now j *ℤ at axis_change.now k) +ℤ at far.now k *ℤ at axis_change.now j }
+    ensures value { result
+        ≡ (pos (unsigned_abs (at c.now i)) +ℤ at far.now j *ℤ at axis_change.now k) +ℤ at far.now k *ℤ at axis_change.now j }
     ensures small { unsigned_abs result ≤ 4 * (vector_limit * vector_limit) }
 {
     length_along(c, i) + product(far, j, axis_change, k) + product(far, k, axis_change, j)

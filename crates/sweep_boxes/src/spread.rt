@@ -184,7 +184,8 @@ pub fn side_bound_of(
     requires low { IsWithin vector_limit low.now }
     requires high { IsWithin vector_limit high.now }
     ensures { (m : SweepOf) (k S : ℕ) (slabs : List SlabSize) (p : List ℤ) (highest : ℤ) → IsSweepInterval interval.now m k S
-        → AreAsLarge widest highest slabs → IsAmong low.now high.now (middle_offset m p k S) → is_unexcluded_between slabs m p k (k + 1) S ≡ true
+        → AreAsLarge widest highest slabs → IsAmong low.now high.now (middle_offset m p k S)
+        → is_unexcluded_between slabs m p k (k + 1) S ≡ true
         → IsBeside result.side result.across (middle_offset m p k S) (middle_axis m k S) }
 {
     let far = farthest(low, high);

@@ -9,13 +9,15 @@ use Rattle.wanted_marks.specs.Rays.{IsRemovedBy, RayOf, is_possible_at, is_sure_
 -- possible.
 pub record IsProgressOf (progress : WordProgress) (r : RayOf) (first wanted sure_only : ℕ) : Type 0 where
   pub among : (k : ℕ) → k < 64 → has_bit progress.rest k ≡ true → has_bit wanted k ≡ true
-  pub sure : (k : ℕ) → k < 64 → has_bit progress.marks.sure k ≡ ((has_bit wanted k && not (has_bit progress.rest k)) && is_sure_at r (first + k))
+  pub sure : (k : ℕ) → k < 64
+      → has_bit progress.marks.sure k ≡ ((has_bit wanted k && not (has_bit progress.rest k)) && is_sure_at r (first + k))
   pub possible : (k : ℕ) → k < 64 → has_bit sure_only k ≡ false
       → has_bit progress.marks.possible k ≡ ((has_bit wanted k && not (has_bit progress.rest k)) && is_possible_at r (first + k))
 
 -- each word with the one part before has the other one now
 abbrev pub FollowsFrom : WordProgress → WordProgress → RayOf → ℕ → ℕ → Type 0
-FollowsFrom now before r first sure_only = (wanted : ℕ) → IsProgressOf before r first wanted sure_only → IsProgressOf now r first wanted sure_only
+FollowsFrom now before r first sure_only =
+    (wanted : ℕ) → IsProgressOf before r first wanted sure_only → IsProgressOf now r first wanted sure_only
 
 -- each bit of a word is one of another
 abbrev pub AreAmong : ℕ → ℕ → Type 0

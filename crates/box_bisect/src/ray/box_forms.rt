@@ -46,7 +46,8 @@ impl BoxForms {
         ensures last { AreFormsBetween result.last.u.c result.last.n.c result.last.d.c
             sweep.now (point_of grid.now ray.now (cell_box.to - 1)) cell_box.first (cell_box.first + 2 ^ cell_box.levels) scale }
         ensures product { let point = point_of grid.now ray.now in result.product.c
-            ≡ product_between sweep.now (point cell_box.from) (point (cell_box.to - 1)) cell_box.first (cell_box.first + 2 ^ cell_box.levels) scale }
+            ≡ product_between sweep.now (point cell_box.from) (point (cell_box.to - 1))
+            cell_box.first (cell_box.first + 2 ^ cell_box.levels) scale }
     {
         let k = cell_box.first + cells_of(cell_box.levels);
         let p = grid.point(ray, cell_box.from);

@@ -210,7 +210,8 @@ fn mark_along<L: Ledger>(
         cell_box.first (cell_box.first + 2 ^ cell_box.levels) cell_box.from cell_box.to marks.old marks.new }
     ensures cost { let weigh = weight (is_undecided outer.now sweep.now (point_of grid.now ray.now) scale) in
         (halvings : ℕ) → cell_box.levels + (cell_box.to - cell_box.from) ≤ halvings
-        → steps.new ≤ steps.old + length outer.now * (2 + 4 * along (weigh halvings cell_box.levels cell_box.first) cell_box.from cell_box.to) }
+        → steps.new
+        ≤ steps.old + length outer.now * (2 + 4 * along (weigh halvings cell_box.levels cell_box.first) cell_box.from cell_box.to) }
 {
     if cell_box.to - cell_box.from < 2 {
         mark_box(

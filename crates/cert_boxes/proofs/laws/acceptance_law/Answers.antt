@@ -1,4 +1,4 @@
-use Rattle.std.proofs.Common.{◌≡◌, ℕ, List, ℤ, true, subst}
+use Rattle.std.proofs.Common.{◌≡◌, List, ℤ, true, subst}
 use Rattle.space.specs.Reach.{is_in_reach}
 use Rattle.space.specs.Sweeps.{IsSweep}
 use Rattle.bern_form.specs.Marks.{some_holds}

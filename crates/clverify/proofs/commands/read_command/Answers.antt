@@ -2,6 +2,8 @@
 use Rattle.std.proofs.Common.{◌≡◌, ap, Option, IfOk, option_map, string_bytes, subst, sym, ◌∙◌}
 use Rattle.clverify.specs.Asked.{command_seen}
 use Rattle.clverify.specs.Commands.{Command, are_parsed, command_of}
+use Rattle.clverify.specs.Commands.Certify.{certify_name}
+use Rattle.clverify.specs.Commands.Check.{check_name}
 use Rattle.clverify.specs.Commands.List.{list_name}
 use Rattle.clverify.specs.Commands.Point.{point_name}
 use Rattle.clverify.specs.Commands.Selftest.{selftest_name}
@@ -23,6 +25,16 @@ pub returns-in-selftest-clause-command : goal.returns-in-selftest-clause-command
 returns-in-selftest-clause-command c =
     let words = headed string_bytes c.args.words.now c.word-item.result selftest_name c.in-len1-up.len_at_least c.word-item.is (sym c.in-selftest.is ∙ c.as_str.ensures.value) in
     c.selftest_words.ensures ∙ sym (ap command_of words)
+
+pub returns-in-certify-clause-command : goal.returns-in-certify-clause-command
+returns-in-certify-clause-command c =
+    let words = headed string_bytes c.args.words.now c.word-item.result certify_name c.in-len1-up.len_at_least c.word-item.is (sym c.in-certify.is ∙ c.as_str.ensures.value) in
+    c.certify_words.ensures ∙ sym (ap command_of words)
+
+pub returns-in-check-clause-command : goal.returns-in-check-clause-command
+returns-in-check-clause-command c =
+    let words = headed string_bytes c.args.words.now c.word-item.result check_name c.in-len1-up.len_at_least c.word-item.is (sym c.in-check.is ∙ c.as_str.ensures.value) in
+    c.check_words.ensures ∙ sym (ap command_of words)
 
 pub returns-in-verify-clause-command : goal.returns-in-verify-clause-command
 returns-in-verify-clause-command c =

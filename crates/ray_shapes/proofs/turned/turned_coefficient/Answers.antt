@@ -1,5 +1,5 @@
 -- The old axis is one, so its coefficient is small.
-use Rattle.std.proofs.Common.{◌≤◌, w32, to_z, of_z, unsigned_abs, FitsSigned, rules, ap, sym, ◌∙◌, subst}
+use Rattle.std.proofs.Common.{◌≤◌, w32, unsigned_abs, FitsSigned, rules, ap, sym, ◌∙◌, subst}
 use Rattle.std.proofs.lemmas.Int.{to_z-of_z}
 use Rattle.space.specs.Vectors.{at}
 use Rattle.ray_grid.specs.Turns.{old_axis}
@@ -16,4 +16,12 @@ returns-clause-small c =
     component 1000000000 normal (old_axis turn n) c.requires.normal (old_below turn n c.requires.turn.quarter c.requires.axis) in
     subst (λ m. m ≤ 1000000000)
     (sym (ap unsigned_abs (to_z-of_z w32 c.negated_if.result fits) ∙ c.negated_if.ensures.size
-    ∙ ap (λ k. unsigned_abs (to_z w32 (of_z w32 (at normal k)))) c.from.ensures ∙ ap unsigned_abs (to_z-of_z w32 old fits_old))) small
+    ∙ ap unsigned_abs (to_z-of_z w32 old fits_old))) small
+
+pub negated_if-requires : goal.negated_if-requires
+negated_if-requires c =
+    let turn = c.args.turn.now in let normal = c.args.normal.now in let n = c.args.n in
+    let old = at normal (old_axis turn n) in
+    let fits_old : FitsSigned w32 old = search rules in
+    subst (λ z. unsigned_abs z ≤ 1000000000) (sym (to_z-of_z w32 old fits_old))
+    (component 1000000000 normal (old_axis turn n) c.requires.normal (old_below turn n c.requires.turn.quarter c.requires.axis))

@@ -1,0 +1,9 @@
+use Rattle.std.proofs.Common.{get_or}
+use Rattle.ray_grid.specs.declared.ray.Family.TheVariants.{X}
+use Rattle.cert_lines.specs.Certificates.{is_cell_on}
+use Rattle.cert_boxes.proofs.Listed.{all_at_place}
+use Rattle.cert_boxes.proofs.RowLemmas.{line_in_range}
+use Rattle.cert_boxes.proofs.row.counts_of.Goals as goal
+
+pub ray_number-requires : goal.ray_number-requires
+ray_number-requires c = (line_in_range c.args.grid.now (get_or c.args.cells.now c.loop-cell.cell-index record { line = 0; ray = record { family = X; i = 0; j = 0 }; q = 0; k = 0; a = 0; b = 0 }) (all_at_place (is_cell_on c.args.grid.now) c.args.cells.now c.requires c.loop-cell.cell-index _ c.loop-cell-test.true)).ray
