@@ -27,7 +27,7 @@ OUTSIDE = {"CIRC_INTERPOLATION", "POINTS_ONLY", "NotBuilt", "expandCyclePoint"}
 
 
 def folders(top):
-    """The folders of the tree with their files, but for what is built."""
+    """The folders of the tree with their files, except what is built."""
     for folder, inner, files in os.walk(top):
         inner[:] = sorted(name for name in inner if name not in (".git", "out", "__pycache__"))
         yield folder, sorted(files)

@@ -8,7 +8,7 @@ raster      lines 0.5 mm apart across the ridge with a ball cutter of 6 mm, all 
 pocket      a pocket in four layers with a flat cutter of 8 mm, and holes of 6 mm that are drilled in steps
 engraving   V-shaped grooves in a plate with a cone of 30 degrees, each cut in two passes
 
-Each cut ends with a rapid move straight up out of it, as most CAM systems write it. --lift puts a feed move of so many millimetres
+Each cut ends with a rapid move straight up out of it, as most CAM systems write it. --lift puts a feed move of that many millimetres
 before that. Slabs are 16 and the depth is 6 where nothing else is said. There are ten points for each pitch; --coarse makes it one.
 The same words give the same bytes.
 """

@@ -115,7 +115,7 @@ class Path:
         self.at, self.feed = place, feed
 
     def follow(self, legs, count):
-        """Follows the legs, each a feed, an end, and the axis as a function of the place, in so many moves in all: one for each leg,
+        """Follows the legs, each a feed, an end, and the axis as a function of the place, in a given number of moves in all: one for each leg,
         and the spare ones for those that cut, by their length."""
         ends = [self.at] + [end for _, end, _ in legs]
         lengths = [0 if leg[0] == RAPID else math.dist(*ends[n:n + 2]) for n, leg in enumerate(legs)]

@@ -1,7 +1,7 @@
-// Laid under a program by LD_PRELOAD, it refuses what the environment's SOAK_REFUSE tells, counted from 0 over all threads:
+// Laid under a program by LD_PRELOAD, it refuses what the environment's SOAK_REFUSE says, counted from 0 over all threads:
 //
-//     memory N      the Nth request for memory        memory N..      the Nth and all behind it
-//     thread N      the Nth start of a thread         thread N..      the Nth and all behind it
+//     memory N      the Nth request for memory        memory N..      the Nth and all after it
+//     thread N      the Nth start of a thread         thread N..      the Nth and all after it
 //
 // A request is a call of malloc, calloc, realloc, aligned_alloc, memalign or posix_memalign, by the program or by the C library, from
 // the moment when the program's own code can run. Into the file SOAK_TALLY go four numbers of eight bytes: the requests, those of
@@ -44,7 +44,7 @@ static int refused(uint64_t place) {
     return 0;
 }
 
-// Counts a request, and tells whether it is to be refused.
+// Counts a request, and says whether it is to be refused.
 static int no_memory(void *caller) {
     if (!counts) {
         return 0;

@@ -15,7 +15,7 @@ _clverify_words() {
 }
 
 _clverify_verify() {
-    local word=$1 before=${COMP_WORDS[COMP_CWORD - 1]} at names=0 left='--script --workers'
+    local word=$1 before=${COMP_WORDS[COMP_CWORD - 1]} at names=0 left='--script --workers --stock'
     # (bash takes --script=F apart: its words are --script, = and F)
     if [ "$before" = = ]; then
         before=${COMP_WORDS[COMP_CWORD - 2]}
@@ -25,10 +25,11 @@ _clverify_verify() {
     case $before in
     --script) _clverify_files "$word"; return ;;
     --workers) _clverify_words "$word" '1 2 4 8 16'; return ;;
+    --stock) _clverify_files "$word" .stock; return ;;
     esac
     for ((at = 2; at < COMP_CWORD; at++)); do
         case ${COMP_WORDS[at]} in
-        --script | --workers)
+        --script | --workers | --stock)
             left=${left/${COMP_WORDS[at]}/}
             [ "${COMP_WORDS[at + 1]}" = = ] && ((at++))
             ((at++))
@@ -52,14 +53,20 @@ _clverify() {
     local word=${COMP_WORDS[COMP_CWORD]}
     COMPREPLY=()
     if [ "$COMP_CWORD" = 1 ]; then
-        _clverify_words "$word" 'certify check list point selftest verify'
+        _clverify_words "$word" 'certify check list point save selftest verify'
         return
     fi
-    # These words have one order: CL X Y Z --depth M --slabs N of point, CL SETUP I of certify, CL SETUP I CERT of check.
+    # These words have one order: CL X Y Z --depth M --slabs N of point, CL SETUP I of certify, CL SETUP I CERT of check,
+    # CL SETUP --script F --stock F of save.
     case ${COMP_WORDS[1]}:$COMP_CWORD in
     verify:*) _clverify_verify "$word" ;;
-    list:2 | point:2 | certify:2 | check:2) _clverify_files "$word" ;;
-    certify:3 | check:3) _clverify_files "$word" .toml ;;
+    list:2 | point:2 | certify:2 | check:2 | save:2) _clverify_files "$word" ;;
+    certify:3 | check:3 | save:3) _clverify_files "$word" .toml ;;
+    save:4) _clverify_words "$word" '--script --stock' ;;
+    save:5 | save:7)
+        if [ "${COMP_WORDS[COMP_CWORD - 1]}" = --stock ]; then _clverify_files "$word" .stock; else _clverify_files "$word"; fi
+        ;;
+    save:6) [ "${COMP_WORDS[4]}" != --script ] || _clverify_words "$word" --stock ;;
     check:5) _clverify_files "$word" .cert ;;
     point:6) _clverify_words "$word" --depth ;;
     point:7) _clverify_words "$word" '0 1 2 3 4 5 6 7 8 9 10' ;;

@@ -80,7 +80,7 @@ def least_d(normal, corners):
 
 
 def faces_of(hull, flat):
-    """The planes of a hull, the largest facets first. A facet that lies within so many micrometres of a plane that is there needs none of its
+    """The planes of a hull, the largest facets first. A facet that lies within that many micrometres of a plane that is there needs none of its
     own: facets of one face of the body differ by the rounding of their file."""
     corners = hull.points[hull.simplices]
     areas = numpy.linalg.norm(numpy.cross(corners[:, 1] - corners[:, 0], corners[:, 2] - corners[:, 0]), axis=1)
@@ -159,7 +159,7 @@ def enlarged_by(planes, hull):
 
 
 def body_of(facets, unit, flat, take_hull):
-    """The body of a closed piece. Lengths of the facets are units of so many micrometres; flat is how deep a dent may be."""
+    """The body of a closed piece. Lengths of the facets are units of that many micrometres; flat is how deep a dent may be."""
     exact = {corner: tuple(n * unit for n in corner) for facet in facets for corner in facet}
     if any(abs(n) > setups.METRE for corner in exact.values() for n in corner):
         raise PieceFault("it reaches beyond a metre from the zero point: is its unit another one?")

@@ -36,7 +36,7 @@ class Point(NamedTuple):
 
 
 def row_of(point, unit):
-    """The numbers of a point, lengths in a unit of so many micrometres."""
+    """The numbers of a point, lengths in a unit of that many micrometres."""
     colour = [min(255, part + PALER * MARKS.index(point.mark)) for part in COLOURS[point.body]]
     marks = BODIES.index(point.body), MARKS.index(point.mark), FAMILIES.index(point.family)
     return (*(n / unit for n in point.position), *colour, *marks)

@@ -110,7 +110,7 @@ def root_up(number):
 
 
 def moved(planes, by):
-    """The planes as `verify` moves them, outwards by so many micrometres: d grows by that times the length of the normal, rounded up."""
+    """The planes as `verify` moves them, outwards by a number of micrometres: d grows by that times the length of the normal, rounded up."""
     return [(a, b, c, d + by * root_up(a * a + b * b + c * c)) for a, b, c, d in planes]
 
 

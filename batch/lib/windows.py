@@ -50,13 +50,13 @@ def last_point(grid, axis):
 
 
 def bounds(count, parts):
-    """Where each of so many parts begins and ends, all as long as can be."""
+    """Where each of a number of parts begins and ends, all as long as can be."""
     ends = [count * part // parts for part in range(parts + 1)]
     return list(zip(ends, ends[1:]))
 
 
 def windows_of(grid, parts):
-    """The windows of a grid, so many along each axis."""
+    """The windows of a grid, by their number along each axis."""
     for axis, (count, part) in enumerate(zip(grid.counts, parts)):
         if part > count:
             raise CannotCut("%d windows along %s, but the grid has %d nodes there" % (part, AXES[axis], count))

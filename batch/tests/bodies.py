@@ -32,7 +32,7 @@ box = [0, 0, 0, 10000, 20000, 20000]
 """
 ODD_SAID = ["stock 2 is flat", "stock 3 is unbounded", "stock 4 is empty", "stock 5 is unbounded", "stock 6 is empty", "part 1 moved by -5000 um is flat"]
 STOCK = "stock 1\ngrid -10 0 0 1000 500 3 3 2\nray Z 0 0 0 2 3 4\nray Z 2 1 1 4\nray X 0 0 0 6\nray Y 2 1 5 6\nend\n"
-# What is wrong with a saved stock, and where that is told.
+# What is wrong with a saved stock, and where that is reported.
 WRONG_STOCK = [(STOCK[:-4], 7), (STOCK + "x\n", 8), (STOCK.replace("stock 1", "stock 2"), 1), (STOCK.replace("grid -10", "grid -0"), 2),
                (STOCK.replace(" 3 3 2\n", " 3 3 401\n"), 2), (STOCK.replace("500 3", "300 3"), 2), (STOCK.replace("Z 2 1", "X 2 1"), 5),
                (STOCK.replace("0 2 3 4", "0 2 2 4"), 3), (STOCK.replace("0 2 3 4", "0 2 3"), 3), (STOCK.replace("0 2 3 4", "0 5"), 3),

@@ -30,7 +30,7 @@ def told_once(tally, name, out, count):
 
 
 class Losing:
-    """Loses a node once so many results are there. It comes back after some seconds, or where `back` is called."""
+    """Loses a node once a number of results are there. It comes back after some seconds, or where `back` is called."""
 
     def __init__(self, node, results, at, seconds):
         self.node, self.results, self.at, self.seconds, self.seen, self.is_back = node, results, at, seconds, None, False

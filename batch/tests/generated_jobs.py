@@ -77,13 +77,13 @@ def path_of(number, fault):
 
 
 def fault_of(number, every):
-    """The fault of a job: of so many jobs one, each fault in turn."""
+    """The fault of a job: one job in `every` has one, each fault in turn."""
     faults = [fault for fault in FAULTS if fault != "clean"]
     return faults[number // every % len(faults)] if number % every == every - 1 else "clean"
 
 
 def make(folder, count, every):
-    """Writes so many jobs and their plan. The jobs, and the plan's path."""
+    """Writes a number of jobs and their plan. The jobs, and the plan's path."""
     os.makedirs(folder, exist_ok=True)
     setups = {name: calls.write(folder, name + ".toml", text) for name, text in (("block", SETUP), ("elsewhere", ELSEWHERE))}
     made, rows = [], ["name,cl,setup"]

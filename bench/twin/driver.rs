@@ -12,7 +12,7 @@ use strip_plan::{Plan, PlanMove};
 use vf_io::NoMemory;
 use vf_spans::Spans;
 
-/// A job as its lines tell it. The bodies are moved by the tolerance and the clearance once both are known.
+/// A job as its lines give it. The bodies are moved by the tolerance and the clearance once both are known.
 struct Job {
     grid: Grid,
     tolerance: i64,
@@ -134,7 +134,7 @@ fn raise(strip: &mut Strip, plan: &Plan, version: u32) {
     }
 }
 
-/// A number that tells counts apart.
+/// A number that differs where counts differ.
 fn sum_of(counts: &[Counts]) -> u64 {
     let mut sum = 0xcbf2_9ce4_8422_2325_u64;
     for c in counts {

@@ -1,4 +1,4 @@
-//! Stands in for the kit's library in the plain copy: what may fail there for want of memory never does here.
+//! Stands in for the kit's library in the plain copy: what may fail there when out of memory never does here.
 use std::ops::{Deref, DerefMut, Index, IndexMut};
 #[derive(Clone, Copy, Debug)]
 pub struct Global;

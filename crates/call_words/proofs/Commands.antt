@@ -36,15 +36,17 @@ pub command_as : {E : Type 0} (made : Result Command E) (a b : App) → IfOk mad
     → IfOk made (λ command. app_of command ≡ b)
 command_as made a b h e = subst (λ (x : App). IfOk made (λ command. app_of command ≡ x)) e h
 
--- the values of the four that were found
+-- the values of the five that were found
 pub found-in_rows : (found : Found) (values : Values) → values.file ≡ first_value found (codes "CL") → values.setup ≡ first_value found (codes "SETUP")
-    → values.script ≡ first_value found (codes "script") → values.workers ≡ first_value found (codes "workers") → values ≡ values_in (rows_of found)
-found-in_rows found values is_file is_setup is_script is_workers =
+    → values.script ≡ first_value found (codes "script") → values.workers ≡ first_value found (codes "workers")
+    → values.stock ≡ first_value found (codes "stock") → values ≡ values_in (rows_of found)
+found-in_rows found values is_file is_setup is_script is_workers is_stock =
     let file = is_file ∙ first_value-rows found (codes "CL") in
     let setup = is_setup ∙ first_value-rows found (codes "SETUP") in
     let script = is_script ∙ first_value-rows found (codes "script") in
     let workers = is_workers ∙ first_value-rows found (codes "workers") in
-    λ i. record { file = file i; setup = setup i; script = script i; workers = workers i }
+    let stock = is_stock ∙ first_value-rows found (codes "stock") in
+    λ i. record { file = file i; setup = setup i; script = script i; workers = workers i; stock = stock i }
 
 -- no fault, so there are values
 values_without_fault : (kinds : Kinds) (values : Values) → kinds ≡ [] → (if is_empty kinds then Some values else None) ≡ Some values

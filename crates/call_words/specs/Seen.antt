@@ -18,7 +18,14 @@ values_seen values = record {
   setup = word_seen values.setup;
   script = word_seen values.script;
   workers = word_seen values.workers;
+  stock = word_seen values.stock;
 }
 
 abbrev pub call_seen : VerifyWords → VerifyCall
-call_seen said = record { file = said.file.now; setup = said.setup.now; script = word_seen said.script; workers = said.workers }
+call_seen said = record {
+  file = said.file.now;
+  setup = said.setup.now;
+  script = word_seen said.script;
+  workers = said.workers;
+  stock = word_seen said.stock;
+}

@@ -1,5 +1,5 @@
 ghost use Rattle.std.specs.Prelude.{◌≡◌, ◌≤◌, IfOk, IfSome, map, option_and_then, option_map, string_bytes};
-ghost use Rattle.call_words.specs.Call.{call_in, call_of, most_workers, named, script_in, workers_in};
+ghost use Rattle.call_words.specs.Call.{call_in, call_of, file_in, most_workers, named, workers_in};
 ghost use Rattle.call_words.specs.Seen.{call_seen, values_seen};
 
 use crate::command::{Values, read_values};
@@ -22,6 +22,7 @@ pub struct VerifyWords<'a> {
     pub setup: &'a str,
     pub script: Option<&'a str>,
     pub workers: u32,
+    pub stock: Option<&'a str>,
 }
 
 /// What the words after `verify` say, where they are words of its own.
@@ -49,8 +50,9 @@ fn read_call<'a>(values: &Values<'a>) -> Option<VerifyWords<'a>>
     Some(VerifyWords {
         file: read_given(values.file)?,
         setup: read_given(values.setup)?,
-        script: read_script(values.script)?,
+        script: read_file(values.script)?,
         workers: read_workers(values.workers)?,
+        stock: read_file(values.stock)?,
     })
 }
 
@@ -68,9 +70,9 @@ pub fn read_name(word: &str) -> Option<&str>
     if word.is_empty() { None } else { Some(word) }
 }
 
-/// The script that the words give: none where no word gives one.
-fn read_script(word: Option<&str>) -> Option<Option<&str>>
-    ensures { option_map (λ script. option_map (λ name. name.now) script) result ≡ script_in (option_map (λ name. name.now) word.entry) }
+/// The file that an option names: none where no word gives the option.
+pub fn read_file(word: Option<&str>) -> Option<Option<&str>>
+    ensures { option_map (λ file. option_map (λ name. name.now) file) result ≡ file_in (option_map (λ name. name.now) word.entry) }
 {
     match word {
         Some(word) => Some(Some(read_name(word)?)),

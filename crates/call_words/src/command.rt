@@ -10,13 +10,14 @@ use clap::{Arg, ArgMatches, Command};
 use std::alloc::{AllocError, Global};
 use vf_io::NoMemory;
 
-/// The values of the four arguments, each where the words give it one.
+/// The values of the five arguments, each where the words give it one.
 #[derive(Clone, Copy)]
 pub(crate) struct Values<'a> {
     pub(crate) file: Option<&'a str>,
     pub(crate) setup: Option<&'a str>,
     pub(crate) script: Option<&'a str>,
     pub(crate) workers: Option<&'a str>,
+    pub(crate) stock: Option<&'a str>,
 }
 
 /// A command with one more argument, which is at its place and has to be there.
@@ -47,10 +48,11 @@ fn verify_command<'a>(alloc: Global) -> Result<Command<'a>, AllocError>
 {
     let bare = Command::new(alloc, "verify").no_binary_name(true);
     let placed = with_place(alloc, with_place(alloc, bare, "CL")?, "SETUP")?;
-    with_option(alloc, with_option(alloc, placed, "script")?, "workers")
+    let scripted = with_option(alloc, placed, "script")?;
+    with_option(alloc, with_option(alloc, scripted, "workers")?, "stock")
 }
 
-/// The values of the four that were found.
+/// The values of the five that were found.
 fn found_values<'a>(matches: &ArgMatches<'a>) -> Values<'a>
     ensures { values_seen result ≡ values_in (rows_of (found_of matches.now)) }
 {
@@ -59,6 +61,7 @@ fn found_values<'a>(matches: &ArgMatches<'a>) -> Values<'a>
         setup: matches.get_str("SETUP"),
         script: matches.get_str("script"),
         workers: matches.get_str("workers"),
+        stock: matches.get_str("stock"),
     }
 }
 

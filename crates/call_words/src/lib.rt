@@ -5,5 +5,5 @@ mod call;
 mod command;
 mod count;
 
-pub use call::{VerifyWords, read_name, verify_words};
+pub use call::{VerifyWords, read_file, read_name, verify_words};
 pub use count::read_within;

@@ -69,11 +69,11 @@ same_names point e number last (cell ∷ cells) =
     let line = line_of_cell number last cell.ray in
     ap (λ b. names point e cell || b) (same_names point e (line + 1) (Some cell.ray) cells)
 
-all_on : (grid : GridSize) (number : ℕ) (last : Option Ray) (cells : List CertCell) → EachCell (λ cell. is_cell_on grid cell ≡ true) cells → list_all (is_cell_on grid) (numbered number last cells) ≡ true
-all_on grid number last [] each = refl
-all_on grid number last (cell ∷ cells) each =
+are_all_on : (grid : GridSize) (number : ℕ) (last : Option Ray) (cells : List CertCell) → EachCell (λ cell. is_cell_on grid cell ≡ true) cells → list_all (is_cell_on grid) (numbered number last cells) ≡ true
+are_all_on grid number last [] each = refl
+are_all_on grid number last (cell ∷ cells) each =
     let line = line_of_cell number last cell.ray in
-    and_from (is_cell_on grid cell) (list_all (is_cell_on grid) (numbered (line + 1) (Some cell.ray) cells)) each.0 (all_on grid (line + 1) (Some cell.ray) cells each.1)
+    and_from (is_cell_on grid cell) (list_all (is_cell_on grid) (numbered (line + 1) (Some cell.ray) cells)) each.0 (are_all_on grid (line + 1) (Some cell.ray) cells each.1)
 
 at_their_lines : (number : ℕ) (last : Option Ray) (cells : List CertCell) → AreAtTheirLines number last (numbered number last cells)
 at_their_lines number last [] = tt
@@ -144,7 +144,7 @@ cert_for task slabs depth cells some shallow of =
       accepted = ap (λ line. verdict_on line (first_point task cert)) lines ∙ ap (verdict_on None) points;
       ranges = record {
         slabs = some;
-        cells = all_on task.grid 3 None cells (each_by (IsCellOf task slabs depth (rays_of task.grid)) (λ cell. is_cell_on task.grid cell ≡ true) (cell_is_on task slabs depth shallow) cells of.each);
+        cells = are_all_on task.grid 3 None cells (each_by (IsCellOf task slabs depth (rays_of task.grid)) (λ cell. is_cell_on task.grid cell ≡ true) (cell_is_on task slabs depth shallow) cells of.each);
       };
       lines = at_their_lines 3 None cells;
     }

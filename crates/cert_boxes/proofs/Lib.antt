@@ -1,6 +1,9 @@
 pub mod BoxFitting
 pub mod SlabLengths
 pub mod BoxPoses
+pub mod BoxRows
+pub mod BoxRising
+pub mod Turning
 pub mod Found
 pub mod Listed
 pub mod Covers

@@ -5,6 +5,8 @@ pub mod Verdicts
 pub mod Untouched
 pub mod Rows
 pub mod Forms
+pub mod Sides
+pub mod SlabOrder
 pub mod Search
 pub mod Making
 pub mod Made

@@ -29,7 +29,7 @@ impl Draft {
         }
     }
 
-    /// PushesBoxes a cell at the end, with the number of its line: one line further where a ray line comes before it.
+    /// Adds a cell at the end, with the number of its line: one line further where a ray line comes before it.
     pub fn push(&mut self, cell: CertCell) -> Result<(), NoMemory>
         ensures { OnOk result (self.new ≡ with_box self.old cell) }
     {

@@ -1,12 +1,13 @@
 ghost use Rattle.std.specs.Prelude.{◌≡◌, ◌+◌, ◌*◌, ◌<◌, ◌≤◌};
 ghost use Rattle.space.specs.Ranges.{IsPoint};
 ghost use Rattle.bern_form.specs.Cells.{dot_on_cell};
+ghost use Rattle.bern_form.specs.Grids.{columns21, rows_negative};
 ghost use Rattle.bern_form.specs.Sizes.{IsBounded2, axis_limit, offset_limit, scale_limit};
 ghost use Rattle.ray_boxes.specs.Boxes.{product_between};
 ghost use Rattle.cert_boxes.specs.Forms.{AreEndForms};
 
 use axis_cells::{Pose, Sweep, scalar_product_on_cell};
-use bern_form::Form2;
+use bern_form::{Form2, Grid21};
 
 /// What the test of a box rests on at one of its two end points. By the point's offset p from the tip and the axis a, which are
 /// linear on the cell, u = p.a, n = |a|^2 and d = |p|^2 are forms of degree 2.
@@ -32,6 +33,18 @@ impl EndForms {
             n: scalar_product_on_cell(&start.axis, &end.axis, &start.axis, &end.axis),
             d: scalar_product_on_cell(&start.offset, &end.offset, &start.offset, &end.offset),
         }
+    }
+}
+
+/// The grid of two columns of degree 2.
+#[inline]
+fn grid_of(first: &Form2, last: &Form2) -> Grid21
+    ensures { result.c ≡ columns21 first.now.c last.now.c }
+{
+    let [a0, a1, a2] = first.c;
+    let [b0, b1, b2] = last.c;
+    Grid21 {
+        c: [[a0, b0], [a1, b1], [a2, b2]],
     }
 }
 
@@ -69,5 +82,12 @@ impl CellForms {
                 &q_end.offset,
             ),
         }
+    }
+
+    /// Whether the points are behind the tip throughout: u is below 0.
+    pub fn are_behind(&self) -> bool
+        ensures { result ≡ rows_negative (columns21 self.now.first.u.c self.now.last.u.c) }
+    {
+        grid_of(&self.first.u, &self.last.u).all_negative()
     }
 }

@@ -10,6 +10,7 @@ mod laws;
 mod making;
 mod row;
 mod search;
+mod side;
 mod span;
 mod test;
 mod tree;

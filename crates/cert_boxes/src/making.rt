@@ -40,7 +40,7 @@ fn whole_box(ray: Ray, points: u32) -> CertCell
     }
 }
 
-/// PushesBoxes the cells of a ray, and answers whether there are any.
+/// Adds the cells of a ray, and answers whether there are any.
 fn add_ray<A: Fn(&Ray) -> Result<Spans, NoMemory>, B: Fn(&Ray) -> Result<Spans, NoMemory>>(
     alloc: Global,
     draft: &mut Draft,
@@ -71,7 +71,7 @@ fn add_ray<A: Fn(&Ray) -> Result<Spans, NoMemory>, B: Fn(&Ray) -> Result<Spans, 
     )
 }
 
-/// PushesBoxes the cells of a strip's rays, and answers whether each has them.
+/// Adds the cells of a strip's rays, and answers whether each has them.
 fn add_strip<A: Fn(&Ray) -> Result<Spans, NoMemory>, B: Fn(&Ray) -> Result<Spans, NoMemory>>(
     alloc: Global,
     draft: &mut Draft,
@@ -100,7 +100,7 @@ fn add_strip<A: Fn(&Ray) -> Result<Spans, NoMemory>, B: Fn(&Ray) -> Result<Spans
     Ok(true)
 }
 
-/// PushesBoxes the cells of all rays, strip by strip, and answers whether each has them.
+/// Adds the cells of all rays, strip by strip, and answers whether each has them.
 fn add_strips<A: Fn(&Ray) -> Result<Spans, NoMemory>, B: Fn(&Ray) -> Result<Spans, NoMemory>>(
     alloc: Global,
     draft: &mut Draft,

@@ -41,7 +41,7 @@ impl Row {
         }
     }
 
-    /// PushesBoxes what one more line says.
+    /// Adds what one more line says.
     fn push(&mut self, span: CellSpan) -> Result<(), NoMemory>
         ensures { OnOk result (self.new ≡ self.old ++ span ∷ []) }
     {
@@ -106,7 +106,7 @@ fn room_of(counts: &[u32], number: usize) -> usize {
     0
 }
 
-/// PushesBoxes empty rows until there is one of this number.
+/// Adds empty rows until there is one of this number.
 fn reach_row(
     alloc: Global,
     counts: &[u32],
@@ -124,7 +124,7 @@ fn reach_row(
     Ok(())
 }
 
-/// PushesBoxes a span to the row of a number.
+/// Adds a span to the row of a number.
 fn add_span(
     alloc: Global,
     counts: &[u32],

@@ -70,7 +70,8 @@ pub fn wanted_on<A: Fn(&Ray) -> Result<Spans, NoMemory>, B: Fn(&Ray) -> Result<S
     requires fixture { GivesSolid B.Fn part.now.grid fixture.now }
     ensures bound { IfOk result (λ set. length set ≡ points_of part.now.grid ray.now.family) }
     ensures exact { let task = cert_task sweep.now stacks.now.cutter part.now.grid part.now.solid.value fixture.now.solid.value in
-        IfOk result (λ set. (l : ℕ) → l < points_of part.now.grid ray.now.family → has set l ≡ wants_cover task (point_in part.now.grid ray.now l)) }
+        IfOk result (λ set. (l : ℕ) → l < points_of part.now.grid ray.now.family
+        → has set l ≡ wants_cover task (point_in part.now.grid ray.now l)) }
 {
     let window = window_on(sweep, stacks, &part.grid, ray);
     let near = range_of(alloc, window, part.grid.points(ray.family))?;

@@ -1,46 +1,18 @@
-ghost use Rattle.std.specs.Prelude.{◌≡◌, ◌*◌, ◌≤◌, pos, unsigned_abs};
+ghost use Rattle.std.specs.Prelude.{◌≡◌, ◌+◌, ◌*◌, ◌≤◌, ◌<◌, ◌*ℤ◌, pos, false, true, unsigned_abs};
 ghost use Rattle.std.specs.List.{list_all};
-ghost use Rattle.bern_form.specs.Forms.{lifted, product22};
-ghost use Rattle.bern_form.specs.Cells.{scaled_square};
-ghost use Rattle.bern_form.specs.Grids.{columns21, columns42, rows_negative, rows_positive};
+ghost use Rattle.space.specs.Vectors.{at};
+ghost use Rattle.bern_form.specs.Forms.{all_positive, lifted, product22};
 ghost use Rattle.bern_form.specs.Sizes.{IsBounded2, IsBounded4, axis_limit, length_limit, offset_limit, scale_limit};
+ghost use Rattle.cutter_slabs.specs.Rising.{IsRising};
 ghost use Rattle.ray_boxes.specs.Boxes.{grid_less, height_column, is_excluded_by_grids, width_column};
 ghost use Rattle.cert_boxes.specs.Forms.{column_bound};
+ghost use Rattle.cert_boxes.specs.Sides.{is_row_on, rows_on};
+ghost use Rattle.cert_boxes.specs.SlabOrder.{SwitchesAt, SwitchesBetween, is_above_by_grid, is_below_by_grid, is_beside_by_grid};
 
 use crate::forms::CellForms;
+use crate::side::{Side, is_row_on, limit_times};
 use axis_cells::scaled_square;
-use bern_form::{Form2, Form4, Grid21, Grid42, Slab, lift24, minus4, scale4, times22};
-
-/// The grid of two columns of degree 2.
-#[inline]
-fn grid_of(first: &Form2, last: &Form2) -> Grid21
-    ensures { result.c ≡ columns21 first.now.c last.now.c }
-{
-    let [a0, a1, a2] = first.c;
-    let [b0, b1, b2] = last.c;
-    Grid21 {
-        c: [[a0, b0], [a1, b1], [a2, b2]],
-    }
-}
-
-/// The grid of three columns of degree 4.
-#[inline]
-fn grid_between(first: &Form4, middle: &Form4, last: &Form4) -> Grid42
-    ensures { result.c ≡ columns42 first.now.c middle.now.c last.now.c }
-{
-    let [a0, a1, a2, a3, a4] = first.c;
-    let [b0, b1, b2, b3, b4] = middle.c;
-    let [c0, c1, c2, c3, c4] = last.c;
-    Grid42 {
-        c: [
-            [a0, b0, c0],
-            [a1, b1, c1],
-            [a2, b2, c2],
-            [a3, b3, c3],
-            [a4, b4, c4],
-        ],
-    }
-}
+use bern_form::{Form2, Form4, Slab, lift24, minus4, scale4, times22};
 
 /// Three columns of a quantity of degree 4 in time and 2 along a ray.
 #[derive(Drop)]
@@ -54,19 +26,38 @@ pub struct Columns {
 }
 
 impl Columns {
-    /// The grid of the quantity less a limit times another, which is the same all along the ray.
-    fn less(&self, raised: &Form4, limit: i128) -> Grid42
+    /// Whether one row, that of a power of the time, is on that side of a limit times another quantity, which is the same all along
+    /// the ray and has the weights 1, 2 and 1 there.
+    #[inline]
+    fn is_on(&self, side: Side, i: usize, limit: i128, raised: &Form4) -> bool
+        requires i { i < 5 }
         requires limit { unsigned_abs limit ≤ length_limit * length_limit }
         requires raised { IsBounded4 (18 * (axis_limit * axis_limit)) raised.now.c }
-        ensures { result.c ≡ grid_less raised.now.c limit self.now.first.c self.now.middle.c self.now.last.c }
+        ensures { result
+            ≡ is_row_on side (at self.now.first.c i) (at self.now.middle.c i) (at self.now.last.c i) (limit *ℤ at raised.now.c i) }
     {
-        let once = scale4(raised, limit);
-        let twice = scale4(&once, 2);
-        grid_between(
-            &minus4(&self.first, &once),
-            &minus4(&self.middle, &twice),
-            &minus4(&self.last, &once),
+        let once = limit_times(limit, raised.c[i]);
+        is_row_on(
+            side,
+            self.first.c[i],
+            self.middle.c[i],
+            self.last.c[i],
+            once,
         )
+    }
+
+    /// Whether each row is.
+    fn are_on(&self, side: Side, limit: i128, raised: &Form4) -> bool
+        requires limit { unsigned_abs limit ≤ length_limit * length_limit }
+        requires raised { IsBounded4 (18 * (axis_limit * axis_limit)) raised.now.c }
+        ensures { result ≡ rows_on side (grid_less raised.now.c limit self.now.first.c self.now.middle.c self.now.last.c) }
+    {
+        for i in 0..5 {
+            if !self.is_on(side, i, limit, raised) {
+                return false;
+            }
+        }
+        true
     }
 
     /// The columns of u^2, by u at both points.
@@ -118,12 +109,11 @@ fn width_between(d: &Form2, n: &Form2, u: &Form2, v: &Form2, times: i128) -> For
     scale4(&minus4(&times22(d, n), &times22(u, v)), times)
 }
 
-/// What the slabs' tests on a box share: whether u is below 0 throughout, n raised to degree 4, u^2, and 4 (d n - u^2), which is
-/// four times the squared distance from the axis times n.
+/// What the slabs' tests on a box share that isn't behind the tip: n raised to degree 4, u^2, and 4 (d n - u^2), which is four times
+/// the squared distance from the axis times n.
 #[derive(Drop)]
 pub struct BoxTest {
     pub scale: u32,
-    pub is_behind: bool,
     pub raised: Form4,
     pub height: Columns,
     pub width: Columns,
@@ -136,7 +126,6 @@ impl BoxTest {
     pub fn of_forms(forms: &CellForms, scale: u32) -> BoxTest
         requires { scale ≤ scale_limit }
         ensures scale { result.scale ≡ scale }
-        ensures behind { result.is_behind ≡ rows_negative (columns21 forms.now.first.u.c forms.now.last.u.c) }
         ensures raised { result.raised.c ≡ lifted forms.now.first.n.c }
         ensures height_first { result.height.first.c ≡ product22 forms.now.first.u.c forms.now.first.u.c }
         ensures height_middle { result.height.middle.c ≡ height_column (pos 2) forms.now.first.u.c forms.now.last.u.c }
@@ -150,72 +139,61 @@ impl BoxTest {
     {
         BoxTest {
             scale,
-            is_behind: grid_of(&forms.first.u, &forms.last.u).all_negative(),
             raised: lift24(&forms.first.n),
             height: Columns::of_height(&forms.first.u, &forms.last.u),
             width: Columns::of_width(forms),
         }
     }
 
-    /// Whether the slab is excluded on the box: the points are behind the tip throughout, or below the slab, or above it, or
-    /// beside it.
-    pub fn excludes(&self, slab: &Slab) -> bool
+    /// Whether the points are below the slab throughout.
+    #[inline]
+    fn is_below(&self, slab: &Slab) -> bool
+        ensures { let h = self.now.height in result
+            ≡ is_below_by_grid self.now.scale self.now.raised.c h.first.c h.middle.c h.last.c slab.now }
+    {
+        let square = scaled_square(self.scale, slab.lo);
+        self.height.are_on(Side::Below, square, &self.raised)
+    }
+
+    /// Whether they are above it throughout.
+    #[inline]
+    fn is_above(&self, slab: &Slab) -> bool
+        ensures { let h = self.now.height in result
+            ≡ is_above_by_grid self.now.scale self.now.raised.c h.first.c h.middle.c h.last.c slab.now }
+    {
+        let square = scaled_square(self.scale, slab.hi);
+        self.height.are_on(Side::Above, square, &self.raised)
+    }
+
+    /// Whether they are further from the axis than half of its diameter throughout.
+    #[inline]
+    fn is_beside(&self, slab: &Slab) -> bool
+        ensures { let w = self.now.width in result
+            ≡ is_beside_by_grid self.now.scale self.now.raised.c w.first.c w.middle.c w.last.c slab.now }
+    {
+        let square = scaled_square(self.scale, slab.dia);
+        self.width.are_on(Side::Above, square, &self.raised)
+    }
+
+    /// Whether the slab is excluded on the box: the points are below the slab throughout, or above it, or beside it.
+    fn excludes(&self, slab: &Slab) -> bool
         ensures { let h = self.now.height in let w = self.now.width in result
-            ≡ is_excluded_by_grids self.now.scale self.now.is_behind self.now.raised.c
+            ≡ is_excluded_by_grids self.now.scale false self.now.raised.c
             h.first.c h.middle.c h.last.c w.first.c w.middle.c w.last.c slab.now }
     {
-        if self.is_behind {
+        if self.is_below(slab) {
             return true;
         }
-        if self.is_below(slab.lo) {
+        if self.is_above(slab) {
             return true;
         }
-        if self.is_above(slab.hi) {
-            return true;
-        }
-        self.is_beside(slab.dia)
+        self.is_beside(slab)
     }
 
-    /// Whether the points are nearer to the tip's plane than a height throughout.
-    fn is_below(&self, height: i32) -> bool
-        requires { unsigned_abs height ≤ 300000 }
-        ensures { let h = self.now.height in
-            let square = scaled_square self.now.scale height in
-            result ≡ rows_negative (grid_less self.now.raised.c square h.first.c h.middle.c h.last.c) }
-    {
-        self.height
-            .less(&self.raised, scaled_square(self.scale, height))
-            .all_negative()
-    }
-
-    /// Whether they are further from it throughout.
-    fn is_above(&self, height: i32) -> bool
-        requires { unsigned_abs height ≤ 300000 }
-        ensures { let h = self.now.height in
-            let square = scaled_square self.now.scale height in
-            result ≡ rows_positive (grid_less self.now.raised.c square h.first.c h.middle.c h.last.c) }
-    {
-        self.height
-            .less(&self.raised, scaled_square(self.scale, height))
-            .all_positive()
-    }
-
-    /// Whether they are further from the axis than half of a diameter throughout.
-    fn is_beside(&self, diameter: i32) -> bool
-        requires { unsigned_abs diameter ≤ 300000 }
-        ensures { let w = self.now.width in
-            let square = scaled_square self.now.scale diameter in
-            result ≡ rows_positive (grid_less self.now.raised.c square w.first.c w.middle.c w.last.c) }
-    {
-        self.width
-            .less(&self.raised, scaled_square(self.scale, diameter))
-            .all_positive()
-    }
-
-    /// Whether every one of the slabs is excluded.
-    pub fn excludes_all(&self, slabs: &[Slab]) -> bool
+    /// Whether every one of any slabs is excluded.
+    fn excludes_each(&self, slabs: &[Slab]) -> bool
         ensures { let h = self.now.height in let w = self.now.width in result
-            ≡ list_all (is_excluded_by_grids self.now.scale self.now.is_behind self.now.raised.c
+            ≡ list_all (is_excluded_by_grids self.now.scale false self.now.raised.c
             h.first.c h.middle.c h.last.c w.first.c w.middle.c w.last.c) slabs.now }
     {
         for slab in slabs {
@@ -224,5 +202,52 @@ impl BoxTest {
             }
         }
         true
+    }
+
+    /// The number of the lowest slab that the points are below, of slabs that rise, by halving what is between two numbers.
+    fn first_above(&self, slabs: &[Slab], low: usize, high: usize) -> usize
+        requires ordered { low ≤ high }
+        requires between { let h = self.now.height in
+            SwitchesBetween (is_below_by_grid self.now.scale self.now.raised.c h.first.c h.middle.c h.last.c) slabs.now low high }
+        ensures { let h = self.now.height in
+            SwitchesAt (is_below_by_grid self.now.scale self.now.raised.c h.first.c h.middle.c h.last.c) slabs.now result }
+    {
+        if low == high {
+            return low;
+        }
+        let middle = low + (high - low) / 2;
+        if self.is_below(&slabs[middle]) {
+            return self.first_above(slabs, low, middle);
+        }
+        self.first_above(slabs, middle + 1, high)
+    }
+
+    /// Whether every one of slabs that rise is excluded, where n is above 0 by its coefficients. The highest slab that the points
+    /// aren't below decides: they are below those above it, and above or beside those below it where they are above or beside it.
+    fn excludes_by_one(&self, slabs: &[Slab]) -> bool
+        requires positive { all_positive self.now.raised.c ≡ true }
+        requires rising { IsRising slabs.now }
+        ensures { let h = self.now.height in let w = self.now.width in result
+            ≡ list_all (is_excluded_by_grids self.now.scale false self.now.raised.c
+            h.first.c h.middle.c h.last.c w.first.c w.middle.c w.last.c) slabs.now }
+    {
+        let above = self.first_above(slabs, 0, slabs.len());
+        if above == 0 {
+            return true;
+        }
+        self.excludes(&slabs[above - 1])
+    }
+
+    /// Whether every one of slabs that rise is excluded.
+    pub fn excludes_all(&self, slabs: &[Slab]) -> bool
+        requires { IsRising slabs.now }
+        ensures { let h = self.now.height in let w = self.now.width in result
+            ≡ list_all (is_excluded_by_grids self.now.scale false self.now.raised.c
+            h.first.c h.middle.c h.last.c w.first.c w.middle.c w.last.c) slabs.now }
+    {
+        if self.raised.all_positive() {
+            return self.excludes_by_one(slabs);
+        }
+        self.excludes_each(slabs)
     }
 }

@@ -1,4 +1,5 @@
 ghost use Rattle.std.specs.Prelude.{◌≡◌, ℕ, ◌+◌, ◌-◌, ◌^◌, ◌<◌, ◌≤◌, IfOk};
+ghost use Rattle.cutter_slabs.specs.Rising.{IsRising};
 ghost use Rattle.vf_spans.specs.Members.{has};
 ghost use Rattle.cert_boxes.specs.Drafts.{AddsCells, IsBoxOn, halvings_left};
 ghost use Rattle.cert_boxes.specs.Holding.{are_slabs_excluded};
@@ -66,7 +67,7 @@ fn halves_of(depth: u32, cell: CertCell) -> Option<(CertCell, CertCell)>
     None
 }
 
-/// PushesBoxes the cells of a box, and answers whether there are any: there are none where one index of the set is left at the depth. A box
+/// Adds the cells of a box, and answers whether there are any: there are none where one index of the set is left at the depth. A box
 /// is cut down to the set's indices first. It is one cell where each slab is excluded on it, and else it has the cells of its halves.
 pub fn add_box(
     draft: &mut Draft,
@@ -77,6 +78,7 @@ pub fn add_box(
     wanted: &Spans,
     cell: CertCell,
 ) -> Result<bool, NoMemory>
+    requires rising { IsRising slabs.now }
     requires depth { depth ≤ 10 }
     requires cell { IsBoxOn grid.now depth cell }
     ensures { let holds = are_slabs_excluded sweep.now grid.now slabs.now in

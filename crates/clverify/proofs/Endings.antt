@@ -4,7 +4,7 @@ use Rattle.std.specs.Io.KnownBytes.{Keeps}
 use Rattle.vf_io.specs.Files.{Files}
 use Rattle.report_text.specs.Refusals.{refusal_of}
 use Rattle.input_faults.specs.declared.fault.Fault.{Fault}
-use Rattle.clverify.specs.Commands.{Command, certify_move, check_cert, list_moves, mark_moves, self_test, verify_moves}
+use Rattle.clverify.specs.Commands.{Command, certify_move, check_cert, list_moves, mark_moves, save_stock, self_test, verify_moves}
 use Rattle.clverify.specs.Due.{command_due}
 use Rattle.clverify.specs.Reply.{Due, IsVerdict, refused, usage_due}
 use Rattle.job_inputs.specs.Inputs.{is_read_fault}
@@ -85,6 +85,7 @@ refusal_due files (verify_moves call) fault same = ap (λ d. Some d) same
 refusal_due files (self_test number) fault same = ap (λ d. Some d) same
 refusal_due files (certify_move call) fault same = ap (λ d. Some d) same
 refusal_due files (check_cert call) fault same = ap (λ d. Some d) same
+refusal_due files (save_stock call) fault same = ap (λ d. Some d) same
 
 -- a text that is true with a status is true as a front, which says nothing of a status
 true_in_front : (status : Status) (files : Files) (command : Command) (text : List ℕ) → IsTrueText status files command text → IsTrueText ends.WriteFault files command text
@@ -107,6 +108,7 @@ true_in_front status files (certify_move call) text h = record {
     ends = tt;
   };
 }
+true_in_front status files (save_stock call) text h = (tt, h.1)
 true_in_front status files (check_cert call) text h = record {
   given = h.given;
   found = h.found;

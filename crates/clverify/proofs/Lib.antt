@@ -4,6 +4,7 @@ pub mod Done
 pub mod Endings
 pub mod Given
 pub mod Read
+pub mod Saved
 pub mod Shapes
 pub mod Unread
 pub mod Words

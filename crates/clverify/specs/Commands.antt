@@ -8,6 +8,7 @@ use Rattle.clverify.specs.Commands.Certify.{MoveCall, certify_name, certify_word
 use Rattle.clverify.specs.Commands.Check.{CheckCall, check_name, check_words}
 use Rattle.clverify.specs.Commands.List.{list_name, list_words}
 use Rattle.clverify.specs.Commands.Point.{point_name, point_words}
+use Rattle.clverify.specs.Commands.Save.{SaveCall, save_name, save_words, saved_names}
 use Rattle.clverify.specs.Commands.Selftest.{selftest_name, selftest_words}
 use Rattle.clverify.specs.Commands.Verify.{names_of, verify_name}
 use Rattle.call_words.specs.Call.{VerifyCall, call_of}
@@ -18,6 +19,7 @@ pub mod Check
 pub mod List
 pub mod Point
 pub mod Questions
+pub mod Save
 pub mod Selftest
 pub mod Verify
 
@@ -29,6 +31,7 @@ pub data Command : Type 0 where
   self_test : ℕ → Command
   certify_move : MoveCall → Command
   check_cert : CheckCall → Command
+  save_stock : SaveCall → Command
 
 -- the command that a first word names, where the words after it are its own
 abbrev pub command_by : Word → Words → Option Command
@@ -39,7 +42,8 @@ command_by word words =
     else (if bytes_eq word selftest_name then option_map self_test (selftest_words words)
     else (if bytes_eq word certify_name then option_map certify_move (certify_words words)
     else (if bytes_eq word check_name then option_map check_cert (check_words words)
-    else None)))))
+    else (if bytes_eq word save_name then option_map save_stock (save_words words)
+    else None))))))
 
 -- the command that words stand for, where they are one
 abbrev pub command_of : Words → Option Command
@@ -60,3 +64,4 @@ files_of (Some (verify_moves call)) = names_of call
 files_of (Some (self_test number)) = []
 files_of (Some (certify_move call)) = call.file ∷ call.setup ∷ []
 files_of (Some (check_cert call)) = call.move_asked.file ∷ call.move_asked.setup ∷ call.cert ∷ []
+files_of (Some (save_stock call)) = saved_names call

@@ -13,8 +13,8 @@ pub record Due : Type 0 where
 -- the one line for words that are no command
 abbrev pub usage_line : List ℕ
 usage_line =
-    line (codes "usage: clverify list CL | point CL X Y Z --depth M [--slabs N] | verify CL SETUP [--script F] [--workers N] | selftest N"
-    ++ codes " | certify CL SETUP I | check CL SETUP I CERT")
+    line (codes "usage: clverify list CL | point CL X Y Z --depth M [--slabs N] | verify CL SETUP [--script F] [--workers N] [--stock F]"
+    ++ codes " | selftest N | certify CL SETUP I | check CL SETUP I CERT | save CL SETUP [--script F] [--stock F]")
 
 -- words that are no command are due that line
 abbrev pub usage_due : Due

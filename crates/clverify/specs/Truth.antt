@@ -6,18 +6,19 @@ use Rattle.input_faults.specs.declared.fault.Fault.{Fault}
 use Rattle.vf_io.specs.Bytes.{AppendsFront}
 use Rattle.vf_io.specs.Files.{Files, bytes_of}
 use Rattle.clverify.specs.Reply.{refused}
-use Rattle.clverify.specs.Commands.{Command, certify_move, check_cert, list_moves, mark_moves, self_test, verify_moves}
+use Rattle.clverify.specs.Commands.{Command, certify_move, check_cert, list_moves, mark_moves, save_stock, self_test, verify_moves}
 use Rattle.clverify.specs.Commands.Certify.{IsTrueCertification}
 use Rattle.clverify.specs.Commands.Check.{IsTrueCheck}
 use Rattle.clverify.specs.Commands.List.{IsTrueListing}
 use Rattle.clverify.specs.Commands.Point.{IsTrueMarking}
+use Rattle.clverify.specs.Commands.Save.{IsTrueSaving}
 use Rattle.clverify.specs.Commands.Selftest.{IsTrueSelftest}
 use Rattle.clverify.specs.Commands.Verify.{IsTrueVerification}
 use Rattle.clverify.specs.Due.{command_due}
 use Rattle.clverify.specs.declared.status.Status.{Status}
 use Rattle.clverify.specs.declared.status.Status.TheVariants.{Clean, Findings, WriteFault}
 
--- a listing and marks come without findings
+-- a listing, marks and a saved stock come without findings
 abbrev pub HasNoFindings : Status → Type 0
 HasNoFindings Findings = ⊥
 HasNoFindings status = Unit {0}
@@ -30,6 +31,7 @@ IsTrueText status files (verify_moves call) text = IsTrueVerification call files
 IsTrueText status files (self_test number) text = IsTrueSelftest number status text
 IsTrueText status files (certify_move call) text = IsTrueCertification call files status text
 IsTrueText status files (check_cert call) text = IsTrueCheck call files status text
+IsTrueText status files (save_stock call) text = HasNoFindings status × IsTrueSaving call files text
 
 -- the text is the one line that a command's files are refused with
 pub record IsRefusal (files : Files) (command : Command) (text : List ℕ) : Type 0 where

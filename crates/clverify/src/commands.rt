@@ -16,6 +16,7 @@ mod check;
 mod list;
 mod point;
 mod question;
+mod save;
 mod selftest;
 mod verify;
 
@@ -24,6 +25,7 @@ use crate::commands::certify::{certify_report, certify_words};
 use crate::commands::check::{check_report, check_words};
 use crate::commands::list::{list_report, list_words};
 use crate::commands::point::{point_report, point_words};
+use crate::commands::save::{SaveWords, save_report, save_words};
 use crate::commands::selftest::{selftest_report, selftest_words};
 use crate::commands::verify::{verify_command, verify_report};
 use crate::reply::Reply;
@@ -51,6 +53,8 @@ pub(crate) enum Command<'a> {
     Certify(MoveWords<'a>),
     /// Judge such a certificate.
     Check(CheckWords<'a>),
+    /// Save what the moves leave of the stock.
+    Save(SaveWords<'a>),
 }
 
 /// The command that words stand for, where they are one. Those after `verify` need memory.
@@ -72,6 +76,7 @@ pub(crate) fn read_command<'a>(
         "selftest" => Ok(selftest_words(more)),
         "certify" => Ok(certify_words(more)),
         "check" => Ok(check_words(more)),
+        "save" => Ok(save_words(more)),
         _ => Ok(None),
     }
 }
@@ -99,5 +104,6 @@ pub(crate) fn report_on<R: Threads + Wait + Sync, S: Shelf, G: Gate + Sync>(
         Command::Selftest { number } => selftest_report(rt, alloc, *number, gate),
         Command::Certify(said) => certify_report(alloc, said, shelf),
         Command::Check(said) => check_report(alloc, said, shelf),
+        Command::Save(said) => save_report(rt, alloc, said, shelf, gate),
     }
 }

@@ -16,8 +16,8 @@ use worker_gate::Gate;
 
 /// The one line for words that are no command.
 const USAGE: &[u8] =
-    b"usage: clverify list CL | point CL X Y Z --depth M [--slabs N] | verify CL SETUP [--script F] [--workers N] | selftest N \
-    | certify CL SETUP I | check CL SETUP I CERT\n";
+    b"usage: clverify list CL | point CL X Y Z --depth M [--slabs N] | verify CL SETUP [--script F] [--workers N] \
+    [--stock F] | selftest N | certify CL SETUP I | check CL SETUP I CERT | save CL SETUP [--script F] [--stock F]\n";
 
 /// Does what the words ask for, over the files of the shelf, and writes the answer to the sink. Workers that verify a job enter the gate
 /// before each turn. What is answered is the same whatever they do there, for any number of workers and any order of their turns.
@@ -38,7 +38,7 @@ pub fn run<R: Threads + Wait + Sync, S: Shelf, K: Sink, G: Gate + Sync>(
         (K.written sink.old) (K.written sink.new) (K.pieces sink.old) (K.pieces sink.new) }
     // What was written is true: a listing of the file's own moves, marks that are true of the cutter, a report of the task that the
     // files stand for, true of the exact cutters line by line, a certificate for the move, or the verdict on one, by which the exact
-    // cutter leaves part and fixtures untouched; and the status is what the lines say.
+    // cutter leaves part and fixtures untouched, or what is left of the stock; and the status is what the lines say.
     ensures sound { TellsTruth result (S.files shelf.old) (command_of (map string_bytes words.now))
         (K.written sink.old) (K.written sink.new) }
     // Words that are no command are answered without a read, and without memory where they don't begin with `verify`.

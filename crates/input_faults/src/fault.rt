@@ -1,7 +1,9 @@
 use cert_lines::CertFault;
 use cl_lines::ClFault;
 use edit_plan::ScriptFault;
+use ray_grid::Ray;
 use setup_keys::SetupFault;
+use stock_file::StockFault;
 
 /// The files that are read.
 #[derive(Clone, Copy)]
@@ -14,6 +16,8 @@ pub enum Input {
     Script,
     /// The certificate.
     Cert,
+    /// The saved stock.
+    Stock,
 }
 
 /// Why an input is refused.
@@ -33,4 +37,10 @@ pub enum Fault {
     MoveRange { asked: u32, moves: u32 },
     /// The certificate has a fault.
     Cert(CertFault),
+    /// The saved stock has a fault.
+    Stock(StockFault),
+    /// The saved stock is one of another grid; where the setup turns it, of another pitch or step.
+    StockOther,
+    /// This point of the saved stock has no place on the setup's grid when it is turned.
+    TurnOutside { ray: Ray, l: u32 },
 }

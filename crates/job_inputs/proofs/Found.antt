@@ -82,7 +82,7 @@ askable setup moves number move setup_in valid high found =
 -- what is due of a program and a setup, by what was found of its cutters
 abbrev due_after : Program → Setup → ℕ → Option ℕ → Result AskedMove Fault
 due_after program setup number found =
-    (unless_low found program >>= (λ _. Ok (task_by program setup (whole_of_moves (length program.moves))))) >>= move_asked number
+    (unless_low found program >>= (λ _. Ok (task_by program setup None (whole_of_moves (length program.moves))))) >>= move_asked number
 
 -- a cutter that is too low comes before the number
 pub low_first : (program : Program) (setup : Setup) (number line : ℕ) → first_low (tool_defaults setup.tool) program.moves ≡ Some line
@@ -92,13 +92,13 @@ low_first program setup number line low = ap (due_after program setup number) lo
 -- where none is, what is due is what is found at the number
 abbrev found_at : Program → Setup → ℕ → Option Move → Result AskedMove Fault
 found_at program setup number found =
-    move_or_fault (task_by program setup (whole_of_moves (length program.moves))) number (option_map (job_move setup.tool) found)
+    move_or_fault (task_by program setup None (whole_of_moves (length program.moves))) number (option_map (job_move setup.tool) found)
 
 pub found_due : (program : Program) (setup : Setup) (number : ℕ) (found : Option Move) → first_low (tool_defaults setup.tool) program.moves ≡ None
     → numbered_move number program.moves ≡ found → asked_among program setup number ≡ found_at program setup number found
 found_due program setup number found high is =
     ap (due_after program setup number) high
-    ∙ ap (move_or_fault (task_by program setup (whole_of_moves (length program.moves))) number)
+    ∙ ap (move_or_fault (task_by program setup None (whole_of_moves (length program.moves))) number)
     (numbered-map (job_move setup.tool) number program.moves ∙ ap (option_map (job_move setup.tool)) is)
 
 -- none has a number that is out of range
@@ -122,7 +122,7 @@ pub asked_after : (files : Option Files) (setup : List ℕ) (number : ℕ) (prog
     → IfSome files (λ told. GivesInput given (asked_behind program (bytes_of told setup) number))
 asked_after None setup number program read given is_read gives = tt
 asked_after (Some told) setup number program read given is_read gives =
-    subst (λ (due : Result Setup Fault). GivesInput given ((due >>= (λ other. task_with program other None)) >>= move_asked number)) (sym is_read) gives
+    subst (λ (due : Result Setup Fault). GivesInput given ((due >>= (λ other. task_with program other None None)) >>= move_asked number)) (sym is_read) gives
 
 -- what stops the reading of the setup stops it all
 pub setup_stopped : (files : Option Files) (setup : List ℕ) (number : ℕ) (program : Program) (stopped : Stopped)
@@ -130,7 +130,7 @@ pub setup_stopped : (files : Option Files) (setup : List ℕ) (number : ℕ) (pr
     → IfSome files (λ told. GivesInput {T = AskedMove} (Err stopped) (asked_behind program (bytes_of told setup) number))
 setup_stopped None setup number program stopped read = tt
 setup_stopped (Some told) setup number program (Refused fault) read =
-    ap (λ (due : Result Setup Fault). (due >>= (λ other. task_with program other None)) >>= move_asked number) read
+    ap (λ (due : Result Setup Fault). (due >>= (λ other. task_with program other None None)) >>= move_asked number) read
 setup_stopped (Some told) setup number program ReadFault read = tt
 setup_stopped (Some told) setup number program NoMemory read = tt
 
@@ -141,7 +141,7 @@ pub asked_from : (files later : Option Files) (file setup : List ℕ) (number : 
     → IfSome files (λ told. GivesInput given (asked_move_of (bytes_of told file) (bytes_of told setup) number))
 asked_from None later file setup number program given same is_read gives = tt
 asked_from (Some told) later file setup number program given same is_read gives =
-    subst (λ (due : Result Program Fault). GivesInput given ((due >>= (λ other. task_behind other (bytes_of told setup) None)) >>= move_asked number)) (sym is_read)
+    subst (λ (due : Result Program Fault). GivesInput given ((due >>= (λ other. task_behind other (bytes_of told setup) None None)) >>= move_asked number)) (sym is_read)
     (subst (λ (files : Option Files). IfSome files (λ seen. GivesInput given (asked_behind program (bytes_of seen setup) number))) same gives)
 
 -- what stops the reading of the program stops it all
@@ -150,6 +150,6 @@ pub program_stopped : (files : Option Files) (file setup : List ℕ) (number : �
     → IfSome files (λ told. GivesInput {T = AskedMove} (Err stopped) (asked_move_of (bytes_of told file) (bytes_of told setup) number))
 program_stopped None file setup number stopped read = tt
 program_stopped (Some told) file setup number (Refused fault) read =
-    ap (λ (due : Result Program Fault). (due >>= (λ other. task_behind other (bytes_of told setup) None)) >>= move_asked number) read
+    ap (λ (due : Result Program Fault). (due >>= (λ other. task_behind other (bytes_of told setup) None None)) >>= move_asked number) read
 program_stopped (Some told) file setup number ReadFault read = tt
 program_stopped (Some told) file setup number NoMemory read = tt

@@ -5,3 +5,4 @@ pub mod Planes
 pub mod Programs
 pub mod Scripts
 pub mod Twice
+pub mod Stocked

@@ -39,7 +39,7 @@ move_asked number task = move_or_fault task number (numbered_move number task.jo
 -- a move of a program with the cutter that it is made with, and the task of the program and a setup without a script
 abbrev pub asked_by : Program → Setup → ℕ → Move → AskedMove
 asked_by program setup number move = record {
-  task = task_by program setup (whole_of_moves (length program.moves));
+  task = task_by program setup None (whole_of_moves (length program.moves));
   number = number;
   asked = job_move setup.tool move;
 }
@@ -51,15 +51,15 @@ pub record IsNumbered (asked : AskedMove) : Type 0 where
 
 -- the move with a number of a program that is made by a setup, or the first fault: a cutter that is too low comes first
 abbrev pub asked_among : Program → Setup → ℕ → Result AskedMove Fault
-asked_among program setup number = task_with program setup None >>= move_asked number
+asked_among program setup number = task_with program setup None None >>= move_asked number
 
 -- the same of a program and the bytes of a setup
 abbrev pub asked_behind : Program → List ℕ → ℕ → Result AskedMove Fault
-asked_behind program setup number = task_behind program setup None >>= move_asked number
+asked_behind program setup number = task_behind program setup None None >>= move_asked number
 
 -- the same of the bytes of both files
 abbrev pub asked_move_of : List ℕ → List ℕ → ℕ → Result AskedMove Fault
-asked_move_of file setup number = task_of file setup None >>= move_asked number
+asked_move_of file setup number = task_of file setup None None >>= move_asked number
 
 -- a certificate, or the fault that its text is refused with
 abbrev pub cert_or_fault : Result Cert CertFault → Result Cert Fault

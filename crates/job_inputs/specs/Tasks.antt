@@ -1,4 +1,4 @@
--- The task that a program, a setup and a script stand for.
+-- The task that a program, a setup, a saved stock and a script stand for.
 use Rattle.std.specs.Prelude.{ℕ, pos, neg_ℤ, List, length, map, Option, Some, None, unwrap_or, Result, Ok, Err}
 use Rattle.cl_records.specs.declared.cutter.CutterText.{CutterText}
 use Rattle.cl_moves.specs.Moves.{sweep_of}
@@ -14,13 +14,15 @@ use Rattle.made_setup.specs.Made.{made_setup}
 use Rattle.ray_grid.specs.declared.turn.Turn.{Turn}
 use Rattle.ray_shapes.specs.declared.plane.Plane.{Plane}
 use Rattle.ray_shapes.specs.declared.solid.Solid.{Solid}
-use Rattle.ray_shapes.specs.declared.solid.Solid.TheVariants.{Bodies, Turned}
+use Rattle.ray_shapes.specs.declared.solid.Solid.TheVariants.{Bodies, Listed, Turned}
 use Rattle.input_faults.specs.declared.fault.Fault.{Fault}
 use Rattle.input_faults.specs.declared.fault.Fault.TheVariants.{CutterHeight}
 use Rattle.setup_file.specs.Shift.{shifted_of}
 use Rattle.setup_file.specs.declared.setup.Setup.{Setup}
 use Rattle.move_cutters.specs.Cutters.{first_low, size_of}
+use Rattle.stock_file.specs.Saved.{Saved}
 use Rattle.job_inputs.specs.Inputs.{◌>>=◌, read_of, script_read_of, setup_read_of}
+use Rattle.job_inputs.specs.Stocks.{stock_for}
 use Rattle.move_cutters.specs.declared.cutters.CutterDefaults.{CutterDefaults}
 
 -- a tool as a program would give it
@@ -49,9 +51,14 @@ solid_turned (Some turn) bodies = Turned (record { bodies = bodies; turn = turn 
 abbrev pub part_as_it_lies : Setup → Solid
 part_as_it_lies setup = solid_turned setup.turn (shifted_of (neg_ℤ setup.tolerance) setup.part)
 
--- the task of what was read: the part as it lies, and the fixtures raised by their clearance
-abbrev pub task_by : Program → Setup → Script → Task
-task_by program setup script = record {
+-- the stock: what was saved, as it lies in the grid, or else the setup's bodies
+abbrev pub stock_as_it_lies : Setup → Option Saved → Solid
+stock_as_it_lies setup None = Bodies setup.stock
+stock_as_it_lies setup (Some saved) = Listed saved.sets
+
+-- the task of what was read: stock and part as they lie, and the fixtures raised by their clearance
+abbrev pub task_by : Program → Setup → Option Saved → Script → Task
+task_by program setup saved script = record {
   job = record {
     plan = record {
       grid = setup.grid;
@@ -60,7 +67,7 @@ task_by program setup script = record {
       moves = map (job_move setup.tool) program.moves;
       edits = script.edits;
     };
-    stock = Bodies setup.stock;
+    stock = stock_as_it_lies setup saved;
     part = part_as_it_lies setup;
     fixture = Bodies (shifted_of setup.clearance setup.fixture);
   };
@@ -73,26 +80,32 @@ abbrev pub unless_low : Option ℕ → Program → Result Program Fault
 unless_low None program = Ok program
 unless_low (Some at) program = Err (CutterHeight at)
 
--- the task of a program, a setup and the bytes of a script, which may be missing, or the first fault: that of a cutter that is
--- too low comes before the script's
-abbrev pub task_with : Program → Setup → Option (List ℕ) → Result Task Fault
-task_with program setup script = do
-  _ ← unless_low (first_low (tool_defaults setup.tool) program.moves) program
+-- the task of what was read but for the script, and of the script's bytes, which may be missing, or the script's fault
+abbrev pub task_placed : Program → Setup → Option Saved → Option (List ℕ) → Result Task Fault
+task_placed program setup saved script = do
   read ← script_read_of (length program.moves) setup.grid script
-  Ok (task_by program setup read)
+  Ok (task_by program setup saved read)
+
+-- The task of a program, a setup, and the bytes of a saved stock and of a script, which may be missing, or the first fault. That of a
+-- cutter that is too low comes first, then the stock's, and then the script's.
+abbrev pub task_with : Program → Setup → Option (List ℕ) → Option (List ℕ) → Result Task Fault
+task_with program setup stock script = do
+  _ ← unless_low (first_low (tool_defaults setup.tool) program.moves) program
+  placed ← stock_for setup stock
+  task_placed program setup placed script
 
 -- the same of a program and the bytes of a setup
-abbrev pub task_behind : Program → List ℕ → Option (List ℕ) → Result Task Fault
-task_behind program setup script = do
+abbrev pub task_behind : Program → List ℕ → Option (List ℕ) → Option (List ℕ) → Result Task Fault
+task_behind program setup stock script = do
   read ← setup_read_of setup
-  task_with program read script
+  task_with program read stock script
 
--- the same of the bytes of all three files
-abbrev pub task_of : List ℕ → List ℕ → Option (List ℕ) → Result Task Fault
-task_of file setup script = do
+-- the same of the bytes of all files
+abbrev pub task_of : List ℕ → List ℕ → Option (List ℕ) → Option (List ℕ) → Result Task Fault
+task_of file setup stock script = do
   program ← read_of file
-  task_behind program setup script
+  task_behind program setup stock script
 
 -- the task of a program that is generated from a number: each move is applied once in order, and nothing is asked
 abbrev pub made_task : ℕ → Task
-made_task number = task_by (made_of number) made_setup (whole_of_moves made_moves)
+made_task number = task_by (made_of number) made_setup None (whole_of_moves made_moves)

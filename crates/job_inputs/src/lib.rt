@@ -1,10 +1,11 @@
-//! What the commands read: the program of a file, and the task that a program, a setup and a script stand for.
+//! What the commands read: the program of a file, and the task that a program, a setup, a saved stock and a script stand for.
 #![tactic(auto)]
 
 mod asked;
 mod bodies;
 mod certificate;
 mod input;
+mod stock;
 mod task;
 mod tool;
 

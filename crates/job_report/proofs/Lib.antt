@@ -4,3 +4,4 @@ pub mod Lined
 pub mod Answering
 pub mod Summed
 pub mod True
+pub mod Remaining

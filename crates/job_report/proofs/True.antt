@@ -18,7 +18,7 @@ use Rattle.job_report.proofs.Named.{left_named}
 use Rattle.job_report.proofs.Summed.{summed_all}
 
 -- all edits are as many of the first as there are
-all_edits : (edits : List Edit) → take (length edits) edits ≡ edits
+pub all_edits : (edits : List Edit) → take (length edits) edits ≡ edits
 all_edits edits = take_all (length edits) edits (omega arith)
 
 pub true_report : (task : Task) → IsTask task → IsTrueReport task (facts_of task)

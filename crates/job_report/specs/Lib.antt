@@ -5,3 +5,5 @@ pub mod Report
 pub mod Judges
 pub mod Counted
 pub mod Truth
+pub mod Remaining
+pub mod TrueStock

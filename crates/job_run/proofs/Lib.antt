@@ -9,3 +9,4 @@ pub mod Counted
 pub mod FirstStrips
 pub mod Highs
 pub mod Readied
+pub mod Leftovers

@@ -5,3 +5,4 @@ pub mod Founds
 pub mod Asked
 pub mod Ready
 pub mod Finished
+pub mod Remaining

@@ -24,7 +24,7 @@ pub record HoldsPointsOf (grid : GridSize) (ray : Ray) (inside : LatticePoint �
 -- a solid's points on the lattice of a grid: by its bodies; by the set of the point's own ray; or by where the point lay before the turn
 abbrev pub in_solid : Solid → GridSize → LatticePoint → Bool
 in_solid (Bodies bodies) grid point = in_bodies bodies point.position
-in_solid (Listed sets) grid point = has (slice_index_or sets.items (ray_number grid point.ray) []) point.l
+in_solid (Listed sets) grid point = has (slice_index_or sets (ray_number grid point.ray) []) point.l
 in_solid (Turned part) grid point = in_bodies part.bodies (back part.turn point.position)
 
 -- one set for each ray of the grid in their order, of as many indices as the ray has points
@@ -35,7 +35,7 @@ pub record AreSetsOver (grid : GridSize) (sets : List (List Bool)) : Type 0 wher
 -- a solid fits a grid: bodies fit any, sets must be those of its rays
 abbrev pub IsSolidOver : GridSize → Solid → Type 0
 IsSolidOver grid (Bodies bodies) = Unit {0}
-IsSolidOver grid (Listed sets) = AreSetsOver grid sets.items
+IsSolidOver grid (Listed sets) = AreSetsOver grid sets
 IsSolidOver grid (Turned part) = Unit {0}
 
 -- whatever the closure answers on a ray of the grid with Ok is exactly the solid's points there

@@ -4,6 +4,7 @@ ghost use Rattle.ray_shapes.specs.Sets.{HoldsPointsOf, IsSolidOver, in_solid};
 
 use crate::body::Bodies;
 use crate::fill::body_spans;
+use crate::ray_sets::RaySets;
 use crate::turned::TurnedBodies;
 use ray_grid::{Grid, Ray};
 use std::alloc::Global;
@@ -16,7 +17,7 @@ pub enum Solid {
     /// The points of any of the bodies.
     Bodies(Bodies),
     /// One set for each ray of a grid, in the order of the rays.
-    Listed { rays: Vec<Spans> },
+    Listed(RaySets),
     /// The points of bodies that are turned.
     Turned(TurnedBodies),
 }
@@ -29,7 +30,7 @@ pub fn solid_spans(alloc: Global, solid: &Solid, grid: &Grid, ray: &Ray) -> Resu
 {
     match solid {
         Solid::Bodies(bodies) => body_spans(alloc, bodies.as_slice(), grid, ray),
-        Solid::Listed { rays } => rays[grid.ray_number(ray) as usize].copy(),
+        Solid::Listed(sets) => sets.as_slice()[grid.ray_number(ray) as usize].copy(),
         Solid::Turned(part) => body_spans(alloc, part.turned(), grid, ray),
     }
 }

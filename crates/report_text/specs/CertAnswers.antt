@@ -1,22 +1,16 @@
 -- The texts about certificates: the one that was made, or that there is none; and the verdict on one.
 use Rattle.std.specs.Prelude.{ℕ, List, ◌++◌, codes, decimal, Option, Some, None}
 use Rattle.vf_text.specs.Pages.{line}
-use Rattle.ray_grid.specs.declared.ray.Ray.{Ray}
 use Rattle.cert_lines.specs.Spelling.{text_of_cert}
 use Rattle.cert_lines.specs.declared.cert.Cert.{Cert}
 use Rattle.cert_boxes.specs.declared.verdict.Verdict.{Verdict}
 use Rattle.cert_boxes.specs.declared.verdict.Verdict.TheVariants.{Accepted, BoxStands, Uncovered}
-use Rattle.report_text.specs.Answers.{family_name}
+use Rattle.report_text.specs.Places.{place_text}
 
 -- the certificate, or that there is none
 abbrev pub made_cert_text : Option Cert → List ℕ
 made_cert_text (Some cert) = text_of_cert cert
 made_cert_text None = line (codes "nocert")
-
--- a point of a ray, by the ray's family and nodes and the point's index
-abbrev pub place_text : Ray → ℕ → List ℕ
-place_text ray l =
-    codes " " ++ family_name ray.family ++ codes " " ++ decimal ray.i ++ codes " " ++ decimal ray.j ++ codes " " ++ decimal l
 
 -- whether it is accepted, or else the line whose box doesn't hold or the point that isn't covered
 abbrev pub cert_verdict_words : Verdict → List ℕ

@@ -3,9 +3,11 @@ pub mod CertAnswers
 pub mod CertFaults
 pub mod Listing
 pub mod Marking
+pub mod Places
 pub mod Refusals
 pub mod Report
 pub mod ScriptFaults
 pub mod Selftest
 pub mod SetupFaults
+pub mod StockFaults
 pub mod Verdict

@@ -7,18 +7,22 @@ use Rattle.cl_lines.specs.declared.fault.ClWhy.TheVariants.{NumberSyntax, Number
 use Rattle.cl_lines.specs.declared.fault.ClWhy.TheVariants.{AxisZero, NoPosition, AxisFlip, TooManyMoves}
 use Rattle.cl_lines.specs.Words.{word_name}
 use Rattle.input_faults.specs.declared.fault.Fault.{Fault}
-use Rattle.input_faults.specs.declared.fault.Fault.TheVariants.{TooLong, Cl, Setup, CutterHeight, Script, MoveRange, Cert}
+use Rattle.input_faults.specs.declared.fault.Fault.TheVariants.{TooLong, Cl, Setup, CutterHeight, Script, MoveRange}
+use Rattle.input_faults.specs.declared.fault.Fault.TheVariants.{Cert, Stock, StockOther, TurnOutside}
 use Rattle.input_faults.specs.declared.fault.Input.{Input}
 use Rattle.input_faults.specs.declared.fault.Input.TheVariants as inputs
 use Rattle.report_text.specs.CertFaults.{cert_fault_text}
+use Rattle.report_text.specs.Places.{place_text}
 use Rattle.report_text.specs.ScriptFaults.{depths_text, script_fault_text}
 use Rattle.report_text.specs.SetupFaults.{setup_fault_text}
+use Rattle.report_text.specs.StockFaults.{stock_fault_text}
 
 abbrev pub input_name : Input → List ℕ
 input_name inputs.Cl = codes "cl"
 input_name inputs.Setup = codes "setup"
 input_name inputs.Script = codes "script"
 input_name inputs.Cert = codes "cert"
+input_name inputs.Stock = codes "stock"
 
 abbrev pub why_name : ClWhy → List ℕ
 why_name LineLong = codes "LineLong"
@@ -48,6 +52,9 @@ fault_text (Setup fault) = setup_fault_text fault
 fault_text (Script fault) = script_fault_text fault
 fault_text (MoveRange asked moves) = codes "cl: MoveRange" ++ depths_text asked moves
 fault_text (Cert fault) = cert_fault_text fault
+fault_text (Stock fault) = stock_fault_text fault
+fault_text StockOther = codes "stock: StockOther"
+fault_text (TurnOutside ray l) = codes "stock: TurnOutside" ++ place_text ray l
 
 -- the one line of a refusal
 abbrev pub refusal_of : Fault → List ℕ

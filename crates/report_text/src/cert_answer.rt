@@ -1,11 +1,10 @@
 ghost use Rattle.std.specs.Prelude.{◌≡◌, ◌++◌, IfOk, OnOk};
-ghost use Rattle.report_text.specs.CertAnswers.{cert_verdict_text, cert_verdict_words, made_cert_text, place_text};
+ghost use Rattle.report_text.specs.CertAnswers.{cert_verdict_text, cert_verdict_words, made_cert_text};
 
-use crate::answers::name_of_family;
 use crate::counted::write_counted;
+use crate::place::write_place;
 use cert_boxes::Verdict;
 use cert_lines::{Cert, cert_text};
-use ray_grid::Ray;
 use std::alloc::Global;
 use vf_io::NoMemory;
 use vf_text::Page;
@@ -49,15 +48,4 @@ fn write_cert_verdict(page: &mut Page, verdict: Verdict) -> Result<(), NoMemory>
             write_place(page, &ray, l)
         }
     }
-}
-
-/// Writes the family and the nodes of a ray, and the index of a point on it.
-fn write_place(page: &mut Page, ray: &Ray, l: u32) -> Result<(), NoMemory>
-    ensures { OnOk result (page.new ≡ page.old ++ place_text ray.now l) }
-{
-    page.space()?;
-    page.text(name_of_family(ray.family))?;
-    write_counted(page, b" ", ray.i as usize)?;
-    write_counted(page, b" ", ray.j as usize)?;
-    write_counted(page, b" ", l as usize)
 }

@@ -3,8 +3,10 @@ ghost use Rattle.report_text.specs.Refusals.{refusal_of, fault_text, input_name,
 
 use crate::cert_fault::write_cert_fault;
 use crate::counted::write_counted;
+use crate::place::write_place;
 use crate::script_fault::{write_depths, write_script_fault};
 use crate::setup_fault::write_setup_fault;
+use crate::stock_fault::write_stock_fault;
 use cl_lines::ClWhy;
 use input_faults::{Fault, Input};
 use std::alloc::Global;
@@ -47,6 +49,12 @@ fn write_fault(page: &mut Page, fault: &Fault) -> Result<(), NoMemory>
             write_depths(page, *asked, *moves)
         }
         Fault::Cert(fault) => write_cert_fault(page, *fault),
+        Fault::Stock(fault) => write_stock_fault(page, *fault),
+        Fault::StockOther => page.text(b"stock: StockOther"),
+        Fault::TurnOutside { ray, l } => {
+            page.text(b"stock: TurnOutside")?;
+            write_place(page, ray, *l)
+        }
     }
 }
 
@@ -58,6 +66,7 @@ fn name_of_input(input: Input) -> &'static [u8]
         Input::Setup => b"setup",
         Input::Script => b"script",
         Input::Cert => b"cert",
+        Input::Stock => b"stock",
     }
 }
 

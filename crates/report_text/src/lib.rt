@@ -8,10 +8,12 @@ mod counted;
 mod fault;
 mod listing;
 mod marking;
+mod place;
 mod report;
 mod script_fault;
 mod selftest;
 mod setup_fault;
+mod stock_fault;
 mod verdict;
 
 pub use cert_answer::{cert_verdict_text, made_cert_text};

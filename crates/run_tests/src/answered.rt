@@ -9,8 +9,8 @@ use worker_gate::Gate;
 
 /// The usage line.
 pub(crate) const USAGE: &str =
-    "usage: clverify list CL | point CL X Y Z --depth M [--slabs N] | verify CL SETUP [--script F] [--workers N] | selftest N \
-    | certify CL SETUP I | check CL SETUP I CERT\n";
+    "usage: clverify list CL | point CL X Y Z --depth M [--slabs N] | verify CL SETUP [--script F] [--workers N] \
+    [--stock F] | selftest N | certify CL SETUP I | check CL SETUP I CERT | save CL SETUP [--script F] [--stock F]\n";
 
 /// Whether a call over files with these names ends with this code and writes this text. The calls of the shelf and the puts with these
 /// numbers fail.

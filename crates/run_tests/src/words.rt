@@ -27,7 +27,7 @@ fn is_command<R: Threads + Wait + Sync>(
 }
 
 /// Words that are a command.
-const COMMANDS: [&str; 17] = [
+const COMMANDS: [&str; 23] = [
     "list a",
     "list --x",
     "verify a s.toml",
@@ -45,10 +45,16 @@ const COMMANDS: [&str; 17] = [
     "certify a s 1",
     "certify a s 00000",
     "check a s 99999 --c",
+    "verify a s --stock t",
+    "save a s",
+    "save a s --script f",
+    "save a s --stock --t",
+    "save a s --script --stock",
+    "save a s --script f --stock t",
 ];
 
 /// Words that are none.
-const NO_COMMANDS: [&str; 42] = [
+const NO_COMMANDS: [&str; 53] = [
     "list",
     "list ",
     "list a b",
@@ -91,6 +97,17 @@ const NO_COMMANDS: [&str; 42] = [
     "check a s 1 ",
     "check a s 1 c d",
     "CHECK a s 1 c",
+    "verify a s --stock",
+    "save a",
+    "save  s",
+    "save a s t",
+    "save a s --script",
+    "save a s --stock ",
+    "save a s --workers 1",
+    "save a s --stock t --script f",
+    "save a s --stock=t",
+    "save a s --script f --stock",
+    "save a s --script f --stock t u",
 ];
 
 #[test]

@@ -1,13 +1,14 @@
 -- The grid line: the test of its numbers, and its text.
-use Rattle.std.proofs.Common.{◌≡◌, ℕ, suc, zero, ◌+◌, ◌-◌, ◌*◌, ◌/◌, ◌%◌, ◌^◌, ◌<◌, ◌≤◌, ◌==◌, ◌&&◌, ℤ, pos, negsuc, ◌+ℤ◌, ◌≤ℤ◌, unsigned_abs, Bool, true, false, not, List, [], ◌∷◌, ◌++◌, length, map, Option, Some, None, cond, codes, decimal, nat_le, slice_index, get_or, arith, refl, sym, ap, ap₂, ◌∙◌, subst, eq-eqb}
+use Rattle.std.proofs.Common.{◌≡◌, ℕ, ◌-◌, ◌*◌, ◌/◌, ◌%◌, ◌^◌, ◌<◌, ◌≤◌, ◌==◌, ◌&&◌, ℤ, pos, negsuc, ◌+ℤ◌, ◌≤ℤ◌, unsigned_abs, Bool, true, false, not, List, [], ◌∷◌, ◌++◌, length, map, Option, Some, None, codes, decimal, nat_le, slice_index, get_or, arith, refl, sym, ap, ap₂, ◌∙◌, subst, eq-eqb, to_z, w32}
 use Rattle.std.specs.Fmt.{signed_decimal}
 use Rattle.std.specs.List.{list_all}
 use Rattle.std.specs.Option.{option_and_then}
 use Rattle.std.specs.Prelude.{int_le}
 use Rattle.std.specs.Str.{bytes_eq}
 use Rattle.std.proofs.lemmas.Bool.{and_from, and_parts, eqb-true, le-leb, leb-true}
-use Rattle.std.proofs.lemmas.Int.{ints}
-use Rattle.std.proofs.lemmas.Option.{cond_some, option_and_then_some, same_Some, some_pair_parts}
+use Rattle.std.proofs.lemmas.Int.{ints, to_z_pos}
+use Rattle.std.proofs.Math.Nat.{mul-le-mul}
+use Rattle.std.proofs.lemmas.Option.{option_and_then_some, same_Some, some_pair_parts}
 use Rattle.vf_io.specs.Pieces.{line_feed, pieces_of}
 use Rattle.vf_text.specs.Pages.{line, numbers}
 use Rattle.space.specs.Ranges.{IsBetween, is_coordinate, metre}
@@ -20,9 +21,8 @@ use Rattle.cert_lines.proofs.WordLemmas.{line_in-push}
 use Rattle.stock_file.specs.GridTests.{counts_in, counts_of, grid_in, grid_in_line, grid_named, grid_of_sizes, is_axis_of_grid, is_grid, is_pitch, origin_in, origin_of, sizes_in}
 use Rattle.stock_file.specs.Numbers.{plain_number, signed_number}
 use Rattle.stock_file.specs.Spelling.{grid_line, grid_numbers}
-use Rattle.stock_file.proofs.TextLemmas.{all_plain, is_small, line_is, numbers_as_words, plain-decimal, plain_is, signed-decimal, signed_is, signed_plain, spaced_text, text_no_end, text_of_words, words_make, words_of-text}
-use Rattle.stock_file.proofs.LineLemmas.{bytes_same, same_bytes, then_is}
-use borrow.Author.Differences.{abs_is as size_is}
+use Rattle.stock_file.proofs.TextLemmas.{all_plain, is_small, line_is, numbers_as_words, plain-decimal, plain_is, signed-decimal, signed_is, signed_plain, text_no_end, text_of_words, words_make, words_of-text}
+use Rattle.stock_file.proofs.LineLemmas.{same_bytes, then_is}
 
 at_most : (a b : ℤ) → int_le a b ≡ true → a ≤ℤ b
 at_most a b h = grind (arith, ints)
@@ -114,8 +114,56 @@ grid_from g is =
     (and_from y z (axis_from g.pitch g.step (at g.origin 1) (slice_index g.counts 1) is.y)
     (axis_from g.pitch g.step (at g.origin 2) (slice_index g.counts 2) is.z)))
 
+within_pitch : (pitch step : ℤ) → step ≤ℤ pitch → pitch ≤ℤ pos metre → step ≤ℤ pos metre
+within_pitch pitch step a b = omega (arith, ints)
+
+-- how far the points of a ray reach
+pub short_axis : (pitch step nodes : ℕ) → is_pitch (pos pitch) (pos step) ≡ true → nodes ≤ most_nodes → (nodes * (pitch / step) - 1) * step ≤ 10 ^ 12
+short_axis pitch step nodes test few =
+    let is = pitch_shown (pos pitch) (pos step) test in
+    let fine : pitch / step ≤ most_per_node = is.fine in
+    let low : step ≤ metre = pos_most step (within_pitch (pos pitch) (pos step) is.step_in.to_most is.pitch_in.to_most) in
+    let points : nodes * (pitch / step) ≤ most_nodes * most_per_node = mul-le-mul few fine in
+    let before : nodes * (pitch / step) - 1 ≤ most_nodes * most_per_node = omega arith in
+    let all : (nodes * (pitch / step) - 1) * step ≤ (most_nodes * most_per_node) * metre = mul-le-mul before low in
+    omega (arith, all)
+  where
+    pos_most : (n : ℕ) → pos n ≤ℤ pos metre → n ≤ metre
+    pos_most n h = omega (arith, ints)
+
+-- the test of a grid's pitch and axes, one after the other
+abbrev pub has_axis : GridSize → ℕ → Bool
+has_axis g axis = is_axis_of_grid g.pitch g.step (at g.origin axis) (slice_index g.counts axis)
+
+pub first_fails : (g : GridSize) → is_pitch g.pitch g.step ≡ true → has_axis g 0 ≡ false → false ≡ is_grid g
+first_fails g pitch x =
+    sym (ap (λ (t : Bool). t && (has_axis g 0 && (has_axis g 1 && has_axis g 2))) pitch ∙ ap (λ (t : Bool). t && (has_axis g 1 && has_axis g 2)) x)
+
+pub second_fails : (g : GridSize) → is_pitch g.pitch g.step ≡ true → has_axis g 0 ≡ true → has_axis g 1 ≡ false → false ≡ is_grid g
+second_fails g pitch x y =
+    sym (ap (λ (t : Bool). t && (has_axis g 0 && (has_axis g 1 && has_axis g 2))) pitch ∙ ap (λ (t : Bool). t && (has_axis g 1 && has_axis g 2)) x
+    ∙ ap (λ (t : Bool). t && has_axis g 2) y)
+
+pub last_decides : (g : GridSize) → is_pitch g.pitch g.step ≡ true → has_axis g 0 ≡ true → has_axis g 1 ≡ true → has_axis g 2 ≡ is_grid g
+last_decides g pitch x y =
+    sym (ap (λ (t : Bool). t && (has_axis g 0 && (has_axis g 1 && has_axis g 2))) pitch ∙ ap (λ (t : Bool). t && (has_axis g 1 && has_axis g 2)) x
+    ∙ ap (λ (t : Bool). t && has_axis g 2) y)
+
+-- pitch and step of a grid as signed numbers
+signed_number_is : (n : ℕ) → pos n ≤ℤ pos metre → to_z w32 n ≡ pos n
+signed_number_is n most = let low : n ≤ metre = omega (arith, ints) in to_z_pos w32 n (omega (arith, low))
+
+pub cast_grid : (origin : List ℤ) (pitch step : ℕ) (counts : List ℕ) → is_grid (record { origin = origin; pitch = pos pitch; step = pos step; counts = counts }) ≡ true
+    → IsGrid (record { origin = origin; pitch = to_z w32 pitch; step = to_z w32 step; counts = counts })
+cast_grid origin pitch step counts test =
+    let is = grid_shown (record { origin = origin; pitch = pos pitch; step = pos step; counts = counts }) test in
+    let p : to_z w32 pitch ≡ pos pitch = signed_number_is pitch is.pitch_in.to_most in
+    let s : to_z w32 step ≡ pos step = signed_number_is step (within_pitch (pos pitch) (pos step) is.step_in.to_most is.pitch_in.to_most) in
+    subst (λ (z : ℤ). IsGrid (record { origin = origin; pitch = z; step = to_z w32 step; counts = counts })) (sym p)
+    (subst (λ (z : ℤ). IsGrid (record { origin = origin; pitch = pos pitch; step = z; counts = counts })) (sym s) is)
+
 -- lists of three
-three_is : {A : Type 0} (xs : List A) (d : A) → length xs ≡ 3 → xs ≡ get_or xs 0 d ∷ get_or xs 1 d ∷ get_or xs 2 d ∷ []
+pub three_is : {A : Type 0} (xs : List A) (d : A) → length xs ≡ 3 → xs ≡ get_or xs 0 d ∷ get_or xs 1 d ∷ get_or xs 2 d ∷ []
 three_is [] d size = absurd (omega (arith, size))
 three_is (a ∷ []) d size = absurd (omega (arith, size))
 three_is (a ∷ b ∷ []) d size = absurd (omega (arith, size))
@@ -164,9 +212,6 @@ pub record IsWritable (g : GridSize) : Type 0 where
 few_abs : (z : ℤ) → pos 1 ≤ℤ z → z ≤ℤ pos metre → unsigned_abs z < 10 ^ 9
 few_abs (pos n) low high = omega (arith, ints)
 few_abs (negsuc n) low high = absurd (omega (arith, ints))
-
-within_pitch : (pitch step : ℤ) → step ≤ℤ pitch → pitch ≤ℤ pos metre → step ≤ℤ pos metre
-within_pitch pitch step a b = omega (arith, ints)
 
 pub writable : (g : GridSize) → IsGrid g → IsWritable g
 writable g is = record {

@@ -1,12 +1,10 @@
 -- Each saved stock has one text.
-use Rattle.std.proofs.Common.{◌≡◌, ◌≢◌, ℕ, suc, zero, ◌+◌, ◌-◌, ◌<◌, ◌≤◌, Bool, true, false, List, [], ◌∷◌, ◌++◌, length, map, set, drop, get_or, Option, Some, None, Result, Ok, Err, cond, codes, arith, refl, sym, ap, ap₂, ◌∙◌, subst, append_assoc, get_or-set_same, get_or-set_other, length-set, ⊎_elim}
+use Rattle.std.proofs.Common.{◌≡◌, ◌≢◌, ℕ, suc, zero, ◌+◌, ◌-◌, ◌<◌, ◌≤◌, Bool, true, false, List, [], ◌∷◌, ◌++◌, length, drop, get_or, Option, Some, None, Result, Ok, Err, cond, codes, arith, refl, sym, ap, ap₂, ◌∙◌, subst, append_assoc, get_or-set_same, get_or-set_other, ⊎_elim}
 use Rattle.std.specs.Str.{bytes_eq}
-use Rattle.std.proofs.lemmas.Bool.{cases_lt, cases_eq}
-use Rattle.std.proofs.lemmas.List.{drop_all, drop_more, ext_get_or, get_or-map, get_or_past}
-use Rattle.vf_io.specs.Pieces.{line_feed, pieces_of}
-use Rattle.vf_spans.specs.Edges.{flags_of}
+use Rattle.std.proofs.lemmas.Bool.{cases_lt}
+use Rattle.std.proofs.lemmas.List.{drop_all, drop_more, ext_get_or, get_or-map}
+use Rattle.vf_io.specs.Pieces.{pieces_of}
 use Rattle.vf_spans.specs.Members.{ranges_of}
-use Rattle.vf_text.specs.Pages.{line}
 use Rattle.ray_grid.specs.Grids.{GridSize}
 use Rattle.ray_grid.specs.Lattice.{IsRay, points_of}
 use Rattle.ray_grid.specs.Points.{rays_of}
@@ -19,8 +17,7 @@ use Rattle.cert_lines.proofs.SpeltLemmas.{pieces_of-line}
 use Rattle.stock_file.specs.GridTests.{grid_named, is_grid}
 use Rattle.stock_file.specs.Law.{HasOneSpelling, ReadsBackStock}
 use Rattle.stock_file.specs.RayLines.{ray_set_in}
-use Rattle.stock_file.specs.Rays.{IsRayAt}
-use Rattle.stock_file.specs.Reading.{stock_after_opening, stock_fault, stock_from, stock_in, stock_of, stock_on, stock_read_on, with_nothing_after}
+use Rattle.stock_file.specs.Reading.{stock_after_opening, stock_fault, stock_from, stock_in, stock_on, stock_read_on, with_nothing_after}
 use Rattle.stock_file.specs.Saved.{IsSaved, Saved, no_flags, no_sets, with_set}
 use Rattle.stock_file.specs.Spelling.{range_bounds, grid_line, ranges_line, rays_text, saved_of, stock_line}
 use Rattle.stock_file.specs.declared.fault.StockFault.{StockFault}
@@ -28,9 +25,9 @@ use Rattle.stock_file.specs.declared.fault.StockWhy.{StockWhy}
 use Rattle.stock_file.specs.declared.fault.StockWhy.TheVariants.{StockSyntax, StockGrid}
 use Rattle.stock_file.specs.declared.ray_set.RaySet.{RaySet}
 use Rattle.stock_file.proofs.GridLemmas.{grid_from, grid_read, grid_shown, named_grid, piece_of_grid}
-use Rattle.stock_file.proofs.LineLemmas.{bytes_same, found_set, line_of_set, piece_of_set, same_bytes, set_few, set_read}
+use Rattle.stock_file.proofs.LineLemmas.{found_set, line_of_set, piece_of_set, same_bytes, set_few, set_read}
 use Rattle.stock_file.proofs.RangeLemmas.{no_flags_are, no_ranges}
-use Rattle.stock_file.proofs.RayOrder.{at_number, number_low, numbered, ray_at}
+use Rattle.stock_file.proofs.RayOrder.{number_low, numbered, ray_at}
 use Rattle.stock_file.proofs.SetLemmas.{no_flags_of, no_sets_over, with_set_over}
 use Rattle.stock_file.proofs.TextLemmas.{all_bytes, all_few, bytes-pieces}
 

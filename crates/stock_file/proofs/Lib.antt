@@ -6,3 +6,8 @@ pub mod RangeLemmas
 pub mod LineLemmas
 pub mod GridLemmas
 pub mod LawLemmas
+pub mod TakenLemmas
+pub mod WalkLemmas
+pub mod ReadLemmas
+pub mod PointSets
+pub mod GridsSame

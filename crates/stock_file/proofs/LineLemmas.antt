@@ -1,19 +1,16 @@
 -- The lines of a saved stock as they are read, and as they are written.
-use Rattle.std.proofs.Common.{◌≡◌, ℕ, ◌+◌, ◌^◌, ◌<◌, ◌≤◌, ◌&&◌, ◌==◌, ℤ, pos, Bool, true, false, not, List, [], ◌∷◌, ◌++◌, length, map, Option, Some, None, Result, Ok, Err, cond, codes, decimal, nat_le, nat_lt, slice_index, arith, refl, sym, ap, ap₂, ◌∙◌, subst, append_assoc}
-use Rattle.std.specs.Fmt.{signed_decimal}
+use Rattle.std.proofs.Common.{◌≡◌, ℕ, ◌+◌, ◌^◌, ◌<◌, ◌≤◌, ◌&&◌, ◌==◌, Bool, true, false, not, List, [], ◌∷◌, ◌++◌, length, map, Option, Some, None, Result, Ok, Err, cond, codes, decimal, nat_le, nat_lt, arith, refl, sym, ap, ap₂, ◌∙◌, subst}
 use Rattle.std.specs.List.{list_all}
 use Rattle.std.specs.Option.{option_and_then}
 use Rattle.std.specs.Str.{bytes_eq}
 use Rattle.std.proofs.lemmas.Bool.{and_from, and_parts, le-leb, leb-true, lt-ltb, ltb-true}
-use Rattle.std.proofs.lemmas.Option.{cond_some, option_and_then_some, same_Some, some_pair_parts}
+use Rattle.std.proofs.lemmas.Option.{option_and_then_some, same_Some, some_pair_parts}
 use Rattle.std.proofs.lemmas.Slice.Eq.{bytes_eq-Decides}
 use Rattle.vf_io.specs.Pieces.{line_feed, pieces_of}
 use Rattle.vf_spans.specs.Edges.{flags_of}
 use Rattle.vf_spans.specs.Members.{ranges_of}
 use Rattle.vf_spans.proofs.Flags.{length-flags}
-use Rattle.vf_text.specs.Blanks.{blank_space}
-use Rattle.vf_text.specs.Pages.{line, numbers}
-use Rattle.space.specs.Vectors.{at}
+use Rattle.vf_text.specs.Pages.{line}
 use Rattle.ray_grid.specs.Families.{first_axis, second_axis}
 use Rattle.ray_grid.specs.Grids.{GridSize}
 use Rattle.ray_grid.specs.Lattice.{IsRay, is_ray_on, nodes_of, points_of}
@@ -26,18 +23,17 @@ use Rattle.ray_grid.proofs.Sizes.{few_places}
 use Rattle.cert_lines.specs.Lines.{named_family}
 use Rattle.cert_lines.specs.Spelling.{family_letter}
 use Rattle.cert_lines.specs.Words.{line_in, spaced_words}
-use Rattle.cert_lines.proofs.SpeltLemmas.{is_plain, pieces_of-line}
+use Rattle.cert_lines.proofs.SpeltLemmas.{pieces_of-line}
 use Rattle.cert_lines.proofs.WordLemmas.{line_in-push}
-use Rattle.stock_file.specs.GridTests.{grid_in_line, grid_named}
 use Rattle.stock_file.specs.Numbers.{plain_number}
 use Rattle.stock_file.specs.RayLines.{are_ranges, are_ranges_from, bounds_in, is_ray_due, ray_after_verb, ray_in_line, ray_judged, ray_named, ray_set_in, ray_with, set_for, set_judged}
-use Rattle.stock_file.specs.Spelling.{range_bounds, counts_spelt, grid_line, grid_numbers, ranges_line}
+use Rattle.stock_file.specs.Spelling.{range_bounds, counts_spelt, ranges_line}
 use Rattle.stock_file.specs.declared.fault.StockWhy.{StockWhy}
-use Rattle.stock_file.specs.declared.fault.StockWhy.TheVariants.{StockSyntax, StockOrder}
+use Rattle.stock_file.specs.declared.fault.StockWhy.TheVariants.{StockOrder}
 use Rattle.stock_file.specs.declared.ray_set.RaySet.{RaySet}
 use Rattle.stock_file.proofs.RangeLemmas.{bounds-flags, flags-bounds, ranges_ordered}
 use Rattle.stock_file.proofs.RayOrder.{few_nodes}
-use Rattle.stock_file.proofs.TextLemmas.{all_few, all_plain, bounds-decimal, bounds_are, counts_as_words, decimals_plain, letter_plain, letter_read, line_is, plain-decimal, plain_is, spaced_text, text_no_end, text_of_words, words_make, words_of-text}
+use Rattle.stock_file.proofs.TextLemmas.{all_few, all_plain, bounds-decimal, bounds_are, counts_as_words, decimals_plain, letter_plain, letter_read, line_is, plain-decimal, plain_is, text_no_end, text_of_words, words_make, words_of-text}
 
 -- what passes a test of a ray is a ray of the grid
 pub ray_on : (g : GridSize) (ray : Ray) → is_ray_on g ray ≡ true → IsRay g ray

@@ -1,9 +1,9 @@
 -- The bounds of a set's ranges are those of its line, and they stand for the set.
-use Rattle.std.proofs.Common.{◌≡◌, ℕ, ◌+◌, ◌<◌, ◌≤◌, ◌&&◌, ◌%◌, Bool, true, false, List, [], ◌∷◌, length, map, replicate, get_or, ⊎_elim, Some, None, leb, ltb, nat_le, nat_lt, arith, refl, sym, ap, ap₂, ◌∙◌, subst}
+use Rattle.std.proofs.Common.{◌≡◌, ℕ, ◌+◌, ◌<◌, ◌≤◌, ◌&&◌, Bool, true, false, List, [], ◌∷◌, length, map, replicate, get_or, ⊎_elim, Some, None, nat_le, nat_lt, arith, refl, sym, ap, ◌∙◌}
 use Rattle.std.specs.List.{list_any}
 use Rattle.std.proofs.lemmas.Bool.{and_from, and_parts, cases_lt, le-leb, lt-ltb}
 use Rattle.vf_spans.specs.Edges.{AreEdges, flags_of}
-use Rattle.vf_spans.specs.Members.{has, in_range, ranges_from, ranges_of}
+use Rattle.vf_spans.specs.Members.{in_range, ranges_from, ranges_of}
 use Rattle.std.proofs.lemmas.List.{get_or-map, get_or_past, length-map}
 use Rattle.vf_spans.proofs.Flags.{length-flags, no_edges}
 use Rattle.ray_grid.specs.Grids.{GridSize}
@@ -14,7 +14,7 @@ use Rattle.stock_file.specs.Saved.{no_flags, no_sets}
 use Rattle.vf_spans.proofs.InRanges.{members}
 use Rattle.vf_spans.proofs.Ranges.{pairs, ranges-flags}
 use Rattle.vf_spans.proofs.Same.{same_sets}
-use Rattle.stock_file.specs.RayLines.{are_ranges, are_ranges_from}
+use Rattle.stock_file.specs.RayLines.{are_ranges_from}
 use Rattle.stock_file.specs.Spelling.{range_bounds}
 use Rattle.stock_file.proofs.BoundLemmas.{from_none}
 use Rattle.stock_file.proofs.SetLemmas.{no_flags_of}

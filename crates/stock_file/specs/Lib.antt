@@ -3,8 +3,12 @@ pub mod Rays
 pub mod Saved
 pub mod Numbers
 pub mod GridTests
+pub mod GridNumbers
 pub mod RayLines
 pub mod Spelling
 pub mod Reading
+pub mod Ends
 pub mod Law
 pub mod Taken
+pub mod PointSets
+pub mod SameGrids

@@ -1,5 +1,5 @@
 -- The saved stock that a text stands for, or its first fault.
-use Rattle.std.specs.Prelude.{◌≡◌, ℕ, ◌+◌, List, [], ◌∷◌, Bool, Option, Some, None, Result, Ok, Err, if◌then◌else◌}
+use Rattle.std.specs.Prelude.{ℕ, ◌+◌, List, [], ◌∷◌, Bool, Option, Some, None, Result, Ok, Err, if◌then◌else◌}
 use Rattle.std.specs.Str.{bytes_eq}
 use Rattle.vf_io.specs.Pieces.{pieces_of}
 use Rattle.ray_grid.specs.Grids.{GridSize}
@@ -11,7 +11,7 @@ use Rattle.stock_file.specs.Saved.{Saved, no_sets, with_set}
 use Rattle.stock_file.specs.Spelling.{stock_line}
 use Rattle.stock_file.specs.declared.fault.StockFault.{StockFault}
 use Rattle.stock_file.specs.declared.fault.StockWhy.{StockWhy}
-use Rattle.stock_file.specs.declared.fault.StockWhy.TheVariants.{StockSyntax, StockGrid, StockOrder}
+use Rattle.stock_file.specs.declared.fault.StockWhy.TheVariants.{StockSyntax, StockGrid}
 use Rattle.stock_file.specs.declared.ray_set.RaySet.{RaySet}
 
 -- a fault of a line

@@ -1,5 +1,5 @@
 -- What a saved stock is: a grid, and for each of its rays the set of the ray's points that are stock.
-use Rattle.std.specs.Prelude.{◌≡◌, ℕ, Bool, false, List, length, map, replicate, slice_index_or, slice_set, []}
+use Rattle.std.specs.Prelude.{◌≡◌, Bool, false, List, length, map, replicate, slice_index_or, slice_set, []}
 use Rattle.ray_grid.specs.Grids.{GridSize}
 use Rattle.ray_grid.specs.Lattice.{points_of}
 use Rattle.ray_grid.specs.Points.{rays_of}

@@ -17,3 +17,19 @@ pub struct StockFault {
     pub line: u32,
     pub why: StockWhy,
 }
+
+/// How a read ends that gives no stock.
+#[derive(Clone, Copy)]
+pub enum StockEnd {
+    Refused(StockFault),
+    NoMemory,
+}
+
+impl StockEnd {
+    /// The refusal of a line.
+    pub fn refused(line: u32, why: StockWhy) -> StockEnd
+        ensures { result ≡ StockEnd.Refused (record { line = line; why = why }) }
+    {
+        StockEnd::Refused(StockFault { line, why })
+    }
+}

@@ -3,7 +3,7 @@ use vf_spans::Spans;
 
 /// What a ray line says: the set of its ray.
 #[derive(Drop)]
-pub struct RaySet {
-    pub ray: Ray,
-    pub set: Spans,
+pub(crate) struct RaySet {
+    pub(crate) ray: Ray,
+    pub(crate) set: Spans,
 }

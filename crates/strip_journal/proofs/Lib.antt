@@ -8,6 +8,7 @@ pub mod MovesLeft
 pub mod PointTotals
 pub mod StripSizes
 pub mod StripSums
+pub mod WordsLeft
 pub mod SetsTurned
 pub mod NewMarks
 pub mod EntryAdded

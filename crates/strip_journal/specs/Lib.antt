@@ -5,5 +5,6 @@ pub mod Journals
 pub mod Kept
 pub mod Looking
 pub mod Packed
+pub mod Remaining
 pub mod Steps
 pub mod Strips

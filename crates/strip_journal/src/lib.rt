@@ -11,6 +11,7 @@ mod history;
 mod journal;
 mod packed;
 mod rays;
+mod remaining;
 mod room;
 mod skipping;
 mod starting;

@@ -2,11 +2,12 @@ ghost use Rattle.std.specs.Prelude.{◌≡◌, ℕ, ◌+◌, ◌-◌, ◌<◌, �
 ghost use Rattle.ray_grid.specs.declared.ray.Ray.{Ray};
 ghost use Rattle.ray_grid.specs.Lattice.{IsRay, points_of};
 ghost use Rattle.ray_grid.specs.Strips.{strip_at, strips_of};
-ghost use Rattle.ray_shapes.specs.Sets.{GivesSolid};
+ghost use Rattle.ray_shapes.specs.Sets.{GivesSolid, HoldsPointsOf};
 ghost use Rattle.edit_plan.specs.Edits.{left_at};
 ghost use Rattle.job_counts.specs.Counts.{AreWithin};
 ghost use Rattle.ray_grid.specs.Points.{point_in};
 ghost use Rattle.job_model.specs.Points.{left_moves, state_after, strip_points, totals_over};
+ghost use Rattle.strip_journal.specs.Remaining.{remains_at};
 ghost use Rattle.strip_journal.specs.Strips.{AddsFound, IsFoundAt, most_before};
 
 use crate::changes::Changes;
@@ -201,6 +202,15 @@ impl Strip {
             (left_moves self.now.job.plan version) }
     {
         self.journal.totals_at(version)
+    }
+
+    /// The stock points of ray n of which no move that is left is sure: a set of as many indices as the ray has points.
+    pub fn remaining_on(&self, n: u32) -> Result<Spans, NoMemory>
+        requires { n < length (strip_at self.now.job.plan.grid self.now.number) }
+        ensures { (ray : Ray) → slice_get (strip_at self.now.job.plan.grid self.now.number) n ≡ Some ray
+            → IfOk result (HoldsPointsOf self.now.job.plan.grid ray (remains_at self.now.job self.now.done)) }
+    {
+        self.journal.remaining_on(n)
     }
 
     /// How many moves are left.

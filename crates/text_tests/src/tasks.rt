@@ -125,7 +125,7 @@ fn are_refused(
     line: &str,
 ) -> Result<bool, NoMemory> {
     let mut shelf = shelf_of(alloc, files)?;
-    match read_task(alloc, "A", "S", script, &mut shelf) {
+    match read_task(alloc, "A", "S", None, script, &mut shelf) {
         Ok(_inputs) => Ok(false),
         Err(stopped) => Ok(told(alloc, stopped)?.as_slice() == line.as_bytes()),
     }
@@ -149,7 +149,7 @@ fn is_ready<R: Threads + Sync>(
     queries: usize,
 ) -> Result<bool, NoMemory> {
     let mut shelf = shelf_of(alloc, &TASK)?;
-    let Ok(inputs) = read_task(alloc, "A", "S", script, &mut shelf) else {
+    let Ok(inputs) = read_task(alloc, "A", "S", None, script, &mut shelf) else {
         return Ok(false);
     };
     let ready = make_ready(alloc, inputs)?;

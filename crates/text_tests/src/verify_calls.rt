@@ -3,33 +3,44 @@ use std::alloc::Global;
 use std::test::Fail;
 use vf_io::NoMemory;
 
-/// Words, parted by `|`, and the file, the setup, the script and the number of workers that they say.
+/// Words, parted by `|`, and the file, the setup, the script, the number of workers and the saved stock that they say.
 type Said = (
     &'static str,
     &'static str,
     &'static str,
     Option<&'static str>,
     u32,
+    Option<&'static str>,
 );
 
-const SAID: [Said; 13] = [
-    ("A|S", "A", "S", None, 1),
-    ("A|S|--workers|2", "A", "S", None, 2),
-    ("--workers=2|A|S", "A", "S", None, 2),
-    ("A|--script|F|S", "A", "S", Some("F"), 1),
-    ("A|S|--script=F|--workers=16", "A", "S", Some("F"), 16),
-    ("A|S|--workers|01", "A", "S", None, 1),
-    ("--script=-F|A|S", "A", "S", Some("-F"), 1),
-    ("--script=a=b|A|S", "A", "S", Some("a=b"), 1),
-    ("A|-|--script|-", "A", "-", Some("-"), 1),
-    ("--|--script|-S", "--script", "-S", None, 1),
-    ("A|--|S", "A", "S", None, 1),
-    ("A|S|--", "A", "S", None, 1),
-    ("help|S", "help", "S", None, 1),
+const SAID: [Said; 16] = [
+    ("A|S", "A", "S", None, 1, None),
+    ("A|S|--workers|2", "A", "S", None, 2, None),
+    ("--workers=2|A|S", "A", "S", None, 2, None),
+    ("A|--script|F|S", "A", "S", Some("F"), 1, None),
+    ("A|S|--script=F|--workers=16", "A", "S", Some("F"), 16, None),
+    ("A|S|--workers|01", "A", "S", None, 1, None),
+    ("--script=-F|A|S", "A", "S", Some("-F"), 1, None),
+    ("--script=a=b|A|S", "A", "S", Some("a=b"), 1, None),
+    ("A|-|--script|-", "A", "-", Some("-"), 1, None),
+    ("--|--script|-S", "--script", "-S", None, 1, None),
+    ("A|--|S", "A", "S", None, 1, None),
+    ("A|S|--", "A", "S", None, 1, None),
+    ("help|S", "help", "S", None, 1, None),
+    ("A|S|--stock|T", "A", "S", None, 1, Some("T")),
+    (
+        "--stock=-T|A|--script|F|S",
+        "A",
+        "S",
+        Some("F"),
+        1,
+        Some("-T"),
+    ),
+    ("A|--workers|3|--stock=T|S", "A", "S", None, 3, Some("T")),
 ];
 
 /// Words that are none of a call.
-const NONE: [&str; 31] = [
+const NONE: [&str; 35] = [
     "",
     "A",
     "A|",
@@ -61,6 +72,10 @@ const NONE: [&str; 31] = [
     "A|S|--workers=1000",
     "A|S|--workers=+1",
     "A|S|--workers=1.0",
+    "A|S|--stock",
+    "A|S|--stock=",
+    "A|S|--stock|-T",
+    "A|S|--stock=T|--stock=T",
 ];
 
 /// Words as they are handed over.
@@ -74,7 +89,7 @@ fn owned_words(alloc: Global, line: &str) -> Result<Vec<String>, NoMemory> {
 
 /// Whether the words say this.
 fn are_said(alloc: Global, said: &Said) -> Result<bool, NoMemory> {
-    let (line, file, setup, script, workers) = *said;
+    let (line, file, setup, script, workers, stock) = *said;
     let words = owned_words(alloc, line)?;
     Ok(match verify_words(alloc, words.as_slice())? {
         Some(found) => {
@@ -82,6 +97,7 @@ fn are_said(alloc: Global, said: &Said) -> Result<bool, NoMemory> {
                 && found.setup == setup
                 && found.script == script
                 && found.workers == workers
+                && found.stock == stock
         }
         None => false,
     })

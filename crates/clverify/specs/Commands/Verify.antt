@@ -1,6 +1,6 @@
--- `verify CL SETUP [--script F] [--workers N]`: what each move of a cutter location file does to stock, part and fixtures, and
+-- `verify CL SETUP [--script F] [--workers N] [--stock F]`: what each move of a cutter location file does to stock, part and fixtures, and
 -- whether it is safe.
-use Rattle.std.specs.Prelude.{◌≡◌, ℕ, true, false, Bool, All, List, ◌∷◌, Result, Ok, codes, if◌then◌else◌}
+use Rattle.std.specs.Prelude.{◌≡◌, ℕ, true, false, Bool, All, List, ◌∷◌, ◌++◌, Result, Ok, codes, if◌then◌else◌}
 use Rattle.std.specs.List.{Contains}
 use Rattle.std.specs.Option.{option_map, option_to_list}
 use Rattle.job_counts.specs.Counts.{is_safe}
@@ -25,11 +25,13 @@ verify_name = codes "verify"
 
 -- the files that a call of it names, in the order in which they are read
 abbrev pub names_of : VerifyCall → Words
-names_of call = call.file ∷ call.setup ∷ option_to_list call.script
+names_of call = call.file ∷ call.setup ∷ (option_to_list call.stock ++ option_to_list call.script)
 
 -- the task that the files that a call names stand for, or the first fault
 abbrev pub task_in : VerifyCall → Files → Result Task Fault
-task_in call files = task_of (bytes_of files call.file) (bytes_of files call.setup) (option_map (bytes_of files) call.script)
+task_in call files =
+    task_of (bytes_of files call.file) (bytes_of files call.setup) (option_map (bytes_of files) call.stock)
+    (option_map (bytes_of files) call.script)
 
 -- findings, where some move that is left isn't safe
 abbrev pub status_by : Bool → Status

@@ -42,7 +42,7 @@ pub(crate) fn verify_command<'a>(
     }
 }
 
-/// Verifies a file with a setup, and a script if one is named, by the number of workers that the words give.
+/// Verifies a file with a setup, and a saved stock and a script if they are named, by the number of workers that the words give.
 pub(crate) fn verify_report<R: Threads + Wait + Sync, S: Shelf, G: Gate + Sync>(
     rt: &R,
     alloc: Global,
@@ -52,6 +52,7 @@ pub(crate) fn verify_report<R: Threads + Wait + Sync, S: Shelf, G: Gate + Sync>(
 ) -> Result<Reply, Stopped>
     requires file { S.allows shelf.old said.now.file.now }
     requires setup { S.allows shelf.old said.now.setup.now }
+    requires stock { IfSome said.now.stock (λ name. S.allows shelf.old name.now) }
     requires script { IfSome said.now.script (λ name. S.allows shelf.old name.now) }
     requires workers { AreWorkers said.now.workers }
     ensures report { IfSome (S.files shelf.old) (λ files. IsReport result (verify_due (call_seen said.now) files)) }
@@ -60,7 +61,7 @@ pub(crate) fn verify_report<R: Threads + Wait + Sync, S: Shelf, G: Gate + Sync>(
         IsTrueVerification (call_seen said.now) files answer.status answer.text.items)) }
     ensures read { ReadsOnce S.files S.faults S.failures (is_read_fault result) shelf.old shelf.new }
 {
-    match read_task(alloc, said.file, said.setup, said.script, shelf) {
+    match read_task(alloc, said.file, said.setup, said.stock, said.script, shelf) {
         Ok(inputs) => verify_task(rt, alloc, inputs, said.workers, gate),
         Err(stopped) => Err(stopped),
     }

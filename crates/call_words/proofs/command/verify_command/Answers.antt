@@ -9,6 +9,7 @@ returns c =
     let bare = ap app_of_fields c.no_binary_name-bare.ensures ∙ ap headless c.new.ensures.app in
     let file = c.in_ok-with_place.ensures ∙ ap (λ (a : App). with_rule a (place (codes "CL"))) bare in
     let setup = c.in_ok-placed.ensures ∙ ap (λ (a : App). with_rule a (place (codes "SETUP"))) file in
-    let script = c.in_ok-with_option.ensures ∙ ap (λ (a : App). with_rule a (option (codes "script"))) setup in
-    command_as c.with_option-2.result (with_rule (app_of c.in_ok-with_option.field-0) (option (codes "workers"))) verify_command c.with_option-2.ensures
-    (ap (λ (a : App). with_rule a (option (codes "workers"))) script)
+    let script = c.in_ok-scripted.ensures ∙ ap (λ (a : App). with_rule a (option (codes "script"))) setup in
+    let workers = c.in_ok-with_option.ensures ∙ ap (λ (a : App). with_rule a (option (codes "workers"))) script in
+    command_as c.with_option-3.result (with_rule (app_of c.in_ok-with_option.field-0) (option (codes "stock"))) verify_command c.with_option-3.ensures
+    (ap (λ (a : App). with_rule a (option (codes "stock"))) workers)

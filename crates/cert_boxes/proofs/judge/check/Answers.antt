@@ -12,7 +12,7 @@ use Rattle.cert_boxes.proofs.judge.check.Goals as goal
 
 pub first_standing-standing-requires : goal.first_standing-standing-requires
 first_standing-standing-requires g c =
-    record { cells = subst (λ (cells : List CertCell). list_all (is_cell_on c.args.grid.now) cells ≡ true) (sym c.as_slice-cells.ensures) c.requires.ranges.cells }
+    record { rising = c.outer.ensures.rising; cells = subst (λ (cells : List CertCell). list_all (is_cell_on c.args.grid.now) cells ≡ true) (sym c.as_slice-cells.ensures) c.requires.ranges.cells }
 
 pub returns-in-Some-clause-verdict : goal.returns-in-Some-clause-verdict
 returns-in-Some-clause-verdict g c =

@@ -14,7 +14,7 @@ returns-in_default t c =
 pub excludes_all-requires : goal.excludes_all-requires
 excludes_all-requires t c =
     let a = c.args in
-    record { cell = cut_in_range a.grid.now a.depth (has a.wanted.now) a.cell c.in-Some.cut c.requires.depth c.requires.cell (sym c.cut_down.ensures ∙ c.in-Some.is) }
+    record { rising = c.requires.rising; cell = cut_in_range a.grid.now a.depth (has a.wanted.now) a.cell c.in-Some.cut c.requires.depth c.requires.cell (sym c.cut_down.ensures ∙ c.in-Some.is) }
 
 pub returns-then-excludes_all : goal.returns-then-excludes_all
 returns-then-excludes_all t c =
@@ -40,7 +40,7 @@ add_box-requires t c =
     let a = c.args in let halves = c.in-Some-halves_of.halves in
     let are = halves_of_cut a.grid.now a.depth (has a.wanted.now) a.cell c.in-Some.cut halves.0 halves.1 c.requires.cell (sym c.cut_down.ensures ∙ c.in-Some.is) (sym c.halves_of.ensures ∙ c.in-Some-halves_of.is) in
     let less = are.first_less in
-    (omega (arith, less, c.decreases), (c.requires.depth, are.first))
+    (omega (arith, less, c.decreases), (c.requires.rising, (c.requires.depth, are.first)))
 
 pub returns-then-not-is_whole : goal.returns-then-not-is_whole
 returns-then-not-is_whole t c =
@@ -54,7 +54,7 @@ add_box-requires-2 t c =
     let a = c.args in let halves = c.in-Some-halves_of.halves in
     let are = halves_of_cut a.grid.now a.depth (has a.wanted.now) a.cell c.in-Some.cut halves.0 halves.1 c.requires.cell (sym c.cut_down.ensures ∙ c.in-Some.is) (sym c.halves_of.ensures ∙ c.in-Some-halves_of.is) in
     let less = are.last_less in
-    (omega (arith, less, c.decreases), (c.requires.depth, are.last))
+    (omega (arith, less, c.decreases), (c.requires.rising, (c.requires.depth, are.last)))
 
 pub returns : goal.returns
 returns t c =

@@ -6,6 +6,7 @@ use Rattle.clverify.specs.Commands.Certify.{certify_name}
 use Rattle.clverify.specs.Commands.Check.{check_name}
 use Rattle.clverify.specs.Commands.List.{list_name}
 use Rattle.clverify.specs.Commands.Point.{point_name}
+use Rattle.clverify.specs.Commands.Save.{save_name}
 use Rattle.clverify.specs.Commands.Selftest.{selftest_name}
 use Rattle.clverify.specs.Commands.Verify.{verify_name}
 use Rattle.clverify.proofs.Words.{headed, of_any_error}
@@ -35,6 +36,11 @@ pub returns-in-check-clause-command : goal.returns-in-check-clause-command
 returns-in-check-clause-command c =
     let words = headed string_bytes c.args.words.now c.word-item.result check_name c.in-len1-up.len_at_least c.word-item.is (sym c.in-check.is ∙ c.as_str.ensures.value) in
     c.check_words.ensures ∙ sym (ap command_of words)
+
+pub returns-in-save-clause-command : goal.returns-in-save-clause-command
+returns-in-save-clause-command c =
+    let words = headed string_bytes c.args.words.now c.word-item.result save_name c.in-len1-up.len_at_least c.word-item.is (sym c.in-save.is ∙ c.as_str.ensures.value) in
+    c.save_words.ensures ∙ sym (ap command_of words)
 
 pub returns-in-verify-clause-command : goal.returns-in-verify-clause-command
 returns-in-verify-clause-command c =

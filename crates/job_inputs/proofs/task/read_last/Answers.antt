@@ -1,26 +1,16 @@
-use Rattle.std.proofs.Common.{ℕ, None, Some, option_map, subst}
+use Rattle.std.proofs.Common.{ℕ, option_map, subst}
 use Rattle.edit_plan.specs.Sound.{IsScript}
-use Rattle.job_inputs.proofs.Behind.{found_in, low_ahead, task_read, task_stopped}
+use Rattle.job_inputs.proofs.Behind.{task_read, task_stopped}
 use Rattle.job_inputs.proofs.task.read_last.Goals as goal
-
-pub returns-in-Some-clause-gives : goal.returns-in-Some-clause-gives
-returns-in-Some-clause-gives g c =
-    low_ahead (g.S.Shelf.files c.args.shelf.now) (option_map (λ name. name.now) c.args.script) c.args.program c.args.setup c.in-Some.line
-    (found_in c.args.setup.tool c.args.program.moves c.as_slice.result.now c.defaults_of.result c.low_cutter.result (Some c.in-Some.line)
-    c.defaults_of.ensures c.as_slice.ensures c.low_cutter.ensures c.in-Some.is)
 
 pub returns-in-Ok-clause-gives : goal.returns-in-Ok-clause-gives
 returns-in-Ok-clause-gives g c =
-    task_read (option_map (λ name. name.now) c.args.script) c.args.program c.args.setup c.len-moves.result c.len-moves.ensures
-    (found_in c.args.setup.tool c.args.program.moves c.as_slice.result.now c.defaults_of.result c.low_cutter.result None
-    c.defaults_of.ensures c.as_slice.ensures c.low_cutter.ensures c.in_default.is)
+    task_read (option_map (λ name. name.now) c.args.script) c.args.program c.args.setup c.args.stock c.len-moves.result c.len-moves.ensures
     (g.S.Shelf.files c.args.shelf.now) c.in-Ok.script c.in-Ok.ensures.gives
 
 pub returns-in-Err-clause-gives : goal.returns-in-Err-clause-gives
 returns-in-Err-clause-gives g c =
-    task_stopped (option_map (λ name. name.now) c.args.script) c.args.program c.args.setup c.len-moves.result c.len-moves.ensures
-    (found_in c.args.setup.tool c.args.program.moves c.as_slice.result.now c.defaults_of.result c.low_cutter.result None
-    c.defaults_of.ensures c.as_slice.ensures c.low_cutter.ensures c.in_default.is)
+    task_stopped (option_map (λ name. name.now) c.args.script) c.args.program c.args.setup c.args.stock c.len-moves.result c.len-moves.ensures
     (g.S.Shelf.files c.args.shelf.now) c.in-Err.stopped c.in-Err.ensures.gives
 
 pub invariant_of-result : goal.invariant_of-result
@@ -28,7 +18,7 @@ invariant_of-result g c = record {
   moves = c.requires.valid;
   few = c.requires.few;
   setup_in = c.requires.setup;
-  high = found_in c.args.setup.tool c.args.program.moves c.as_slice.result.now c.defaults_of.result c.low_cutter.result None
-      c.defaults_of.ensures c.as_slice.ensures c.low_cutter.ensures c.in_default.is;
+  high = c.requires.high;
+  stock_in = c.requires.placed;
   script_in = subst (λ (n : ℕ). IsScript n c.args.setup.grid c.in-Ok.script) c.len-moves.ensures c.in-Ok.ensures.sound;
 }

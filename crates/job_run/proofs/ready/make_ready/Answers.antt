@@ -1,7 +1,9 @@
 -- The edits name moves of the plan, and the queries are for its grid and its edits.
-use Rattle.std.proofs.Common.{ap}
+use Rattle.std.proofs.Common.{ap, subst, sym}
+use Rattle.ray_grid.specs.Grids.{GridSize}
 use Rattle.job_model.specs.Tasks.{PlanOf}
 use Rattle.job_inputs.specs.Tasks.{job_move}
+use Rattle.job_run.specs.Jobs.{AreOver}
 use Rattle.job_run.proofs.Readied.{asked_of_plan, named_in_plan}
 use Rattle.job_run.proofs.ready.make_ready.Goals as goal
 
@@ -17,4 +19,5 @@ returns-clause-asked c =
     (ap (λ (plan : PlanOf). plan.grid) made) (ap (λ (plan : PlanOf). plan.edits) made) c.inputs.invariant.script_in.queries
 
 pub returns-clause-over : goal.returns-clause-over
-returns-clause-over c = c.in_ok-bodies.ensures.over c.in_ok-plan.plan.grid
+returns-clause-over c =
+    subst (λ (grid : GridSize). AreOver grid c.in_ok-bodies.bodies) (sym (ap (λ (plan : PlanOf). plan.grid) c.in_ok-plan.ensures)) c.in_ok-bodies.ensures.over

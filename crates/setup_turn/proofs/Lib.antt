@@ -1,0 +1,13 @@
+pub mod Tests
+pub mod Steps
+pub mod Along
+pub mod Firsts
+pub mod Listing
+pub mod RangeOrder
+pub mod Counting
+pub mod Moving
+pub mod Places
+pub mod Finding
+pub mod NextRay
+pub mod Whole
+pub mod OneRay

@@ -1,0 +1,4 @@
+pub mod Turned
+pub mod Places
+pub mod Moved
+pub mod Walk
