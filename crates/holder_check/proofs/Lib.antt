@@ -1,0 +1,4 @@
+pub mod Slabs
+pub mod Flagged
+pub mod Rays
+pub mod Touched

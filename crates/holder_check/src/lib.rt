@@ -1,0 +1,12 @@
+//! Which points of a ray the holder above a cutter is sure to meet or may meet, and how many of stock, part and fixtures they are.
+#![tactic(auto)]
+
+mod counts;
+mod flags;
+mod marks;
+mod point;
+#[cfg(test)]
+mod tests;
+
+pub use counts::{HolderCounts, holder_counts};
+pub use marks::{HolderMarks, holder_marks};
