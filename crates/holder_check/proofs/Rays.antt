@@ -8,7 +8,7 @@ use Rattle.bern_form.specs.Slab.{IsSlab, SlabSize}
 use Rattle.vf_spans.specs.Members.{has}
 use Rattle.ray_grid.specs.Selects.{Selects}
 use Rattle.holder_check.specs.Holder.{HolderMeets, holder_reach, is_holder_possible, is_holder_sure}
-use Rattle.holder_check.proofs.Slabs.{far_is_out, out_is_not_met, out_is_not_sure, sure_is_met, sure_is_possible}
+use Rattle.holder_check.proofs.Slabs.{far_is_out, out_is_not_met, sure_is_met, sure_is_possible}
 
 -- the indices from a on and below b are those of the first n points of a line that are in reach of a segment
 abbrev pub IsWindowBy : ℤ → List ℤ → List ℤ → (ℕ → List ℤ) → ℕ → ℕ → ℕ → Type 0

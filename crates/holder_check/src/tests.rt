@@ -32,21 +32,25 @@ const BODY: Slab = Slab {
     hi: 9_000,
     dia: 8_000,
 };
+
 const DISC: Slab = Slab {
     lo: 5_000,
     hi: 5_000,
     dia: 8_000,
 };
+
 const SMALL_DISC: Slab = Slab {
     lo: 6_000,
     hi: 6_000,
     dia: 4_000,
 };
+
 const ROD: Slab = Slab {
     lo: 5_000,
     hi: 9_000,
     dia: 0,
 };
+
 const TIP: Slab = Slab {
     lo: 0,
     hi: 0,

@@ -1,4 +1,4 @@
-use Rattle.std.proofs.Common.{◌≡◌, ℕ, ◌^◌, ◌<◌, ◌≤◌, ℤ, FitsSigned, rules, arith, ap, subst, ◌∙◌}
+use Rattle.std.proofs.Common.{◌^◌, ◌≤◌, ℤ, FitsSigned, rules, arith, ap, subst, ◌∙◌}
 use Rattle.std.proofs.lemmas.Int.{to_z-of_z}
 use mir.Syntax.{w32}
 use Rattle.space.specs.Sweeps.{IsSweep, SweepOf}
