@@ -1,5 +1,5 @@
 -- The sets of 64 points: taking a delta back, and what a move adds and finds that is tested for no more than what is wanted.
-use Rattle.std.proofs.Common.{◌≡◌, ℕ, ◌^◌, ◌<◌, Bool, false, not, ◌&&◌, ◌||◌, IsTrue, sym, ap, ap₂, ◌∙◌, ◌⊎◌, ⊎_elim, if◌then◌else◌}
+use Rattle.std.proofs.Common.{◌≡◌, ℕ, ◌^◌, ◌<◌, Bool, true, false, not, ◌&&◌, ◌||◌, IsTrue, refl, sym, ap, ap₂, ◌∙◌, ◌⊎◌, ⊎_elim, if◌then◌else◌}
 use Rattle.std.specs.List.{range_with_len}
 use Rattle.vf_spans.specs.Words.{has_bit}
 use Rattle.vf_spans.proofs.WordBits.{same_word}
@@ -8,8 +8,8 @@ use Rattle.dexel_rays.specs.declared.word_sets.WordSets.{WordSets}
 use Rattle.dexel_rays.specs.Findings.{Seen, met, findings, is_removed, is_new_possible, is_part_sure, is_part_possible, is_fixture_sure, is_fixture_possible, is_rapid_sure, is_rapid_possible, is_outside}
 use Rattle.dexel_rays.specs.Asked.{is_sure_only, is_wanted, Agree}
 use Rattle.dexel_rays.specs.WordSets.{seen_by, seen_bit, IsWordDelta, IsWordWith, IsWordWithout, SureIsPossible}
-use Rattle.dexel_rays.proofs.Asked.{agree_met, agree_new_sure, agree_new_possible, asked_agree, new_is_all, stays_possible}
-use Rattle.dexel_rays.proofs.Laws.{back_again, outside_meets_none}
+use Rattle.dexel_rays.proofs.Asked.{agree_met, asked_agree}
+use Rattle.dexel_rays.proofs.Laws.{outside_meets_none}
 use Rattle.dexel_rays.proofs.WordOnes.{below_same}
 
 same_word_sets : (s s' p p' f f' u u' q q' : ℕ) → s ≡ s' → p ≡ p' → f ≡ f' → u ≡ u' → q ≡ q'
@@ -17,15 +17,26 @@ same_word_sets : (s s' p p' f f' u u' q q' : ℕ) → s ≡ s' → p ≡ p' → 
     let b : WordSets = record { stock = s'; part = p'; fixture = f'; sure = u'; possible = q' } in a ≡ b
 same_word_sets s s' p p' f f' u u' q q' es ep ef eu eq = cc
 
+-- what was added and not there before is taken away: what was before is left
+back_to : (a m b : Bool) → (b || (a && (m && not b))) && not (a && (m && not b)) ≡ b
+back_to false true true = refl
+back_to false true false = refl
+back_to false false true = refl
+back_to false false false = refl
+back_to true true true = refl
+back_to true true false = refl
+back_to true false true = refl
+back_to true false false = refl
+
 -- a word that was added to and is left without what was new is the word from before
-word_again : (before marks all new after : ℕ) → before < 2 ^ 64 → after < 2 ^ 64 → ((b : ℕ) → b < 64 → has_bit all b ≡ (has_bit before b || has_bit new b))
-    → ((b : ℕ) → b < 64 → has_bit new b ≡ (has_bit marks b && not (has_bit before b))) → ((b : ℕ) → b < 64 → has_bit after b ≡ (has_bit all b && not (has_bit new b)))
-    → after ≡ before
-word_again before marks all new after fits fits' u n w =
+word_again : (stock before marks all new after : ℕ) → before < 2 ^ 64 → after < 2 ^ 64 → ((b : ℕ) → b < 64 → has_bit all b ≡ (has_bit before b || has_bit new b))
+    → ((b : ℕ) → b < 64 → has_bit new b ≡ (has_bit stock b && (has_bit marks b && not (has_bit before b))))
+    → ((b : ℕ) → b < 64 → has_bit after b ≡ (has_bit all b && not (has_bit new b))) → after ≡ before
+word_again stock before marks all new after fits fits' u n w =
     same_word 64 after before fits' fits
     (λ b lt. w b lt
-    ∙ ap₂ (λ x y. x && not y) (u b lt ∙ ap (λ x. has_bit before b || x) (n b lt) ∙ new_is_all (has_bit before b) (has_bit marks b)) (n b lt)
-    ∙ back_again (has_bit marks b) (has_bit before b))
+    ∙ ap₂ (λ x y. x && not y) (u b lt ∙ ap (λ x. has_bit before b || x) (n b lt)) (n b lt)
+    ∙ back_to (has_bit stock b) (has_bit marks b) (has_bit before b))
 
 -- after `with`, taking a move's delta back gives the same five words
 pub word_taken_back : (before all after : WordSets) (sure possible : ℕ) (delta : WordDelta) → before.sure < 2 ^ 64 → before.possible < 2 ^ 64
@@ -34,8 +45,8 @@ pub word_taken_back : (before all after : WordSets) (sure possible : ℕ) (delta
 word_taken_back before all after sure possible delta fs fp gs gp w d u =
     same_word_sets after.stock before.stock after.part before.part after.fixture before.fixture after.sure before.sure after.possible before.possible
     (w.stock ∙ u.stock) (w.part ∙ u.part) (w.fixture ∙ u.fixture)
-    (word_again before.sure sure all.sure delta.sure after.sure fs gs u.all_sure d.new_sure w.left_sure)
-    (word_again before.possible possible all.possible delta.possible after.possible fp gp u.all_possible d.new_possible w.left_possible)
+    (word_again before.stock before.sure sure all.sure delta.sure after.sure fs gs u.all_sure d.new_sure w.left_sure)
+    (word_again before.stock before.possible possible all.possible delta.possible after.possible fp gp u.all_possible d.new_possible w.left_possible)
 
 -- points that meet the same rules give the same counts
 pub same_findings : (n : ℕ) (see see' : ℕ → Seen) → ((k : ℕ) → k < n → met (see k) ≡ met (see' k)) → findings see (range_with_len 0 n) ≡ findings see' (range_with_len 0 n)
@@ -66,25 +77,6 @@ agree_found w s p s' p' rapid i e =
     agree_met (has_bit w.stock b) (has_bit w.part b) (has_bit w.fixture b) (has_bit w.sure b) (has_bit w.possible b) (s b) (p b) (s' b) (p' b) rapid (i b lt) a)
     (outside_same w s p s' p' rapid b) (e b lt))
 
--- and adds the same, so that the sets are united with all of its marks
-pub agree_sure : (w after : WordSets) (delta : WordDelta) (sure possible : ℕ) (s p : ℕ → Bool) (rapid : Bool) (b : ℕ) → b < 64
-    → IsWordDelta w sure possible delta → IsWordWith w delta after → Agree (seen_by w s p rapid b) (has_bit sure b) (has_bit possible b)
-    → has_bit after.sure b ≡ (has_bit w.sure b || s b)
-agree_sure w after delta sure possible s p rapid b lt d u e =
-    u.all_sure b lt
-    ∙ ap (λ x. has_bit w.sure b || x) (d.new_sure b lt
-    ∙ agree_new_sure (has_bit w.stock b) (has_bit w.part b) (has_bit w.fixture b) (has_bit w.sure b) (has_bit w.possible b) (s b) (p b) (has_bit sure b) (has_bit possible b) rapid e)
-    ∙ new_is_all (has_bit w.sure b) (s b)
-
-pub agree_possible : (w after : WordSets) (delta : WordDelta) (sure possible : ℕ) (s p : ℕ → Bool) (rapid : Bool) (b : ℕ) → b < 64 → SureIsPossible w
-    → IsWordDelta w sure possible delta → IsWordWith w delta after → Agree (seen_by w s p rapid b) (has_bit sure b) (has_bit possible b)
-    → has_bit after.possible b ≡ (has_bit w.possible b || p b)
-agree_possible w after delta sure possible s p rapid b lt i d u e =
-    u.all_possible b lt
-    ∙ ap (λ x. has_bit w.possible b || x) (d.new_possible b lt
-    ∙ agree_new_possible (has_bit w.stock b) (has_bit w.part b) (has_bit w.fixture b) (has_bit w.sure b) (has_bit w.possible b) (s b) (p b) (has_bit sure b) (has_bit possible b) rapid (i b lt) e)
-    ∙ new_is_all (has_bit w.possible b) (p b)
-
 -- the marks of wanted points, of some of them only for 'sure', agree with all marks
 pub asked_word : (w : WordSets) (wanted only sure possible : ℕ) (s p : ℕ → Bool) (rapid : Bool) (b : ℕ)
     → has_bit wanted b ≡ is_wanted (seen_bit w 0 0 false b) → has_bit only b ≡ is_sure_only (seen_bit w 0 0 rapid b)
@@ -92,12 +84,3 @@ pub asked_word : (w : WordSets) (wanted only sure possible : ℕ) (s p : ℕ →
     → Agree (seen_by w s p rapid b) (has_bit sure b) (has_bit possible b)
 asked_word w wanted only sure possible s p rapid b iw io is ip =
     asked_agree (seen_by w s p rapid b) (has_bit wanted b) (has_bit only b) (has_bit sure b) (has_bit possible b) iw io is ip
-
--- the sets hold no point as sure that isn't possible, where they didn't before a move and its marks don't
-pub still_possible : (w after : WordSets) (delta : WordDelta) (sure possible : ℕ) → SureIsPossible w → ((b : ℕ) → b < 64 → IsTrue (has_bit sure b) → IsTrue (has_bit possible b))
-    → IsWordDelta w sure possible delta → IsWordWith w delta after → SureIsPossible after
-still_possible w after delta sure possible i e d u =
-    λ b lt t. u.all_possible b lt
-    ∙ ap (λ x. has_bit w.possible b || x) (d.new_possible b lt)
-    ∙ stays_possible (has_bit w.sure b) (has_bit w.possible b) (has_bit sure b) (has_bit possible b) (i b lt) (e b lt)
-    (sym (u.all_sure b lt ∙ ap (λ x. has_bit w.sure b || x) (d.new_sure b lt)) ∙ t)

@@ -38,12 +38,13 @@ or_apart : (x y z : Bool) → ((x || y) || z) ≡ (x || (y || z))
 or_apart true y z = refl
 or_apart false y z = refl
 
-pub wanted_bit : (part fixture sure k : ℕ) → sure < 2 ^ 64 → k < 64
-    → has_bit (bit_or (bit_or part fixture) (2 ^ 64 - 1 - sure)) k ≡ (has_bit part k || (has_bit fixture k || not (has_bit sure k)))
-wanted_bit part fixture sure k fits lt =
-    has_bit-or (bit_or part fixture) (2 ^ 64 - 1 - sure) k
-    ∙ ap₂ (λ x y. x || y) (has_bit-or part fixture k) (has_bit-not sure k fits lt)
-    ∙ or_apart (has_bit part k) (has_bit fixture k) (not (has_bit sure k))
+pub wanted_bit : (stock part fixture sure k : ℕ) → sure < 2 ^ 64 → k < 64
+    → has_bit (bit_or (bit_or part fixture) (bit_and stock (2 ^ 64 - 1 - sure))) k
+    ≡ (has_bit part k || (has_bit fixture k || (has_bit stock k && not (has_bit sure k))))
+wanted_bit stock part fixture sure k fits lt =
+    has_bit-or (bit_or part fixture) (bit_and stock (2 ^ 64 - 1 - sure)) k
+    ∙ ap₂ (λ x y. x || y) (has_bit-or part fixture k) (minus_bit stock sure k fits lt)
+    ∙ or_apart (has_bit part k) (has_bit fixture k) (has_bit stock k && not (has_bit sure k))
 
 -- possible already, and neither part nor fixture, of a move that isn't rapid; of a rapid one none
 pub only_bit : (part fixture possible k : ℕ) (rapid : Bool) → bit_or part fixture < 2 ^ 64 → k < 64 → rapid ≡ false

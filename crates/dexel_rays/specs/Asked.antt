@@ -2,9 +2,9 @@
 use Rattle.std.specs.Prelude.{◌≡◌, Bool, false, IsTrue, not, ◌&&◌, ◌||◌}
 use Rattle.dexel_rays.specs.Findings.{Seen}
 
--- the point is part or fixture, or no earlier move was sure of it
+-- the point is part or fixture, or stock of which no earlier move was sure
 abbrev pub is_wanted : Seen → Bool
-is_wanted p = p.part || (p.fixture || not p.sure_before)
+is_wanted p = p.part || (p.fixture || (p.stock && not p.sure_before))
 
 -- only whether the move is sure of the point still matters: it is neither part nor fixture, some earlier move was possible there,
 -- and this one isn't rapid

@@ -28,10 +28,11 @@ seen_bit w sure possible rapid b = seen_by w (has_bit sure) (has_bit possible) r
 abbrev pub SureIsPossible : WordSets → Type 0
 SureIsPossible w = (b : ℕ) → b < 64 → IsTrue (has_bit w.sure b) → IsTrue (has_bit w.possible b)
 
--- the delta has what a move marks and was not in the sets
+-- the delta has the stock points that a move marks and that were not in the sets
 pub record IsWordDelta (before : WordSets) (sure possible : ℕ) (delta : WordDelta) : Type 0 where
-  pub new_sure : (b : ℕ) → b < 64 → has_bit delta.sure b ≡ (has_bit sure b && not (has_bit before.sure b))
-  pub new_possible : (b : ℕ) → b < 64 → has_bit delta.possible b ≡ (has_bit possible b && not (has_bit before.possible b))
+  pub new_sure : (b : ℕ) → b < 64 → has_bit delta.sure b ≡ (has_bit before.stock b && (has_bit sure b && not (has_bit before.sure b)))
+  pub new_possible : (b : ℕ) → b < 64
+      → has_bit delta.possible b ≡ (has_bit before.stock b && (has_bit possible b && not (has_bit before.possible b)))
 
 -- the sets with a delta's points; the bodies stay
 pub record IsWordWith (before : WordSets) (delta : WordDelta) (after : WordSets) : Type 0 where

@@ -15,13 +15,13 @@ pub struct WordSets {
     pub stock: u64,
     pub part: u64,
     pub fixture: u64,
-    /// The points of which some move was sure.
+    /// The stock points of which some move was sure.
     pub sure: u64,
-    /// The points at which some move was possible.
+    /// The stock points at which some move was possible.
     pub possible: u64,
 }
 
-/// What a move adds to the sets of 64 points: those of which it is the first to be sure, and those
+/// What a move adds to the sets of 64 points: the stock points of which it is the first to be sure, and those
 /// at which it is the first to be possible.
 #[derive(Clone, Copy)]
 pub struct WordDelta {
@@ -30,13 +30,13 @@ pub struct WordDelta {
 }
 
 impl WordSets {
-    /// The points that are candidates for a move: those not yet sure, part, and fixture.
+    /// The points that are candidates for a move: stock that isn't yet sure, part, and fixture.
     #[inline]
     pub fn wanted(&self) -> u64
         // What the move marks, and whether it is rapid, doesn't matter.
         ensures { (b : ℕ) → b < 64 → has_bit result b ≡ is_wanted (seen_bit self.now 0 0 false b) }
     {
-        self.part | self.fixture | !self.sure
+        self.part | self.fixture | (self.stock & !self.sure)
     }
 
     /// The points at which only whether a move is sure has to be tested: those that are possible
@@ -114,8 +114,8 @@ impl WordSets {
         ensures { IsWordDelta self.now sure possible result }
     {
         WordDelta {
-            sure: sure & !self.sure,
-            possible: possible & !self.possible,
+            sure: self.stock & sure & !self.sure,
+            possible: self.stock & possible & !self.possible,
         }
     }
 

@@ -1,6 +1,6 @@
-ghost use Rattle.std.specs.Prelude.{◌≡◌, ℕ, ◌+◌, ◌*◌, ◌/◌, ◌<◌, ◌≤◌, ◌↔◌, IsTrue, length};
+ghost use Rattle.std.specs.Prelude.{◌≡◌, ℕ, ◌+◌, ◌*◌, ◌/◌, ◌<◌, ◌≤◌, ◌↔◌, true, IsTrue};
 ghost use Rattle.vf_spans.specs.Members.{has, in_range};
-ghost use Rattle.vf_spans.specs.Words.{has_bit, words_below};
+ghost use Rattle.vf_spans.specs.Words.{has_bit};
 
 use vf_spans::Spans;
 use vf_spans::bits::bits_of_range;
@@ -25,7 +25,6 @@ fn bits_within(n: u32, range: (u32, u32)) -> u64
 
 /// Word n of a set: bit b is the index 64 n + b.
 pub fn word_of(set: &Spans, n: u32) -> u64
-    requires { n < words_below (length set.now) }
     ensures { (b : ℕ) → b < 64 → has_bit result b ≡ has set.now (64 * n + b) }
 {
     let mut word = 0;
@@ -33,4 +32,17 @@ pub fn word_of(set: &Spans, n: u32) -> u64
         word |= bits_within(n, set.range(r));
     }
     word
+}
+
+/// A range with each index of a set; of an empty set one that ends before it begins.
+pub fn extent(set: &Spans) -> (u32, u32)
+    ensures { (i : ℕ) → has set.now i ≡ true → (result.0 ≤ i) × (i < result.1) }
+{
+    let (mut lo, mut hi) = (set.bound(), 0_u32);
+    for r in 0..set.ranges() {
+        let (from, to) = set.range(r);
+        lo = lo.min(from);
+        hi = hi.max(to);
+    }
+    (lo, hi)
 }

@@ -53,18 +53,19 @@ impl Model for Settled {
 }
 
 impl Settled {
-    /// No index.
-    pub fn none() -> Settled
-        ensures { result ≡ (0, 0) }
+    /// The range from the one index on and below the other.
+    pub fn of(range: (u32, u32)) -> Settled
+        requires { range.0 ≤ range.1 }
+        ensures { result ≡ range }
     {
-        Settled { from: 0, to: 0 }
+        let (from, to) = range;
+        Settled { from, to }
     }
 
     /// The range once points of word n have become sure, by those of the word that aren't wanted then. Of these the run about the lowest
     /// one that has become sure is put to the range.
     #[inline]
     pub fn grown(self, n: u32, sure: u64, unwanted: u64) -> Settled
-        requires { (b : ℕ) → b < 64 → has_bit unwanted b ≡ true → 64 * n + b + 1 < 2 ^ 32 }
         ensures { (l : ℕ) → in_range l result ≡ true → (in_range l self ≡ true) ⊎ (in_word n unwanted l ≡ true) }
     {
         let settled = sure & unwanted;
@@ -72,8 +73,9 @@ impl Settled {
             return self;
         }
         let b = lowest_bit(settled);
-        let from = 64 * n + start_of_run(unwanted, b);
-        let to = 64 * n + end_of_run(unwanted, b);
+        let first = n.saturating_mul(64);
+        let from = first.saturating_add(start_of_run(unwanted, b));
+        let to = first.saturating_add(end_of_run(unwanted, b));
         self.with((from, to))
     }
 

@@ -36,9 +36,14 @@ fn grown(ray: &WordRay, settled: Settled, n: u32, sure: u64) -> Settled
     requires { HasNoneWanted ray.now.sets settled }
     ensures { HasNoneWanted ray.now.sets result }
 {
-    // The bound fits.
-    let _bound = ray.bound();
     settled.grown(n, sure, !ray.wanted(n))
+}
+
+/// The settled range of a ray of which no more is known: of the two ends at which it has no body the longer one.
+fn bare_end(ray: &WordRay) -> Settled
+    ensures { HasNoneWanted ray.now.sets result }
+{
+    Settled::of(ray.bare_end())
 }
 
 impl StripRays {
@@ -57,8 +62,9 @@ impl StripRays {
         ensures unchanged { OnErr result (self.new ≡ self.old) }
     {
         self.settled.reserve(1)?;
+        let settled = bare_end(&ray);
         self.rays.push(ray)?;
-        let _noted = self.settled.push(Settled::none());
+        let _noted = self.settled.push(settled);
         Ok(())
     }
 
@@ -122,7 +128,7 @@ impl StripRays {
     {
         let at = n as usize;
         self.rays[at].remove_delta(word, delta);
-        self.settled[at] = Settled::none();
+        self.settled[at] = bare_end(&self.rays[at]);
     }
 
     /// Forgets what moves were sure of or possible at on ray n: no word of it is kept. It takes no memory.
@@ -133,6 +139,6 @@ impl StripRays {
         ensures none { (kept_at self.new n).count ≡ 0 }
     {
         self.rays[n as usize].clear();
-        self.settled[n as usize] = Settled::none();
+        self.settled[n as usize] = bare_end(&self.rays[n as usize]);
     }
 }

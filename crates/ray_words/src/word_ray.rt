@@ -1,11 +1,11 @@
-ghost use Rattle.std.specs.Prelude.{◌≡◌, ℕ, ◌+◌, ◌*◌, ◌<◌, ◌≤◌, ◌-◌, false, IfOk, MatchOption, OnOk, OnErr, length};
+ghost use Rattle.std.specs.Prelude.{◌≡◌, ℕ, ◌+◌, ◌*◌, ◌<◌, ◌≤◌, ◌-◌, true, false, IfOk, MatchOption, OnOk, OnErr, length};
 ghost use Rattle.vf_spans.specs.Members.{count_of, has};
 ghost use Rattle.vf_spans.specs.Words.{has_bit, words_below};
 ghost use Rattle.dexel_rays.specs.Sets.{HaveBound};
 ghost use Rattle.ray_words.specs.Kept.{AreWordsFrom, IsStretch, IsUnmarked};
-ghost use Rattle.ray_words.specs.Rays.{IsBelow, IsCleared, IsGiven, IsKept, IsTaken, IsWordAt, is_wanted_at};
+ghost use Rattle.ray_words.specs.Rays.{IsBelow, IsCleared, IsGiven, IsKept, HasNoneWanted, IsTaken, IsWordAt, is_wanted_at};
 
-use crate::range_word::word_of;
+use crate::range_word::{extent, word_of};
 use dexel_rays::{WordDelta, WordSets};
 use std::alloc::Global;
 use std::marker::Model;
@@ -13,8 +13,8 @@ use vf_io::NoMemory;
 use vf_spans::Spans;
 use vf_spans::bits::has_bit;
 
-/// The sets of one ray: the indices that are stock, part and fixture, as ranges, and those of which some move was sure and at
-/// which some move was possible. A stretch of the ray is kept as words of 64 points; beyond it no move was sure or possible.
+/// The sets of one ray: the indices that are stock, part and fixture, as ranges, and those of the stock of which some move was sure
+/// and at which some move was possible. A stretch of the ray is kept as words of 64 points; beyond it no move was sure or possible.
 #[derive(Drop)]
 pub struct WordRay {
     stock: Spans,
@@ -102,7 +102,6 @@ impl WordRay {
     /// The five words of the points from the index 64 n on.
     #[inline]
     pub fn word(&self, n: u32) -> WordSets
-        requires { n < words_below (length self.now.sets.stock) }
         ensures { IsWordAt self.now.sets n result }
     {
         match self.kept(n) {
@@ -116,10 +115,20 @@ impl WordRay {
     pub fn wanted(&self, n: u32) -> u64
         ensures { (b : ℕ) → b < 64 → has_bit result b ≡ is_wanted_at self.now.sets (64 * n + b) }
     {
-        match self.kept(n) {
-            Some(word) => word.wanted(),
-            // No move was sure here.
-            None => u64::MAX,
+        self.word(n).wanted()
+    }
+
+    /// The longer of the two ends of the ray at which no body has a point, as a range of indices; all of it where none has any.
+    pub fn bare_end(&self) -> (u32, u32)
+        ensures order { result.0 ≤ result.1 }
+        ensures none { HasNoneWanted self.now.sets result }
+    {
+        let bound = self.stock.bound();
+        let (from, to) = self.span();
+        if bound.saturating_sub(to) < from {
+            (0, from)
+        } else {
+            (to, bound.max(to))
         }
     }
 
@@ -175,6 +184,21 @@ impl WordRay {
         self.words.clear();
     }
 
+    /// A range with each index that is stock, part or fixture.
+    fn span(&self) -> (u32, u32)
+        ensures stock { (i : ℕ) → has self.now.sets.stock i ≡ true → (result.0 ≤ i) × (i < result.1) }
+        ensures part { (i : ℕ) → has self.now.sets.part i ≡ true → (result.0 ≤ i) × (i < result.1) }
+        ensures fixture { (i : ℕ) → has self.now.sets.fixture i ≡ true → (result.0 ≤ i) × (i < result.1) }
+    {
+        let stock = extent(&self.stock);
+        let part = extent(&self.part);
+        let fixture = extent(&self.fixture);
+        (
+            stock.0.min(part.0).min(fixture.0),
+            stock.1.max(part.1).max(fixture.1),
+        )
+    }
+
     /// Word n, if it is kept; else no move was sure or possible there.
     #[inline]
     fn kept(&self, n: u32) -> Option<WordSets>
@@ -195,8 +219,7 @@ impl WordRay {
     // Kept apart from `word`, which is then small enough to be inlined into its callers.
     #[inline(never)]
     fn unmarked(&self, n: u32) -> WordSets
-        requires within { n < words_below (length self.now.sets.stock) }
-        requires unmarked { IsUnmarked self.now.sets n }
+        requires { IsUnmarked self.now.sets n }
         ensures { IsWordAt self.now.sets n result }
     {
         WordSets {

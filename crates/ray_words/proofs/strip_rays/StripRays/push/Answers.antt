@@ -2,7 +2,6 @@ use Rattle.std.proofs.Common.{ℕ, ◌≡◌, List, [], ◌∷◌, ◌++◌, Boo
 use Rattle.std.specs.Prelude.{if◌then◌else◌}
 use Rattle.std.specs.Result.{IsOk, is_ok}
 use Rattle.ray_words.proofs.SettledRays.{settled_more}
-use Rattle.ray_words.proofs.Settling.{none_in_none}
 use Rattle.ray_words.proofs.strip_rays.StripRays.push.Goals as goal
 
 -- what a push that succeeds leaves
@@ -14,6 +13,6 @@ invariant_of-self-2 c =
     let i = c.self.inside in
     let room = c.in_ok-reserve.ensures.ok in
     let noted = c.push-noted.ensures.items ∙ pushed c.push-noted.result _ _ (c.push-noted.ensures.succeeds (omega (arith, room))) in
-    settled_more i.rays.items c.push.new.self.items i.settled.items c.push-noted.new.self.items c.args.ray c.none.result c.self.invariant
-    (none_in_none c.args.ray.sets c.none.result c.none.ensures) c.in_ok-push.ensures.items
-    (noted ∙ ap (λ (l : List (ℕ × ℕ)). l ++ c.none.result ∷ []) c.in_ok-reserve.ensures.items)
+    settled_more i.rays.items c.push.new.self.items i.settled.items c.push-noted.new.self.items c.args.ray c.bare_end-settled.result c.self.invariant
+    c.bare_end-settled.ensures c.in_ok-push.ensures.items
+    (noted ∙ ap (λ (l : List (ℕ × ℕ)). l ++ c.bare_end-settled.result ∷ []) c.in_ok-reserve.ensures.items)
