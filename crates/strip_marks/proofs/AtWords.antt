@@ -119,13 +119,14 @@ all_idle r d n asked is zero l ge lt within =
     (is.others (l - 64 * n) (omega arith) (omega arith) (unmarked_bit asked (l - 64 * n) zero))
 
 -- where no bit is marked nothing is new, and nothing is found
-nothing : (word b : ℕ) (mark : Bool) → word ≡ 0 → has_bit 0 b ≡ (has_bit word b && mark)
-nothing word b mark e = has_bit-zero b ∙ sym (ap (λ x. x && mark) (unmarked_bit word b e))
+nothing : (stock word b : ℕ) (mark : Bool) → word ≡ 0 → has_bit 0 b ≡ (has_bit stock b && (has_bit word b && mark))
+nothing stock word b mark e =
+    has_bit-zero b ∙ sym (ap (λ x. has_bit stock b && (x && mark)) (unmarked_bit word b e) ∙ and_right (has_bit stock b) false refl)
 
 pub no_delta : (w : WordSets) (sure possible : ℕ) → sure ≡ 0 → possible ≡ 0 → IsWordDelta w sure possible record { sure = 0; possible = 0 }
 no_delta w sure possible s p = record {
-  new_sure = λ b lt. nothing sure b (not (has_bit w.sure b)) s;
-  new_possible = λ b lt. nothing possible b (not (has_bit w.possible b)) p;
+  new_sure = λ b lt. nothing w.stock sure b (not (has_bit w.sure b)) s;
+  new_possible = λ b lt. nothing w.stock possible b (not (has_bit w.possible b)) p;
 }
 
 pub no_found : (w : WordSets) (sure possible : ℕ) (rapid : Bool) (counts : Counts) → sure ≡ 0 → possible ≡ 0 → counts ≡ no_counts
@@ -139,9 +140,9 @@ no_found w sure possible rapid counts s p e =
 -- what a move that is sure and possible by these tests changes in word n of a ray with these sets, and what it finds there
 pub record IsWordMarked (d : Sets) (sure possible : ℕ → Bool) (rapid : Bool) (n : ℕ) (delta : WordDelta) (counts : Counts) : Type 0 where
   pub new_sure : (b : ℕ) → b < 64 → 64 * n + b < length d.stock
-      → has_bit delta.sure b ≡ (sure (64 * n + b) && not (has d.sure (64 * n + b)))
+      → has_bit delta.sure b ≡ (has d.stock (64 * n + b) && (sure (64 * n + b) && not (has d.sure (64 * n + b))))
   pub new_possible : (b : ℕ) → b < 64 → 64 * n + b < length d.stock
-      → has_bit delta.possible b ≡ (possible (64 * n + b) && not (has d.possible (64 * n + b)))
+      → has_bit delta.possible b ≡ (has d.stock (64 * n + b) && (possible (64 * n + b) && not (has d.possible (64 * n + b))))
   pub sure_below : IsBelow (length d.stock) n delta.sure
   pub possible_below : IsBelow (length d.stock) n delta.possible
   pub found : counts ≡ findings (seen_on d sure possible rapid) (range_with_len (64 * n) 64)
@@ -174,7 +175,7 @@ module _ (r : RayOf) (d : Sets) (n : ℕ) (w : WordSets) (h : AreSetsOf r d) (at
 
   -- whether a point is wanted, by the word and by the sets
   same_wanted : (b : ℕ) → b < 64 → is_wanted_at d (64 * n + b) ≡ is_wanted (seen_bit w 0 0 false b)
-  same_wanted b lt = sym (λ i. at.part b lt i || (at.fixture b lt i || not (at.sure b lt i)))
+  same_wanted b lt = sym (λ i. at.part b lt i || (at.fixture b lt i || (at.stock b lt i && not (at.sure b lt i))))
 
   module _ (wanted only sure possible : ℕ) (rapid : Bool) (is_asked : AreAsked r d n wanted)
       (is_only : (b : ℕ) → b < 64 → has_bit only b ≡ is_sure_only (seen_bit w 0 0 rapid b))
@@ -224,8 +225,12 @@ module _ (r : RayOf) (d : Sets) (n : ℕ) (w : WordSets) (h : AreSetsOf r d) (at
         (let e : 0 + b ≡ b = omega arith in e)
         ∙ same_seen (is_sure_at r) (is_possible_at r) rapid b lt))
 
-    on_ray : (b : ℕ) → b < 64 → has_bit wanted b ≡ true → 64 * n + b < length d.stock
-    on_ray b lt t = omega (arith, is_asked.on_ray b lt t, h.bound.stock)
+    stock_below : (b : ℕ) → b < 64 → has_bit w.stock b ≡ true → 64 * n + b < length d.stock
+    stock_below b lt t =
+        ⊎_elim (λ (below : 64 * n + b < length d.stock). below)
+        (λ (beyond : length d.stock ≤ 64 * n + b).
+        let none = at.stock b lt ∙ past d.stock (length d.stock) (64 * n + b) refl beyond in absurd (cc))
+        (cases_lt (64 * n + b) (length d.stock))
 
     pub word_marked : (delta : WordDelta) (counts : Counts) → IsWordDelta w sure possible delta
         → counts ≡ findings (seen_bit w sure possible rapid) (range_with_len 0 64)
@@ -235,18 +240,15 @@ module _ (r : RayOf) (d : Sets) (n : ℕ) (w : WordSets) (h : AreSetsOf r d) (at
           is_delta.new_sure b lt
           ∙ agree_new_sure (has_bit w.stock b) (has_bit w.part b) (has_bit w.fixture b) (has_bit w.sure b) (has_bit w.possible b)
           (is_sure_at r (64 * n + b)) (is_possible_at r (64 * n + b)) (has_bit sure b) (has_bit possible b) rapid (agree b lt below)
-          ∙ ap (λ x. is_sure_at r (64 * n + b) && not x) (at.sure b lt);
+          ∙ ap₂ (λ x y. x && (is_sure_at r (64 * n + b) && not y)) (at.stock b lt) (at.sure b lt);
       new_possible = λ b lt below.
           is_delta.new_possible b lt
           ∙ agree_new_possible (has_bit w.stock b) (has_bit w.part b) (has_bit w.fixture b) (has_bit w.sure b) (has_bit w.possible b)
           (is_sure_at r (64 * n + b)) (is_possible_at r (64 * n + b)) (has_bit sure b) (has_bit possible b) rapid (ordered b lt)
           (agree b lt below)
-          ∙ ap (λ x. is_possible_at r (64 * n + b) && not x) (at.possible b lt);
-      sure_below = λ b lt t.
-          let marked = left_of (has_bit sure b) (not (has_bit w.sure b)) (sym (is_delta.new_sure b lt) ∙ t) in
-          on_ray b lt (left_of (has_bit wanted b) (is_sure_at r (64 * n + b)) (sym (is_sure b lt) ∙ marked));
+          ∙ ap₂ (λ x y. x && (is_possible_at r (64 * n + b) && not y)) (at.stock b lt) (at.possible b lt);
+      sure_below = λ b lt t. stock_below b lt (left_of (has_bit w.stock b) (has_bit sure b && not (has_bit w.sure b)) (sym (is_delta.new_sure b lt) ∙ t));
       possible_below = λ b lt t.
-          let marked = left_of (has_bit possible b) (not (has_bit w.possible b)) (sym (is_delta.new_possible b lt) ∙ t) in
-          on_ray b lt (left_of (has_bit wanted b) (is_told_at r (has_bit only b) (64 * n + b)) (sym (is_told b lt) ∙ marked));
+          stock_below b lt (left_of (has_bit w.stock b) (has_bit possible b && not (has_bit w.possible b)) (sym (is_delta.new_possible b lt) ∙ t));
       found = is_found ∙ found;
     }

@@ -54,13 +54,13 @@ one_word d sure possible rapid n k delta counts h = record {
       let at : 64 * k + l % 64 ≡ l = omega arith in
       noted_here sure_of n k delta l (omega arith) (λ e. eqb-true delta.sure 0 (and_parts (eqb delta.sure 0) (eqb delta.possible 0) e).0)
       ∙ h.new_sure (l % 64) (omega arith) (omega arith)
-      ∙ ap (λ j. sure j && not (has d.sure j)) at;
+      ∙ ap (λ j. has d.stock j && (sure j && not (has d.sure j))) at;
   new_possible = λ l ge lt within.
       let at : 64 * k + l % 64 ≡ l = omega arith in
       noted_here possible_of n k delta l (omega arith)
       (λ e. eqb-true delta.possible 0 (and_parts (eqb delta.sure 0) (eqb delta.possible 0) e).1)
       ∙ h.new_possible (l % 64) (omega arith) (omega arith)
-      ∙ ap (λ j. possible j && not (has d.possible j)) at;
+      ∙ ap (λ j. has d.stock j && (possible j && not (has d.possible j))) at;
   each =
       all_noted (IsChangeIn (length d.stock) n k (k + 1)) n k delta
       record { ray = refl; from = omega arith; below = omega arith; sure = h.sure_below; possible = h.possible_below };

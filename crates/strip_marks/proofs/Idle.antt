@@ -7,7 +7,7 @@ use Rattle.vf_spans.specs.Members.{has}
 use Rattle.job_counts.specs.Counts.{no_counts}
 use Rattle.dexel_rays.specs.Findings.{met, none_met}
 use Rattle.dexel_rays.specs.Sets.{HaveBound, Sets}
-use Rattle.dexel_rays.proofs.Laws.{no_more, outside_meets_none, point, settled_meets_none}
+use Rattle.dexel_rays.proofs.Laws.{and_false, no_more, outside_meets_none, point, settled_meets_none}
 use Rattle.ray_words.specs.Rays.{is_wanted_at}
 use Rattle.strip_marks.specs.Marks.{seen_on}
 use Rattle.strip_marks.specs.RayMarks.{AreWordsMarked, IsChangeIn, IsIdle}
@@ -47,44 +47,56 @@ unmarked_meets_none a b c S P s p rapid es ep =
       rapid_possible = and_right rapid (a && false) (and_right a false refl) i;
     })
 
--- a point that isn't wanted is neither part nor fixture, and was sure and possible before
-record IsSettled (part fixture sure possible : Bool) : Type 0 where
-  sure_before : sure ≡ true
-  possible_before : possible ≡ true
-  neither : ((sure && possible) && not (part || fixture)) ≡ true
+-- at a point that isn't wanted no mark is new of the stock, and none of the rules is met: it is in no body, or neither part nor fixture,
+-- and was sure and possible before
+none_new : (stock part fixture sure mark : Bool) → (part || (fixture || (stock && not sure))) ≡ false → (stock && (mark && not sure)) ≡ false
+none_new stock true fixture sure mark e = cc
+none_new stock false true sure mark e = cc
+none_new false false false sure mark e = refl
+none_new true false false true mark e = no_more mark
+none_new true false false false mark e = cc
 
-settled : (part fixture sure possible : Bool) → (part || (fixture || not sure)) ≡ false → (IsTrue sure → IsTrue possible)
-    → IsSettled part fixture sure possible
-settled true fixture sure possible e i = cc
-settled false true sure possible e i = cc
-settled false false false possible e i = cc
-settled false false true true e i = record { sure_before = refl; possible_before = refl; neither = refl }
-settled false false true false e i = let none = i refl in cc
+none_newly_possible : (stock part fixture sure possible mark : Bool) → (part || (fixture || (stock && not sure))) ≡ false
+    → (IsTrue sure → IsTrue possible) → (stock && (mark && not possible)) ≡ false
+none_newly_possible stock true fixture sure possible mark e i = cc
+none_newly_possible stock false true sure possible mark e i = cc
+none_newly_possible false false false sure possible mark e i = refl
+none_newly_possible true false false true true mark e i = no_more mark
+none_newly_possible true false false true false mark e i = let none = i refl in cc
+none_newly_possible true false false false possible mark e i = cc
+
+unwanted_meets_none : (a b c S P s p rapid : Bool) → (b || (c || (a && not S))) ≡ false → (IsTrue S → IsTrue P)
+    → met (point a b c S P s p rapid) ≡ none_met
+unwanted_meets_none a true c S P s p rapid e i = cc
+unwanted_meets_none a false true S P s p rapid e i = cc
+unwanted_meets_none false false false S P s p rapid e i = outside_meets_none false false false S P s p rapid refl
+unwanted_meets_none true false false true true s p rapid e i = settled_meets_none true false false true true s p rapid refl
+unwanted_meets_none true false false true false s p rapid e i = let none = i refl in cc
+unwanted_meets_none true false false false P s p rapid e i = cc
 
 module _ (d : Sets) (sure possible : ℕ → Bool) (rapid : Bool) (ordered : (l : ℕ) → has d.sure l ≡ true → has d.possible l ≡ true) where
-  settled_at : (l : ℕ) → is_wanted_at d l ≡ false → IsSettled (has d.part l) (has d.fixture l) (has d.sure l) (has d.possible l)
-  settled_at l e = settled (has d.part l) (has d.fixture l) (has d.sure l) (has d.possible l) e (ordered l)
-
-  pub idle_sure : (l : ℕ) → IsIdle d sure possible l → (sure l && not (has d.sure l)) ≡ false
+  pub idle_sure : (l : ℕ) → IsIdle d sure possible l → (has d.stock l && (sure l && not (has d.sure l))) ≡ false
   idle_sure l idle =
       ⊎_elim
-      (λ (e : is_wanted_at d l ≡ false). ap (λ x. sure l && not x) (settled_at l e).sure_before ∙ no_more (sure l))
-      (λ (none : (sure l ≡ false) × (possible l ≡ false)). ap (λ x. x && not (has d.sure l)) none.0)
+      (λ (e : is_wanted_at d l ≡ false). none_new (has d.stock l) (has d.part l) (has d.fixture l) (has d.sure l) (sure l) e)
+      (λ (none : (sure l ≡ false) × (possible l ≡ false)).
+      ap (λ x. has d.stock l && (x && not (has d.sure l))) none.0 ∙ and_false (has d.stock l))
       idle
 
-  pub idle_possible : (l : ℕ) → IsIdle d sure possible l → (possible l && not (has d.possible l)) ≡ false
+  pub idle_possible : (l : ℕ) → IsIdle d sure possible l → (has d.stock l && (possible l && not (has d.possible l))) ≡ false
   idle_possible l idle =
       ⊎_elim
-      (λ (e : is_wanted_at d l ≡ false). ap (λ x. possible l && not x) (settled_at l e).possible_before ∙ no_more (possible l))
-      (λ (none : (sure l ≡ false) × (possible l ≡ false)). ap (λ x. x && not (has d.possible l)) none.1)
+      (λ (e : is_wanted_at d l ≡ false).
+      none_newly_possible (has d.stock l) (has d.part l) (has d.fixture l) (has d.sure l) (has d.possible l) (possible l) e (ordered l))
+      (λ (none : (sure l ≡ false) × (possible l ≡ false)).
+      ap (λ x. has d.stock l && (x && not (has d.possible l))) none.1 ∙ and_false (has d.stock l))
       idle
 
   pub idle_met : (l : ℕ) → IsIdle d sure possible l → met (seen_on d sure possible rapid l) ≡ none_met
   idle_met l idle =
       ⊎_elim
-      (λ (e : is_wanted_at d l ≡ false). settled_meets_none (has d.stock l) (has d.part l) (has d.fixture l) (has d.sure l)
-      (has d.possible l) (sure l) (possible l) rapid
-      (settled_at l e).neither)
+      (λ (e : is_wanted_at d l ≡ false). unwanted_meets_none (has d.stock l) (has d.part l) (has d.fixture l) (has d.sure l)
+      (has d.possible l) (sure l) (possible l) rapid e (ordered l))
       (λ (none : (sure l ≡ false) × (possible l ≡ false)). unmarked_meets_none (has d.stock l) (has d.part l) (has d.fixture l)
       (has d.sure l) (has d.possible l) (sure l) (possible l) rapid
       none.0 none.1)

@@ -171,9 +171,9 @@ module _ (plan : PlanOf) (move : JobMove) (strip lo n : ℕ) (before mid : List 
             (λ (more : n ≤ m).
             let e : n ≡ m = omega arith in
             subst (λ (k : ℕ). l < points_at plan.grid strip k → among sure_of (changes ++ added) k l ≡
-            (sure_there plan move strip k l && not (has (sets_of before k).sure l))) e
+            (has (sets_of before k).stock l && (sure_there plan move strip k l && not (has (sets_of before k).sure l)))) e
             (λ here. new_here sure_of l ∙ next.new_sure l (omega (arith, points_are, here)) ∙ ap
-            (λ (d : Sets). sure_there plan move strip n l && not (has d.sure l)) sets_are) below)
+            (λ (d : Sets). has d.stock l && (sure_there plan move strip n l && not (has d.sure l))) sets_are) below)
             (cases_lt m n);
         new_possible = λ m l ge lt below.
             ⊎_elim
@@ -181,9 +181,9 @@ module _ (plan : PlanOf) (move : JobMove) (strip lo n : ℕ) (before mid : List 
             (λ (more : n ≤ m).
             let e : n ≡ m = omega arith in
             subst (λ (k : ℕ). l < points_at plan.grid strip k → among possible_of (changes ++ added) k l ≡
-            (possible_there plan move strip k l && not (has (sets_of before k).possible l))) e
+            (has (sets_of before k).stock l && (possible_there plan move strip k l && not (has (sets_of before k).possible l)))) e
             (λ here. new_here possible_of l ∙ next.new_possible l (omega (arith, points_are, here)) ∙ ap
-            (λ (d : Sets). possible_there plan move strip n l && not (has d.possible l)) sets_are) below)
+            (λ (d : Sets). has d.stock l && (possible_there plan move strip n l && not (has d.possible l))) sets_are) below)
             (cases_lt m n);
         each = All-append (IsChangeFrom (set mid n ray) lo (n + 1)) changes added old_stays new_stays;
         order = order_append changes added h.order next.order

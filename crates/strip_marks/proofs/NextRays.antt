@@ -63,13 +63,13 @@ module _ (plan : PlanOf) (move : JobMove) (strip lo n m : ℕ) (before mid : Lis
         ⊎_elim
         (λ (less : k < n). h.new_sure k l ge less below)
         (λ (more : n ≤ k). none_behind sure_of k l more ∙ idle.new_sure k l more lt below
-        ∙ ap (λ (d : Sets). sure_there plan move strip k l && not (has d.sure l)) (same.sets k (omega (arith, lt, within))))
+        ∙ ap (λ (d : Sets). has d.stock l && (sure_there plan move strip k l && not (has d.sure l))) (same.sets k (omega (arith, lt, within))))
         (cases_lt k n);
     new_possible = λ k l ge lt below.
         ⊎_elim
         (λ (less : k < n). h.new_possible k l ge less below)
         (λ (more : n ≤ k). none_behind possible_of k l more ∙ idle.new_possible k l more lt below
-        ∙ ap (λ (d : Sets). possible_there plan move strip k l && not (has d.possible l)) (same.sets k (omega (arith, lt, within))))
+        ∙ ap (λ (d : Sets). has d.stock l && (possible_there plan move strip k l && not (has d.possible l))) (same.sets k (omega (arith, lt, within))))
         (cases_lt k n);
     each = λ i d lt. let here = h.each i d lt in record { on = here.on; from = here.from; below = omega (arith, here.below) };
     order = h.order;

@@ -4,6 +4,7 @@ use Rattle.std.specs.List.{All, range_with_len}
 use Rattle.std.proofs.lemmas.Bool.{cases_lt}
 use Rattle.vf_spans.specs.Members.{has}
 use Rattle.job_counts.specs.declared.counts.Counts.{Counts}
+use Rattle.dexel_rays.proofs.Laws.{and_false}
 use Rattle.dexel_rays.specs.Findings.{findings, met, none_met}
 use Rattle.dexel_rays.specs.Sets.{HaveBound}
 use Rattle.ray_words.specs.Rays.{KeptSets}
@@ -66,14 +67,14 @@ module _ (r : RayOf) (after : KeptSets) (rapid : Bool) (n first end lo hi : ℕ)
   ray_marked kept few = record {
     new_sure = λ l lt.
         inside_or (64 * lo) (64 * hi) l
-        (among sure_of changes n l ≡ (is_sure_at r l && not (has after.sets.sure l)))
+        (among sure_of changes n l ≡ (has after.sets.stock l && (is_sure_at r l && not (has after.sets.sure l))))
         (λ ge less. m.new_sure l ge less lt)
-        (λ out. none_beside sure_of l out ∙ sym (ap (λ t. t && not (has after.sets.sure l)) (not_sure l lt out)));
+        (λ out. none_beside sure_of l out ∙ sym (ap (λ t. has after.sets.stock l && (t && not (has after.sets.sure l))) (not_sure l lt out) ∙ and_false (has after.sets.stock l)));
     new_possible = λ l lt.
         inside_or (64 * lo) (64 * hi) l
-        (among possible_of changes n l ≡ (is_possible_at r l && not (has after.sets.possible l)))
+        (among possible_of changes n l ≡ (has after.sets.stock l && (is_possible_at r l && not (has after.sets.possible l))))
         (λ ge less. m.new_possible l ge less lt)
-        (λ out. none_beside possible_of l out ∙ sym (ap (λ t. t && not (has after.sets.possible l)) (not_possible l lt out)));
+        (λ out. none_beside possible_of l out ∙ sym (ap (λ t. has after.sets.stock l && (t && not (has after.sets.possible l))) (not_possible l lt out) ∙ and_false (has after.sets.stock l)));
     each = λ i d lt. let here = m.each i d lt in
         record { number = here.ray; kept = kept i d lt; sure = here.sure; possible = here.possible };
     order = m.order;

@@ -1,6 +1,7 @@
 -- What a move changes on a strip: its rays in the window are enough.
 use Rattle.std.proofs.Common.{◌≡◌, ℕ, ◌-◌, ◌<◌, ◌≤◌, false, not, ◌&&◌, List, [], length, get_or, arith, sym, ap, ◌∙◌, ◌⊎◌, inl, inr, ⊎_elim}
 use Rattle.vf_spans.specs.Members.{has}
+use Rattle.dexel_rays.proofs.Laws.{and_false}
 use Rattle.job_counts.specs.declared.counts.Counts.{Counts}
 use Rattle.job_counts.specs.Counts.{no_counts}
 use Rattle.ray_grid.specs.Strips.{strips_of}
@@ -53,14 +54,16 @@ module _ (plan : PlanOf) (number : ℕ) (move : JobMove) (strip lo hi : ℕ) (be
   pub strip_marked : IsMarkedStrip plan move strip before after changes counts
   strip_marked = record {
     sure = λ n l lt below.
-        inside_or lo hi n (among sure_of changes n l ≡ (sure_there plan move strip n l && not (has (sets_of before n).sure l)))
+        inside_or lo hi n (among sure_of changes n l ≡ (has (sets_of before n).stock l && (sure_there plan move strip n l && not (has (sets_of before n).sure l))))
         (λ ge less. h.new_sure n l ge less below)
-        (λ out. none_beside sure_of n l out ∙ sym (ap (λ t. t && not (has (sets_of before n).sure l)) (not_sure n l out lt below)));
+        (λ out. none_beside sure_of n l out ∙ sym (ap (λ t. has (sets_of before n).stock l && (t && not (has (sets_of before n).sure l))) (not_sure n l out lt below)
+        ∙ and_false (has (sets_of before n).stock l)));
     possible = λ n l lt below.
-        inside_or lo hi n (among possible_of changes n l ≡ (possible_there plan move strip n l && not (has (sets_of before n).possible l)))
+        inside_or lo hi n (among possible_of changes n l ≡ (has (sets_of before n).stock l && (possible_there plan move strip n l && not (has (sets_of before n).possible l))))
         (λ ge less. h.new_possible n l ge less below)
         (λ out. none_beside possible_of n l out ∙ sym
-        (ap (λ t. t && not (has (sets_of before n).possible l)) (not_possible n l out lt below)));
+        (ap (λ t. has (sets_of before n).stock l && (t && not (has (sets_of before n).possible l))) (not_possible n l out lt below)
+        ∙ and_false (has (sets_of before n).stock l)));
     on = λ i d lt. (h.each i d lt).on;
     order = h.order;
     found =

@@ -101,13 +101,13 @@ pub record AreInOrder (changes : List WordChange) : Type 0 where
   pub each : (i k : ℕ) (d : WordChange) → i < k → k < length changes
       → IsTrue (is_ahead (slice_index_or changes i d) (slice_index_or changes k d))
 
--- the changes are what the move marks and was not in the sets, at any point of the strip; and the counts are what it finds there
+-- the changes are the stock points that the move marks and that were not in the sets, over the whole strip; and the counts are what it finds there
 pub record IsMarkedStrip (plan : PlanOf) (move : JobMove) (strip : ℕ) (before after : List KeptSets) (changes : List WordChange)
     (counts : Counts) : Type 0 where
   pub sure : (n l : ℕ) → n < length before → l < points_at plan.grid strip n
-      → among sure_of changes n l ≡ (sure_there plan move strip n l && not (has (sets_of before n).sure l))
+      → among sure_of changes n l ≡ (has (sets_of before n).stock l && (sure_there plan move strip n l && not (has (sets_of before n).sure l)))
   pub possible : (n l : ℕ) → n < length before → l < points_at plan.grid strip n
-      → among possible_of changes n l ≡ (possible_there plan move strip n l && not (has (sets_of before n).possible l))
+      → among possible_of changes n l ≡ (has (sets_of before n).stock l && (possible_there plan move strip n l && not (has (sets_of before n).possible l)))
   pub on : All (IsChangeOn after) changes
   pub order : AreInOrder changes
   pub found : counts ≡ strip_found plan move strip before

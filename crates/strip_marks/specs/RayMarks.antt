@@ -91,9 +91,9 @@ pub record IsChangeIn (bound n lo hi : ℕ) (change : WordChange) : Type 0 where
 -- ray's sets, and what it finds there
 pub record AreWordsMarked (d : Sets) (sure possible : ℕ → Bool) (rapid : Bool) (n lo hi : ℕ) (changes : List WordChange)
     (counts : Counts) : Type 0 where
-  pub new_sure : (l : ℕ) → 64 * lo ≤ l → l < 64 * hi → l < length d.stock → among sure_of changes n l ≡ (sure l && not (has d.sure l))
+  pub new_sure : (l : ℕ) → 64 * lo ≤ l → l < 64 * hi → l < length d.stock → among sure_of changes n l ≡ (has d.stock l && (sure l && not (has d.sure l)))
   pub new_possible : (l : ℕ) → 64 * lo ≤ l → l < 64 * hi → l < length d.stock
-      → among possible_of changes n l ≡ (possible l && not (has d.possible l))
+      → among possible_of changes n l ≡ (has d.stock l && (possible l && not (has d.possible l)))
   pub each : All (IsChangeIn (length d.stock) n lo hi) changes
   pub order : AreInOrder changes
   pub found : counts ≡ findings (seen_on d sure possible rapid) (range_with_len (64 * lo) (64 * (hi - lo)))
@@ -130,9 +130,9 @@ pub record IsChangeOf (ray : KeptSets) (n : ℕ) (change : WordChange) : Type 0 
 -- what a move that is sure and possible by these tests changes on ray n, by the ray's sets, and what it finds there
 pub record IsRayMarked (after : KeptSets) (sure possible : ℕ → Bool) (rapid : Bool) (n : ℕ) (changes : List WordChange)
     (counts : Counts) : Type 0 where
-  pub new_sure : (l : ℕ) → l < length after.sets.stock → among sure_of changes n l ≡ (sure l && not (has after.sets.sure l))
+  pub new_sure : (l : ℕ) → l < length after.sets.stock → among sure_of changes n l ≡ (has after.sets.stock l && (sure l && not (has after.sets.sure l)))
   pub new_possible : (l : ℕ) → l < length after.sets.stock
-      → among possible_of changes n l ≡ (possible l && not (has after.sets.possible l))
+      → among possible_of changes n l ≡ (has after.sets.stock l && (possible l && not (has after.sets.possible l)))
   pub each : All (IsChangeOf after n) changes
   pub order : AreInOrder changes
   pub found : counts ≡ findings (seen_on after.sets sure possible rapid) (range_with_len 0 (length after.sets.stock))

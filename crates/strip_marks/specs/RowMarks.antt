@@ -63,9 +63,9 @@ pub record IsChangeFrom (rays : List KeptSets) (lo hi : ℕ) (change : WordChang
 pub record AreRaysMarked (plan : PlanOf) (move : JobMove) (strip : ℕ) (before after : List KeptSets) (lo hi : ℕ)
     (changes : List WordChange) (counts : Counts) : Type 0 where
   pub new_sure : (n l : ℕ) → lo ≤ n → n < hi → l < points_at plan.grid strip n
-      → among sure_of changes n l ≡ (sure_there plan move strip n l && not (has (sets_of before n).sure l))
+      → among sure_of changes n l ≡ (has (sets_of before n).stock l && (sure_there plan move strip n l && not (has (sets_of before n).sure l)))
   pub new_possible : (n l : ℕ) → lo ≤ n → n < hi → l < points_at plan.grid strip n
-      → among possible_of changes n l ≡ (possible_there plan move strip n l && not (has (sets_of before n).possible l))
+      → among possible_of changes n l ≡ (has (sets_of before n).stock l && (possible_there plan move strip n l && not (has (sets_of before n).possible l)))
   pub each : All (IsChangeFrom after lo hi) changes
   pub order : AreInOrder changes
   pub found : counts ≡ sum_counts (map (ray_found plan move strip before) (range_with_len lo (hi - lo)))
