@@ -6,8 +6,6 @@ mod cert;
 mod fault;
 mod line;
 mod reading;
-#[cfg(test)]
-mod rows;
 mod text;
 mod words;
 

@@ -5,8 +5,6 @@ mod counts;
 mod flags;
 mod marks;
 mod point;
-#[cfg(test)]
-mod tests;
 
 pub use counts::{HolderCounts, holder_counts};
 pub use marks::{HolderMarks, holder_marks};

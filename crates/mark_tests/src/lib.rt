@@ -1,4 +1,4 @@
-//! Tests of the marks of points: cylinders, runs, words of a ray, plans, and the moves of a file.
+//! Tests of the marks of points: cylinders, runs, words of a ray, plans, the moves of a file, and the holder.
 #![tactic(auto)]
 
 #[cfg(test)]
@@ -7,6 +7,8 @@ mod bands;
 mod cylinders;
 #[cfg(test)]
 mod files;
+#[cfg(test)]
+mod holders;
 #[cfg(test)]
 mod plans;
 #[cfg(test)]

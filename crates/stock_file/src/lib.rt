@@ -9,8 +9,6 @@ mod numbers;
 mod ray_set;
 mod rays;
 mod read;
-#[cfg(test)]
-mod rows;
 mod same_grids;
 mod stock;
 mod text;

@@ -1,6 +1,8 @@
-//! Tests of texts: pieces of lines, record texts, words of `verify`, listings, refusals, reports, a generated program, and tasks as read.
+//! Tests of texts: lines, records, certificates, saved stock, words of `verify`, listings, refusals, reports, a generated program, tasks.
 #![tactic(auto)]
 
+#[cfg(test)]
+mod certificates;
 #[cfg(test)]
 mod listings;
 #[cfg(test)]
@@ -13,6 +15,8 @@ mod record_texts;
 mod refusals;
 #[cfg(test)]
 mod reports;
+#[cfg(test)]
+mod stocks;
 #[cfg(test)]
 mod tasks;
 #[cfg(test)]

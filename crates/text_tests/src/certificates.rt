@@ -1,4 +1,4 @@
-use crate::{CertEnd, CertWhy, cert_text, read_cert};
+use cert_lines::{CertEnd, CertWhy, cert_text, fits_cert, read_cert};
 use ray_grid::Grid;
 use std::alloc::Global;
 use std::test::Fail;
@@ -96,7 +96,7 @@ const RANGE: [(&[u8], u32); 12] = [
 
 /// The line of the fault and whether it is one of range, of a text that is refused.
 fn fault_of(alloc: Global, text: &[u8]) -> Option<(u32, bool)> {
-    if !crate::fits_cert(text) {
+    if !fits_cert(text) {
         return None;
     }
     match read_cert(alloc, &small_grid(), text) {
@@ -108,7 +108,7 @@ fn fault_of(alloc: Global, text: &[u8]) -> Option<(u32, bool)> {
 #[test]
 fn texts_that_are_read(rt: HostRuntime) -> Result<(), Fail> {
     for (text, cells, line) in &READ {
-        assert!(rt; crate::fits_cert(text));
+        assert!(rt; fits_cert(text));
         let Ok(cert) = read_cert(rt.alloc(), &small_grid(), text) else {
             assert!(rt; false, "{text:?} is refused");
             continue;
@@ -142,7 +142,7 @@ fn texts_that_are_refused(rt: HostRuntime) -> Result<(), Fail> {
 fn a_text_is_written_as_it_was_read(rt: HostRuntime) -> Result<(), Fail> {
     let text: &[u8] =
         b"cert 1\nslabs 8\nray Y 2 0\ncell 3 7 5 6\ncell 0 0 0 1\nray X 0 2\ncell 2 3 0 1\nend\n";
-    assert!(rt; crate::fits_cert(text));
+    assert!(rt; fits_cert(text));
     let Ok(cert) = read_cert(rt.alloc(), &small_grid(), text) else {
         assert!(rt; false, "it is refused");
         return Ok(());

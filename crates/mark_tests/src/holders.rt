@@ -1,9 +1,8 @@
 ghost use Rattle.std.specs.Prelude.{◌≡◌, IfOk, length};
 
-use crate::counts::{HolderCounts, holder_counts};
-use crate::marks::{HolderMarks, holder_marks};
 use axis_cells::Sweep;
 use bern_form::Slab;
+use holder_check::{HolderCounts, HolderMarks, holder_counts, holder_marks};
 use ray_grid::{Family, Grid, Ray};
 use std::alloc::Global;
 use std::test::Fail;

@@ -1,7 +1,7 @@
-use crate::{SavedStock, StockEnd, StockWhy, fits_stock, read_stock};
 use ray_grid::{Family, Grid, Ray};
 use std::alloc::Global;
 use std::test::Fail;
+use stock_file::{SavedStock, StockEnd, StockWhy, fits_stock, read_stock};
 use vf_spans::Spans;
 
 /// Three, three and two nodes, and six or four points a ray.
