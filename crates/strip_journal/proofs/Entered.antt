@@ -27,10 +27,14 @@ marked_is : (job : Job) (j m : Journal) (move : JobMove) (changes : List WordCha
 marked_is job j m move changes counts h same marked = record {
   sure = λ n l ray point.
       let old : n < length j.rays = let many = same.many in omega (arith, ray, many) in
-      marked.sure n l old point ∙ ap (λ b. sure_there job.plan move j.number n l && not b) (h.newest.sure n l old point);
+      marked.sure n l old point
+      ∙ ap₂ (λ a b. a && (sure_there job.plan move j.number n l && not b)) ((h.newest.bodies n old).stock l point)
+      (h.newest.sure n l old point);
   possible = λ n l ray point.
       let old : n < length j.rays = let many = same.many in omega (arith, ray, many) in
-      marked.possible n l old point ∙ ap (λ b. possible_there job.plan move j.number n l && not b) (h.newest.possible n l old point);
+      marked.possible n l old point
+      ∙ ap₂ (λ a b. a && (possible_there job.plan move j.number n l && not b)) ((h.newest.bodies n old).stock l point)
+      (h.newest.possible n l old point);
 }
 
 -- what is found on the strip by its own sets is what the move finds by the moves that are left

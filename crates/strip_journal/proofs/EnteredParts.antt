@@ -15,7 +15,7 @@ use Rattle.job_model.specs.Tasks.{Job, JobMove}
 use Rattle.ray_words.specs.Rays.{KeptSets}
 use Rattle.strip_plan.specs.Plans.{HasNumber}
 use Rattle.strip_marks.specs.declared.change.WordChange.{WordChange}
-use Rattle.strip_marks.specs.Marks.{AreInOrder, IsChangeOn, among, points_at, possible_of, possible_there, sure_of, sure_there}
+use Rattle.strip_marks.specs.Marks.{AreInOrder, IsChangeOn, among, points_at, possible_of, sure_of}
 use Rattle.strip_journal.specs.declared.entry.Entry.{Entry}
 use Rattle.strip_journal.specs.Entries.{AreEntries, IsFirstEntryFrom, changes_of, entry_at, hits_of, possible_ahead, removed_ahead}
 use Rattle.strip_journal.specs.Journals.{AreFound, HaveTotals, MatchesEntries, found_at, possible_at, sure_at}
@@ -25,7 +25,7 @@ use Rattle.strip_journal.proofs.EntryAdded.{kept_noted, kept_unnoted, sorted_not
 use Rattle.strip_journal.proofs.FoundAdded.{IsFoundFor, each_edit, found_each, found_from, found_noted, found_still, found_unnoted}
 use Rattle.strip_journal.proofs.KeptParts.{IsHeld, Parts}
 use Rattle.strip_journal.proofs.MovesLeft.{moves_more}
-use Rattle.strip_journal.proofs.NewMarks.{AreMarked, AreNew, new_leads, new_turns_as, none_new, possible_new, sure_new}
+use Rattle.strip_journal.proofs.NewMarks.{AreMarked, AreNew, new_leads, new_turns_as, none_new, possible_new, possible_stock, sure_new, sure_stock}
 use Rattle.strip_journal.proofs.Noting.{range_new}
 use Rattle.strip_journal.proofs.PointTotals.{possible_more, removed_more}
 use Rattle.strip_journal.proofs.SetsTurned.{turned_on, turned_sets}
@@ -126,14 +126,14 @@ possible_is job p number move changes counts h next =
 sure_news : (job : Job) (p : Parts) (number : ℕ) (move : JobMove) (changes : List WordChange) (counts : Counts)
     → IsNextMove job p number move changes counts
     → AreNew (sure_at job p.number) sure_of (length p.rays) (points_at job.plan.grid p.number) changes
-    (sure_there job.plan move p.number) p.done
+    (sure_stock job p.number move) p.done
 sure_news job p number move changes counts next =
     sure_new job p.number p.done (length p.rays) number move changes next.applies next.named next.marked
 
 possible_news : (job : Job) (p : Parts) (number : ℕ) (move : JobMove) (changes : List WordChange) (counts : Counts)
     → IsNextMove job p number move changes counts
     → AreNew (possible_at job p.number) possible_of (length p.rays) (points_at job.plan.grid p.number) changes
-    (possible_there job.plan move p.number) p.done
+    (possible_stock job p.number move) p.done
 possible_news job p number move changes counts next =
     possible_new job p.number p.done (length p.rays) number move changes next.applies next.named next.marked
 
@@ -183,14 +183,14 @@ entered_noted job p number move changes counts h next =
           e h.kept h.tracked_sure refl
           (λ n l.
           new_turns_as (sure_at job p.number) sure_of (length p.rays) (points_at job.plan.grid p.number)
-          (changes_of (p.changes ++ changes) e) changes (sure_there job.plan move p.number) p.done n l its
+          (changes_of (p.changes ++ changes) e) changes (sure_stock job p.number move) p.done n l its
           (sure_news job p number move changes counts next));
       tracked_possible =
           tracked_noted (possible_at job p.number) possible_of (length p.rays) (points_at job.plan.grid p.number) p.changes changes
           p.entries p.done e h.kept h.tracked_possible refl
           (λ n l.
           new_turns_as (possible_at job p.number) possible_of (length p.rays) (points_at job.plan.grid p.number)
-          (changes_of (p.changes ++ changes) e) changes (possible_there job.plan move p.number) p.done n l its
+          (changes_of (p.changes ++ changes) e) changes (possible_stock job p.number move) p.done n l its
           (possible_news job p number move changes counts next));
       totals =
           totals_noted job p.number p.entries e h.totals (removed_is job p number move changes counts h next)
@@ -247,7 +247,7 @@ sure_stays : (job : Job) (p : Parts) (number : ℕ) (move : JobMove) (changes : 
     → IsNextMove job p number move changes counts → changes ≡ [] → (n l : ℕ) → n < length p.rays → l < points_at job.plan.grid p.number n
     → sure_at job p.number p.done n l ≡ sure_at job p.number (p.done + 1) n l
 sure_stays job p number move changes counts next none n l ray point =
-    none_new (sure_at job p.number) sure_of (length p.rays) (points_at job.plan.grid p.number) changes (sure_there job.plan move p.number)
+    none_new (sure_at job p.number) sure_of (length p.rays) (points_at job.plan.grid p.number) changes (sure_stock job p.number move)
     p.done n l (sure_news job p number move changes counts next) (ap (λ (c : List WordChange). among sure_of c n l) none) ray point
 
 possible_stays : (job : Job) (p : Parts) (number : ℕ) (move : JobMove) (changes : List WordChange) (counts : Counts)
@@ -255,7 +255,7 @@ possible_stays : (job : Job) (p : Parts) (number : ℕ) (move : JobMove) (change
     → possible_at job p.number p.done n l ≡ possible_at job p.number (p.done + 1) n l
 possible_stays job p number move changes counts next none n l ray point =
     none_new (possible_at job p.number) possible_of (length p.rays) (points_at job.plan.grid p.number) changes
-    (possible_there job.plan move p.number) p.done n l (possible_news job p number move changes counts next)
+    (possible_stock job p.number move) p.done n l (possible_news job p number move changes counts next)
     (ap (λ (c : List WordChange). among possible_of c n l) none) ray point
 
 -- so nothing is found
@@ -351,9 +351,9 @@ entered_held job p after number move changes counts h next turned =
       newest =
           turned_sets job p.number p.done (p.done + 1) p.rays after changes false h.valid turned h.newest
           (new_leads (sure_at job p.number) sure_of (length p.rays) (points_at job.plan.grid p.number) changes
-          (sure_there job.plan move p.number) p.done (sure_news job p number move changes counts next))
+          (sure_stock job p.number move) p.done (sure_news job p number move changes counts next))
           (new_leads (possible_at job p.number) possible_of (length p.rays) (points_at job.plan.grid p.number) changes
-          (possible_there job.plan move p.number) p.done (possible_news job p number move changes counts next));
+          (possible_stock job p.number move) p.done (possible_news job p number move changes counts next));
       of = h.of;
       kept = edits.kept;
       sorted = edits.sorted;

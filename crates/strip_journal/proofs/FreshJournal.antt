@@ -4,6 +4,7 @@ use Rattle.std.specs.List.{All, flat_map, range_with_len}
 use Rattle.std.proofs.lemmas.List.Sums.{sum_by-cons}
 use Rattle.vf_spans.specs.Members.{count_of, has}
 use Rattle.vf_spans.proofs.WordCounts.{count_of_flags}
+use Rattle.dexel_rays.proofs.Laws.{and_false}
 use Rattle.dexel_rays.proofs.WordOnes.{below_same}
 use Rattle.ray_grid.specs.Grids.{GridSize}
 use Rattle.ray_grid.specs.declared.ray.Family.TheVariants.{X}
@@ -24,7 +25,7 @@ use Rattle.strip_marks.specs.Marks.{ray_of}
 use Rattle.strip_marks.proofs.MoreRays.{no_sets}
 use Rattle.strip_journal.specs.declared.journal.Journal.{Journal}
 use Rattle.strip_journal.specs.Fresh.{AreFreshRays, IsFreshRay, stock_points}
-use Rattle.strip_journal.specs.Journals.{IsJournal, job_of}
+use Rattle.strip_journal.specs.Journals.{IsJournal, job_of, stock_at}
 use Rattle.strip_journal.proofs.KeptParts.{AreSetsAt, IsHeld, Parts, journal_by, parts_of}
 
 -- what is read past the end of a strip's rays
@@ -82,8 +83,8 @@ first_sets job strip kept fresh =
         possible = λ n l low sure. absurd (never _ ((one n low).sure l) sure);
       };
       bodies = λ n low. record { stock = (one n low).stock_is; part = (one n low).part_is; fixture = (one n low).fixture_is };
-      sure = λ n l low at. (one n low).sure l;
-      possible = λ n l low at. (one n low).possible l;
+      sure = λ n l low at. (one n low).sure l ∙ sym (and_false (stock_at job strip n l));
+      possible = λ n l low at. (one n low).possible l ∙ sym (and_false (stock_at job strip n l));
     }
 
 -- what a journal holds before the first edit

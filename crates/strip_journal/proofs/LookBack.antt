@@ -1,5 +1,5 @@
 -- Looking back from the newest sets, from entry to entry, to the sets of a version.
-use Rattle.std.proofs.Common.{◌≡◌, ℕ, zero, suc, ◌+◌, ◌-◌, ◌<◌, ◌≤◌, Bool, not, if◌then◌else◌, List, length, arith, refl, sym, ap, ◌∙◌}
+use Rattle.std.proofs.Common.{◌≡◌, ℕ, zero, suc, ◌+◌, ◌-◌, ◌<◌, ◌≤◌, Bool, true, false, not, ◌&&◌, if◌then◌else◌, List, length, arith, refl, sym, ap, ◌∙◌}
 use Rattle.std.proofs.lemmas.Bool.{cond-false, cond-true, le-ltb, lt-ltb}
 use native.Mathlib.Decide.{dec_le}
 use mathlib.Core.Logic.{dite}
@@ -11,7 +11,7 @@ use Rattle.strip_marks.specs.Marks.{among, point_at, points_at, possible_of, set
 use Rattle.strip_journal.specs.declared.entry.Entry.{Entry}
 use Rattle.strip_journal.specs.declared.journal.Journal.{Journal}
 use Rattle.strip_journal.specs.Entries.{AreAscending, AreEntries, changes_of, edit_at, entry_at, was}
-use Rattle.strip_journal.specs.Journals.{IsJournal, MatchesEntries, job_of, possible_at, sure_at}
+use Rattle.strip_journal.specs.Journals.{IsJournal, MatchesEntries, job_of, possible_at, stock_at, sure_at}
 use Rattle.strip_journal.specs.Looking.{IsLookingBack, version_at}
 use Rattle.strip_journal.proofs.Tracking.{gap}
 
@@ -184,13 +184,20 @@ looked_back j version n l place marks h ray point last looking =
           h.tracked_possible h.kept ahead looking.above ray point);
     }
 
+-- marks that are kept of stock alone give the state of each point
+state_of_stock : (a S P : Bool) → (if not a then Absent else (if a && S then Removed else (if a && P then Possible else Kept)))
+    ≡ (if not a then Absent else (if S then Removed else (if P then Possible else Kept)))
+state_of_stock true S P = refl
+state_of_stock false S P = refl
+
 -- the state of the point at the version
 pub looked_state : (j : Journal) (version n l : ℕ) (marks : Bool × Bool) → IsJournal (job_of j) j → n < length j.rays
     → l < points_at (job_of j).plan.grid j.number n → IsLookedBack j version n l marks
     → (if not (has (sets_of j.rays n).stock l) then Absent
     else (if marks.0 then Removed else (if marks.1 then Possible else Kept)))
     ≡ state_after (job_of j) (left_moves (job_of j).plan version) (point_at (job_of j).plan.grid j.number n l)
-looked_state j version n l marks h ray point looked = rw ((h.newest.bodies n ray).stock l point, looked.sure, looked.possible) refl
+looked_state j version n l marks h ray point looked =
+    rw ((h.newest.bodies n ray).stock l point, looked.sure, looked.possible) (state_of_stock (stock_at (job_of j) j.number n l) _ _)
 
 -- in at most one step for each edit since
 pub looked_cost : (j : Journal) (version place : ℕ) → IsJournal (job_of j) j → place ≤ length j.entries.items

@@ -1,6 +1,7 @@
 -- Which moves are left after an edit, and of which points they are sure.
-use Rattle.std.proofs.Common.{◌≡◌, true, false, ℕ, ◌+◌, ◌^◌, Bool, ◌||◌, List, [], ◌∷◌, ◌++◌, take, drop, get_or, slice_get, Some, append-nil, drop-cons, refl, ap, ◌∙◌}
+use Rattle.std.proofs.Common.{◌≡◌, true, false, ℕ, ◌+◌, ◌^◌, Bool, ◌&&◌, ◌||◌, List, [], ◌∷◌, ◌++◌, take, drop, get_or, slice_get, Some, append-nil, drop-cons, refl, ap, ap₂, ◌∙◌}
 use Rattle.std.specs.List.{list_any}
+use Rattle.std.proofs.lemmas.Bool.{and_parts}
 use Rattle.std.proofs.lemmas.Grind.{flat_map-append}
 use Rattle.std.proofs.lemmas.List.Elements.{All-contains}
 use Rattle.std.proofs.lemmas.List.Folds.{list_any-append, list_any_at}
@@ -16,7 +17,7 @@ use Rattle.job_model.specs.Tasks.{IsJobMove, IsPlan, Job, JobMove, PlanOf}
 use Rattle.job_model.proofs.Lists.{moves_valid, some_of}
 use Rattle.strip_plan.specs.Plans.{HasNumber}
 use Rattle.strip_marks.specs.Marks.{point_at, possible_there, sure_there}
-use Rattle.strip_journal.specs.Journals.{possible_at, sure_at}
+use Rattle.strip_journal.specs.Journals.{possible_at, stock_at, sure_at}
 
 -- a valid move is possible where it is sure
 valid_sure_possible : (plan : PlanOf) (move : JobMove) (point : LatticePoint) → IsPlan plan → IsJobMove move
@@ -43,12 +44,13 @@ pub sure_is_possible : (job : Job) (strip v n l : ℕ) → IsPlan job.plan
 sure_is_possible job strip v n l valid sure =
     let point = point_at job.plan.grid strip n l in
     let left = left_moves job.plan v in
-    let found = some_of (λ move. is_sure job.plan move point) left sure in
+    let both = and_parts (stock_at job strip n l) (some_sure job.plan left point) sure in
+    let found = some_of (λ move. is_sure job.plan move point) left both.1 in
     let is = All-contains IsJobMove left found.0 (moves_valid job.plan (left_at job.plan.edits v) valid.moves) found.1 in
     let there : is_possible job.plan (get_or left found.1.0 found.0) point ≡ true =
     ap (λ (move : JobMove). is_possible job.plan move point) found.1.2
     ∙ valid_sure_possible job.plan found.0 point valid is found.2 in
-    list_any_at (λ move. is_possible job.plan move point) left found.1.0 found.0 found.1.1 there
+    ap₂ (λ x y. x && y) both.0 (list_any_at (λ move. is_possible job.plan move point) left found.1.0 found.0 found.1.1 there)
 
 -- the move with a number, as a list
 one_move : (moves : List JobMove) (number : ℕ) (move : JobMove) → slice_get moves number ≡ Some move
@@ -77,22 +79,31 @@ pub any_more : (test : JobMove → Bool) (moves : List JobMove) (move : JobMove)
 any_more test moves move =
     list_any-append test moves (move ∷ []) ∙ ap (λ b. list_any test moves || b) (or_false (test move))
 
--- after it the points are sure that were sure before it or of which it is sure, and possible likewise
+-- an 'and' with an 'or' is that with either
+and_either : (a b c : Bool) → (a && (b || c)) ≡ ((a && b) || (a && c))
+and_either true b c = refl
+and_either false b c = refl
+
+-- after it the stock is sure that was sure before it or of which it is sure, and possible likewise
 pub sure_more : (job : Job) (strip v n l number : ℕ) (move : JobMove) → slice_get job.plan.edits v ≡ Some (Apply number)
     → HasNumber job.plan number move
-    → sure_at job strip (v + 1) n l ≡ (sure_at job strip v n l || sure_there job.plan move strip n l)
+    → sure_at job strip (v + 1) n l ≡ (sure_at job strip v n l || (stock_at job strip n l && sure_there job.plan move strip n l))
 sure_more job strip v n l number move applies named =
     let point = point_at job.plan.grid strip n l in
-    ap (λ (moves : List JobMove). some_sure job.plan moves point) (moves_more job.plan v number move applies named)
-    ∙ any_more (λ m. is_sure job.plan m point) (left_moves job.plan v) move
+    let stock = stock_at job strip n l in
+    ap (λ (moves : List JobMove). stock && some_sure job.plan moves point) (moves_more job.plan v number move applies named)
+    ∙ ap (λ b. stock && b) (any_more (λ m. is_sure job.plan m point) (left_moves job.plan v) move)
+    ∙ and_either stock (some_sure job.plan (left_moves job.plan v) point) (is_sure job.plan move point)
 
 pub possible_more_at : (job : Job) (strip v n l number : ℕ) (move : JobMove) → slice_get job.plan.edits v ≡ Some (Apply number)
     → HasNumber job.plan number move
-    → possible_at job strip (v + 1) n l ≡ (possible_at job strip v n l || possible_there job.plan move strip n l)
+    → possible_at job strip (v + 1) n l ≡ (possible_at job strip v n l || (stock_at job strip n l && possible_there job.plan move strip n l))
 possible_more_at job strip v n l number move applies named =
     let point = point_at job.plan.grid strip n l in
-    ap (λ (moves : List JobMove). some_possible job.plan moves point) (moves_more job.plan v number move applies named)
-    ∙ any_more (λ m. is_possible job.plan m point) (left_moves job.plan v) move
+    let stock = stock_at job strip n l in
+    ap (λ (moves : List JobMove). stock && some_possible job.plan moves point) (moves_more job.plan v number move applies named)
+    ∙ ap (λ b. stock && b) (any_more (λ m. is_possible job.plan m point) (left_moves job.plan v) move)
+    ∙ and_either stock (some_possible job.plan (left_moves job.plan v) point) (is_possible job.plan move point)
 
 -- where the same numbers are left the same moves are
 pub same_moves : (plan : PlanOf) (v w : ℕ) → left_at plan.edits v ≡ left_at plan.edits w → left_moves plan v ≡ left_moves plan w
@@ -102,9 +113,11 @@ same_moves plan v w same = ap (moves_of plan) same
 pub sure_same : (job : Job) (strip v w n l : ℕ) → left_at job.plan.edits v ≡ left_at job.plan.edits w
     → sure_at job strip v n l ≡ sure_at job strip w n l
 sure_same job strip v w n l same =
-    ap (λ (moves : List JobMove). some_sure job.plan moves (point_at job.plan.grid strip n l)) (same_moves job.plan v w same)
+    ap (λ (moves : List JobMove). stock_at job strip n l && some_sure job.plan moves (point_at job.plan.grid strip n l))
+    (same_moves job.plan v w same)
 
 pub possible_same : (job : Job) (strip v w n l : ℕ) → left_at job.plan.edits v ≡ left_at job.plan.edits w
     → possible_at job strip v n l ≡ possible_at job strip w n l
 possible_same job strip v w n l same =
-    ap (λ (moves : List JobMove). some_possible job.plan moves (point_at job.plan.grid strip n l)) (same_moves job.plan v w same)
+    ap (λ (moves : List JobMove). stock_at job strip n l && some_possible job.plan moves (point_at job.plan.grid strip n l))
+    (same_moves job.plan v w same)

@@ -8,7 +8,7 @@ use Rattle.strip_plan.specs.Plans.{HasNumber}
 use Rattle.strip_marks.specs.declared.change.WordChange.{WordChange}
 use Rattle.strip_marks.specs.Marks.{among, points_at, possible_of, possible_there, sure_of, sure_there}
 use Rattle.strip_journal.specs.Entries.{IsToggled}
-use Rattle.strip_journal.specs.Journals.{possible_at, sure_at}
+use Rattle.strip_journal.specs.Journals.{possible_at, stock_at, sure_at}
 use Rattle.strip_journal.proofs.MovesLeft.{possible_more_at, sure_more}
 use Rattle.strip_journal.proofs.SetsTurned.{Leads}
 
@@ -60,27 +60,42 @@ none_new of pick rays points changes mark version n l are none ray point =
     ((new_turns of pick rays points changes mark version n l are ray point).forth
     ∙ ap (λ b. of version n l || b) none ∙ or_none (of version n l))
 
--- the changes of a move that an edit applies are what it marks and was not in the two sets
+-- the point of ray n with the index l is stock of which a move is sure, and stock at which it is possible
+abbrev pub sure_stock : Job → ℕ → JobMove → ℕ → ℕ → Bool
+sure_stock job strip move n l = stock_at job strip n l && sure_there job.plan move strip n l
+
+abbrev pub possible_stock : Job → ℕ → JobMove → ℕ → ℕ → Bool
+possible_stock job strip move n l = stock_at job strip n l && possible_there job.plan move strip n l
+
+and_apart : (a b c : Bool) → (a && (b && c)) ≡ ((a && b) && c)
+and_apart true b c = refl
+and_apart false b c = refl
+
+-- the changes of a move that an edit applies are the stock points that it marks and that were not in the two sets
 pub record AreMarked (job : Job) (strip version rays : ℕ) (move : JobMove) (changes : List WordChange) : Type 0 where
   pub sure : (n l : ℕ) → n < rays → l < points_at job.plan.grid strip n
-      → among sure_of changes n l ≡ (sure_there job.plan move strip n l && not (sure_at job strip version n l))
+      → among sure_of changes n l ≡ (stock_at job strip n l && (sure_there job.plan move strip n l && not (sure_at job strip version n l)))
   pub possible : (n l : ℕ) → n < rays → l < points_at job.plan.grid strip n
-      → among possible_of changes n l ≡ (possible_there job.plan move strip n l && not (possible_at job strip version n l))
+      → among possible_of changes n l ≡ (stock_at job strip n l && (possible_there job.plan move strip n l && not (possible_at job strip version n l)))
 
 pub sure_new : (job : Job) (strip version rays number : ℕ) (move : JobMove) (changes : List WordChange)
     → slice_get job.plan.edits version ≡ Some (Apply number) → HasNumber job.plan number move
     → AreMarked job strip version rays move changes
-    → AreNew (sure_at job strip) sure_of rays (points_at job.plan.grid strip) changes (sure_there job.plan move strip) version
+    → AreNew (sure_at job strip) sure_of rays (points_at job.plan.grid strip) changes (sure_stock job strip move) version
 sure_new job strip version rays number move changes applies named marked = record {
-  new = marked.sure;
+  new = λ n l ray point.
+      marked.sure n l ray point
+      ∙ and_apart (stock_at job strip n l) (sure_there job.plan move strip n l) (not (sure_at job strip version n l));
   all = λ n l ray point. sure_more job strip version n l number move applies named;
 }
 
 pub possible_new : (job : Job) (strip version rays number : ℕ) (move : JobMove) (changes : List WordChange)
     → slice_get job.plan.edits version ≡ Some (Apply number) → HasNumber job.plan number move
     → AreMarked job strip version rays move changes
-    → AreNew (possible_at job strip) possible_of rays (points_at job.plan.grid strip) changes (possible_there job.plan move strip) version
+    → AreNew (possible_at job strip) possible_of rays (points_at job.plan.grid strip) changes (possible_stock job strip move) version
 possible_new job strip version rays number move changes applies named marked = record {
-  new = marked.possible;
+  new = λ n l ray point.
+      marked.possible n l ray point
+      ∙ and_apart (stock_at job strip n l) (possible_there job.plan move strip n l) (not (possible_at job strip version n l));
   all = λ n l ray point. possible_more_at job strip version n l number move applies named;
 }

@@ -115,13 +115,13 @@ same_on_rays grid p q (ray ∷ rays) d same =
 -- and at each point of a strip
 same_on_strip : (grid : GridSize) (strip : ℕ) (stock p q : LatticePoint → Bool)
     → ((n l : ℕ) → n < length (strip_at grid strip) → l < points_at grid strip n
-    → p (point_at grid strip n l) ≡ q (point_at grid strip n l))
+    → (stock (point_at grid strip n l) && p (point_at grid strip n l)) ≡ (stock (point_at grid strip n l) && q (point_at grid strip n l)))
     → count_by (λ point. stock point && p point) (strip_points grid strip)
     ≡ count_by (λ point. stock point && q point) (strip_points grid strip)
 same_on_strip grid strip stock p q same =
     same_on_rays grid (λ point. stock point && p point) (λ point. stock point && q point) (strip_at grid strip)
     record { family = X; i = 0; j = 0 }
-    (λ n l lt at. ap (λ b. stock (point_at grid strip n l) && b) (same n l lt at))
+    same
 
 -- where the same points are sure at two versions, the same number is removed; and the same number is possible where the same are
 pub same_totals : (job : Job) (strip v w : ℕ)

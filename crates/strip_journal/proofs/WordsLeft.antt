@@ -17,7 +17,7 @@ use Rattle.ray_words.specs.Rows.{kept_at}
 use Rattle.strip_marks.specs.Marks.{ray_of, sets_of}
 use Rattle.strip_marks.proofs.OnStrips.{ray_there}
 use Rattle.strip_journal.specs.declared.journal.Journal.{Journal}
-use Rattle.strip_journal.specs.Journals.{IsJournal, job_of}
+use Rattle.strip_journal.specs.Journals.{IsJournal, job_of, stock_at}
 use Rattle.strip_journal.specs.Remaining.{HasRemaining, remains_at}
 use Rattle.strip_journal.specs.Strips.{StripOf}
 use Rattle.strip_journal.proofs.ToldFound.{strip_of}
@@ -78,6 +78,10 @@ one_more_word d n word bits left more before is fits same size added =
 pub all_written : (d : Sets) (n : ℕ) (left : List Bool) → length d.stock ≤ 64 * n → AreWritten d n left → HasRemaining d left
 all_written d n left all written = record { bound = written.bound; points = λ l low. written.done l low (omega (arith, low, all)) }
 
+left_of_stock : (a b : Bool) → (a && not (a && b)) ≡ (a && not b)
+left_of_stock true b = refl
+left_of_stock false b = refl
+
 -- what is left of the stock of a ray that is kept is what is left of the job's there
 holds_left : (j : Journal) (n : ℕ) (kept : KeptSets) (left : List Bool) → IsJournal (job_of j) j → n < length j.rays → kept ≡ kept_at j.rays n
     → HasRemaining kept.sets left
@@ -89,7 +93,8 @@ holds_left j n kept left is low same has =
       bound = here.bound ∙ size;
       points = λ l lt.
           here.points l (omega (arith, lt, size))
-          ∙ ap₂ (λ x y. x && not y) ((is.newest.bodies n low).stock l lt) (is.newest.sure n l low lt);
+          ∙ ap₂ (λ x y. x && not y) ((is.newest.bodies n low).stock l lt) (is.newest.sure n l low lt)
+          ∙ left_of_stock (stock_at (job_of j) j.number n l) _;
     }
 
 pub all_left : (j : Journal) (n : ℕ) (kept : KeptSets) (made : Result (List Bool) NoMemory) → IsJournal (job_of j) j → n < length j.rays

@@ -1,5 +1,5 @@
 -- What a strip keeps of a job.
-use Rattle.std.specs.Prelude.{◌≡◌, ℕ, ◌+◌, ◌^◌, ◌<◌, ◌≤◌, false, Bool, All, List, length, slice_index}
+use Rattle.std.specs.Prelude.{◌≡◌, ℕ, ◌+◌, ◌^◌, ◌<◌, ◌≤◌, false, Bool, ◌&&◌, All, List, length, slice_index}
 use Rattle.vf_spans.specs.Members.{has}
 use Rattle.ray_grid.specs.Ranges.{IsGrid}
 use Rattle.ray_grid.specs.Strips.{strips_of}
@@ -19,12 +19,18 @@ use Rattle.strip_journal.specs.declared.entry.Entry.{Entry}
 use Rattle.strip_journal.specs.declared.journal.Journal.{Journal}
 use Rattle.strip_journal.specs.Entries.{AreEntries, HasNo, IsToggled, changes_of, edit_at, entry_at, hits_of}
 
--- some move that is left at a version is sure of the point of ray n with the index l, and possible there
+-- the point of ray n with the index l is stock
+abbrev pub stock_at : Job → ℕ → ℕ → ℕ → Bool
+stock_at job strip n l = is_stock job (point_at job.plan.grid strip n l)
+
+-- it is stock of which some move that is left at a version is sure, and stock at which one is possible
 abbrev pub sure_at : Job → ℕ → ℕ → ℕ → ℕ → Bool
-sure_at job strip version n l = some_sure job.plan (left_moves job.plan version) (point_at job.plan.grid strip n l)
+sure_at job strip version n l =
+    stock_at job strip n l && some_sure job.plan (left_moves job.plan version) (point_at job.plan.grid strip n l)
 
 abbrev pub possible_at : Job → ℕ → ℕ → ℕ → ℕ → Bool
-possible_at job strip version n l = some_possible job.plan (left_moves job.plan version) (point_at job.plan.grid strip n l)
+possible_at job strip version n l =
+    stock_at job strip n l && some_possible job.plan (left_moves job.plan version) (point_at job.plan.grid strip n l)
 
 -- the points of a strip's ray in the three bodies
 pub record HasBodies (job : Job) (strip n : ℕ) (d : Sets) : Type 0 where
