@@ -2,7 +2,6 @@
 use Rattle.std.proofs.Common.{◌≡◌, ◌-◌, ◌<◌, ◌≤◌, ℕ, length, slice_index, arith, sym, subst}
 use Rattle.strip_journal.specs.LookedBack.{IsBackAt}
 use Rattle.strip_journal.proofs.BackOver.{can_go, going_end, going_may, going_on, going_start}
-use Rattle.strip_journal.proofs.journal.Journal.go_back.Goals.{then-loop-place-test+else-edit_at-edit, else-loop-place-test}
 use Rattle.strip_journal.proofs.journal.Journal.go_back.Goals as goal
 
 pub returns-then-left-at-clause-back : goal.returns-then-left-at-clause-back
@@ -36,14 +35,12 @@ loop-place-preserved c =
     (omega (arith, c.get-edit.ensures, c.edit_at.ensures, c.if-edit_at-edit.true))
     c.back_over-here.ensures.before
 
-pub returns-clause-back : goal.returns-clause-back
-returns-clause-back c =
+pub returns-else-edit_at-edit-clause-back : goal.returns-else-edit_at-edit-clause-back
+returns-else-edit_at-edit-clause-back c =
     going_end c.args.self.now c.loop-place.self c.loop-place.place c.loop-place.here c.args.left c.loop-place.invariant
-    (λ some. elim c.loop-place-test.branch [
-      | then-loop-place-test+else-edit_at-edit w ↦
-          omega (arith, c.get-edit.ensures, w.edit_at.ensures, w.if-edit_at-edit.false)
-      | else-loop-place-test w ↦ absurd (omega (arith, some))
-    ])
+    (λ some. omega (arith, c.get-edit.ensures, c.edit_at.ensures, c.if-edit_at-edit.false))
 
-pub returns-clause-edits : goal.returns-clause-edits
-returns-clause-edits c = c.loop-place.invariant.edits
+pub returns-after-loop-place-clause-back : goal.returns-after-loop-place-clause-back
+returns-after-loop-place-clause-back c =
+    going_end c.args.self.now c.loop-place.self c.loop-place.place c.loop-place.here c.args.left c.loop-place.invariant
+    (λ some. absurd (omega (arith, some, c.loop-place-test.false)))
