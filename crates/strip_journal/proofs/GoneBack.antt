@@ -2,14 +2,12 @@
 use Rattle.std.proofs.Common.{◌≡◌, ℕ, ◌+◌, ◌-◌, ◌<◌, ◌≤◌, All, Bool, true, false, List, length, slice_index, arith, sym, ap, ◌∙◌, subst}
 use native.Mathlib.Decide.{dec_le}
 use mathlib.Core.Logic.{dite}
-use Rattle.vf_spans.specs.Members.{has}
 use Rattle.job_model.specs.Tasks.{Job}
 use Rattle.ray_words.specs.Rays.{KeptSets}
 use Rattle.strip_marks.specs.declared.change.WordChange.{WordChange}
-use Rattle.strip_marks.specs.Marks.{HaveSameSets, IsChangeOn, among, points_at, possible_of, sets_of, sure_of}
-use Rattle.strip_journal.specs.declared.entry.Entry.{Entry}
+use Rattle.strip_marks.specs.Marks.{HaveSameSets, IsChangeOn, among, points_at, possible_of, sure_of}
 use Rattle.strip_journal.specs.declared.journal.Journal.{Journal}
-use Rattle.strip_journal.specs.Entries.{AreAscending, HasNo, IsToggled, changes_of, edit_at, entry_at}
+use Rattle.strip_journal.specs.Entries.{HasNo, IsToggled, changes_of, edit_at, entry_at}
 use Rattle.strip_journal.specs.Journals.{IsJournal, MatchesEntries, job_of, possible_at, sure_at}
 use Rattle.strip_journal.specs.LookedBack.{IsBackAt}
 use Rattle.strip_journal.specs.Steps.{AreRaysTurned, HasSameEdits}

@@ -1,21 +1,18 @@
 -- What callers see of a strip on the way back is what its journal has there.
-use Rattle.std.proofs.Common.{◌≡◌, ℕ, ◌+◌, ◌<◌, ◌≤◌, Bool, true, List, length, take, arith, refl, sym, ap, ◌∙◌, subst}
+use Rattle.std.proofs.Common.{◌≡◌, ℕ, ◌<◌, ◌≤◌, true, List, length, arith, refl, sym, ap, ◌∙◌, subst}
 use Rattle.std.specs.Prelude.{Result, Ok, Err, IfOk}
 use Rattle.vf_io.specs.declared.answers.NoMemory.{NoMemory}
-use Rattle.vf_spans.specs.Members.{has}
 use Rattle.ray_grid.specs.Grids.{GridSize}
-use Rattle.ray_grid.specs.Points.{LatticePoint}
 use Rattle.ray_grid.specs.Strips.{strip_at, strips_of}
 use Rattle.edit_plan.specs.Edits.{left_at}
 use Rattle.job_counts.specs.declared.counts.Counts.{Counts}
-use Rattle.dexel_rays.specs.Sets.{Sets}
 use Rattle.job_model.specs.Findings.{found_over}
 use Rattle.job_model.specs.Points.{is_stock, left_moves, moves_of, some_possible, some_sure, strip_points}
 use Rattle.job_model.specs.Tasks.{Job, JobMove, PlanOf}
 use Rattle.ray_words.specs.Rays.{KeptSets}
 use Rattle.ray_words.specs.Rows.{kept_at}
 use Rattle.strip_plan.specs.Plans.{HasNumber}
-use Rattle.strip_marks.specs.Marks.{AreRays, point_at, points_at, sets_of, strip_found}
+use Rattle.strip_marks.specs.Marks.{AreRays, point_at, sets_of, strip_found}
 use Rattle.strip_journal.specs.declared.journal.Journal.{Journal}
 use Rattle.strip_journal.specs.Journals.{IsJournal, job_of, possible_at, sure_at}
 use Rattle.strip_journal.specs.LookedBack.{IsBackAt, IsCutAlike, IsFoundSoFar, IsRaySoFar, LookedBackOf, moves_so_far, version_before}
@@ -41,11 +38,11 @@ moves_back j place left b =
 -- of a stock point the set of a version says whether some move that is left there is sure of it, and possible
 sure_of_stock : (job : Job) (strip version n l : ℕ) → is_stock job (point_at job.plan.grid strip n l) ≡ true
     → sure_at job strip version n l ≡ some_sure job.plan (left_moves job.plan version) (point_at job.plan.grid strip n l)
-sure_of_stock job strip version n l stock = refl
+sure_of_stock job strip version n l stock = grind (arith, stock)
 
 possible_of_stock : (job : Job) (strip version n l : ℕ) → is_stock job (point_at job.plan.grid strip n l) ≡ true
     → possible_at job strip version n l ≡ some_possible job.plan (left_moves job.plan version) (point_at job.plan.grid strip n l)
-possible_of_stock job strip version n l stock = refl
+possible_of_stock job strip version n l stock = grind (arith, stock)
 
 -- the sets of a ray
 ray_back : (j : Journal) (place left n : ℕ) → IsBackAt j place left → n < length j.rays

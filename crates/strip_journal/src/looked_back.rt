@@ -69,10 +69,7 @@ impl Journal {
         ensures found { IfOk result (λ counts. (move : JobMove) → HasNumber plan.now number move
             → counts ≡ strip_found plan.now move self.old.number self.old.rays) }
     {
-        let MoveChanges {
-            changes,
-            counts,
-        } = self.mark(plan, number)?;
+        let MoveChanges { changes, counts } = self.mark(plan, number)?;
         self.room = changes;
         Ok(counts)
     }

@@ -1,5 +1,5 @@
 -- It goes back over entry after entry until the next is of an earlier edit.
-use Rattle.std.proofs.Common.{◌≡◌, ◌-◌, ◌<◌, ◌≤◌, ℕ, length, slice_index, arith, sym, subst}
+use Rattle.std.proofs.Common.{◌<◌, ℕ, length, arith, sym, subst}
 use Rattle.strip_journal.specs.LookedBack.{IsBackAt}
 use Rattle.strip_journal.proofs.BackOver.{can_go, going_end, going_may, going_on, going_start}
 use Rattle.strip_journal.proofs.journal.Journal.go_back.Goals as goal
