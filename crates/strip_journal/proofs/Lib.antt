@@ -22,6 +22,10 @@ pub mod NextEdit
 pub mod Turned
 pub mod Unmoved
 pub mod LookBack
+pub mod LeftVersions
+pub mod GoneBack
+pub mod BackOver
+pub mod SeenBack
 pub mod FoundIs
 pub mod TurnedAt
 pub mod KeptHits

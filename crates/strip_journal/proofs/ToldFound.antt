@@ -23,7 +23,7 @@ abbrev pub strip_of : Journal → StripOf
 strip_of j = record { job = job_of j; number = j.number; done = j.done }
 
 -- as many moves are left as the line says
-left_many : (edits : List Edit) (v : ℕ) → length (left_at edits v) ≡ (history_at edits v).at
+pub left_many : (edits : List Edit) (v : ℕ) → length (left_at edits v) ≡ (history_at edits v).at
 left_many edits v =
     let line = history_at edits v in
     ap length (left_is_history edits v)
@@ -41,7 +41,7 @@ pub record IsLeftAs (edits : List Edit) (done : ℕ) (numbers : List ℕ) (k : �
   pub there : slice_get (left_at edits done) k ≡ Some (move_of edits (slice_index numbers k))
   pub ahead : left_at edits (slice_index numbers k) ≡ take k (left_at edits done)
 
-left_as : (edits : List Edit) (v k : ℕ) → k < (history_at edits v).at → IsLeftAs edits v (history_at edits v).numbers k
+pub left_as : (edits : List Edit) (v k : ℕ) → k < (history_at edits v).at → IsLeftAs edits v (history_at edits v).numbers k
 left_as edits v k low =
     let line = history_at edits v in
     let kept : List ℕ = take line.at line.numbers in

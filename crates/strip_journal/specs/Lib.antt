@@ -3,6 +3,7 @@ pub mod Fresh
 pub mod Found
 pub mod Journals
 pub mod Kept
+pub mod LookedBack
 pub mod Looking
 pub mod Packed
 pub mod Remaining

@@ -1,9 +1,10 @@
 ghost use Rattle.std.specs.Prelude.{◌≡◌, ℕ, ◌+◌, ◌-◌, ◌^◌, ◌<◌, ◌≤◌, false, true, Some, All, IfOk, OnOk, OnErr, length, slice_get};
+ghost use Rattle.ray_grid.specs.Strips.{strips_of};
 ghost use Rattle.edit_plan.specs.declared.edit.Edit.TheVariants.{Apply};
 ghost use Rattle.job_counts.specs.Counts.{AreWithin};
 ghost use Rattle.job_model.specs.Tasks.{JobMove};
 ghost use Rattle.strip_plan.specs.Plans.{HasNumber};
-ghost use Rattle.strip_marks.specs.Marks.{HaveSameSets, IsChangeOn, IsMarkedStrip};
+ghost use Rattle.strip_marks.specs.Marks.{AreRays, HaveSameSets, IsChangeOn, IsMarkedStrip};
 ghost use Rattle.strip_journal.specs.declared.entry.Hits.{Hits};
 ghost use Rattle.strip_journal.specs.Entries.{hits_of};
 ghost use Rattle.strip_journal.specs.Journals.{IsAt, IsJournal, job_of};
@@ -110,10 +111,10 @@ impl Journal {
         Ok(())
     }
 
-    /// What a move of the plan changes, and what it finds. The sets and the edits stay.
-    fn mark(&mut self, plan: &Plan, number: u32) -> Result<MoveChanges, NoMemory>
-        requires journal { IsJournal (job_of self.old) self.old }
-        requires plan { self.old.plan.value ≡ plan.now }
+    /// What a move of a plan changes, and what it finds, by the sets of the rays. The sets and the edits stay.
+    pub fn mark(&mut self, plan: &Plan, number: u32) -> Result<MoveChanges, NoMemory>
+        requires strip { self.old.number < length (strips_of plan.now.grid) }
+        requires rays { AreRays plan.now.grid self.old.number self.old.rays }
         requires number { number < length plan.now.moves }
         ensures edits { HasSameEdits self.old self.new }
         ensures same { HaveSameSets self.old.rays self.new.rays }

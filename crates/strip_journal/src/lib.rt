@@ -9,6 +9,7 @@ mod finding;
 mod fresh;
 mod history;
 mod journal;
+mod looked_back;
 mod packed;
 mod rays;
 mod remaining;
@@ -19,5 +20,6 @@ mod strip;
 mod undoing;
 
 pub use job_counts::{PointState, Totals};
+pub use looked_back::LookedBack;
 pub use strip::Strip;
 pub use strip_plan::{Plan, PlanMove as Job};

@@ -15,6 +15,7 @@ use crate::entries::Entries;
 use crate::fresh::{fresh_rays, hold_grid};
 use crate::history::EditHistory;
 use crate::journal::Journal;
+use crate::looked_back::LookedBack;
 use job_counts::{Counts, PointState, Totals};
 use ray_grid::Ray;
 use ray_shapes::RayShape;
@@ -211,6 +212,18 @@ impl Strip {
             → IfOk result (HoldsPointsOf self.now.job.plan.grid ray (remains_at self.now.job self.now.done)) }
     {
         self.journal.remaining_on(n)
+    }
+
+    /// The strip for looking back over the moves that are left, after the last of them. It takes no memory.
+    pub fn look_back(self) -> LookedBack
+        ensures { result ≡ record {
+          job = self.job;
+          number = self.number;
+          done = self.done;
+          left = length (left_at self.job.plan.edits self.done);
+        } }
+    {
+        LookedBack::of(self.journal)
     }
 
     /// How many moves are left.

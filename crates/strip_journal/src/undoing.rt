@@ -16,7 +16,7 @@ use strip_plan::Plan;
 use vf_io::NoMemory;
 
 /// Takes the points of an entry's changes away, or gives them again. It takes no memory.
-fn turn_changes(rays: &mut StripRays, changes: &Changes, entry: &Entry, is_undo: bool)
+pub fn turn_changes(rays: &mut StripRays, changes: &Changes, entry: &Entry, is_undo: bool)
     requires order { entry.now.from ≤ entry.now.to }
     requires within { entry.now.to ≤ length changes.now.items }
     requires on { All (IsChangeOn rays.old) changes.now.items }

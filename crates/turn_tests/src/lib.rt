@@ -12,6 +12,8 @@ mod crews;
 #[cfg(test)]
 mod long_ray;
 #[cfg(test)]
+mod looked_back;
+#[cfg(test)]
 mod meeting;
 #[cfg(test)]
 mod orders;

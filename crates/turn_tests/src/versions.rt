@@ -15,7 +15,7 @@ use vf_io::NoMemory;
 const REMOVED: [usize; 11] = [0, 14, 30, 14, 0, 16, 0, 16, 30, 16, 30];
 
 /// The edits of two moves, and then more: what is left is dropped and taken again, and so is the first move after it.
-fn more_edits(alloc: Global) -> Result<Edits, NoMemory>
+pub fn more_edits(alloc: Global) -> Result<Edits, NoMemory>
     ensures many { IfOk result (λ edits. length edits ≡ 10) }
     ensures named { IfOk result (λ edits. All (AppliesBelow 2) edits) }
 {

@@ -1,5 +1,5 @@
 -- The count fits, since a strip has few points; and one ray more is fresh.
-use Rattle.std.proofs.Common.{◌≡◌, ◌<◌, ◌∙◌, length, ap, arith, sym, subst}
+use Rattle.std.proofs.Common.{◌≡◌, ◌<◌, length, ap, arith, sym, subst}
 use Rattle.ray_grid.specs.Grids.{GridSize}
 use Rattle.ray_grid.specs.Lattice.{IsRay}
 use Rattle.ray_grid.specs.Strips.{strip_at}

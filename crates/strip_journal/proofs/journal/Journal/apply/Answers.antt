@@ -1,7 +1,9 @@
 -- The move is marked, and what it changes is taken over: the journal of the edits before becomes that of one edit more.
-use Rattle.std.proofs.Common.{◌≡◌, List, rules, sym, subst}
+use Rattle.std.proofs.Common.{◌≡◌, ◌<◌, List, length, rules, sym, subst}
+use Rattle.ray_grid.specs.Strips.{strips_of}
+use Rattle.job_model.specs.Tasks.{PlanOf}
 use Rattle.ray_words.specs.Rays.{KeptSets}
-use Rattle.strip_marks.specs.Marks.{HaveSameSets}
+use Rattle.strip_marks.specs.Marks.{AreRays, HaveSameSets}
 use Rattle.strip_journal.specs.Steps.{HasSameEdits}
 use Rattle.strip_journal.proofs.EnteredRoom.{same_at}
 use Rattle.strip_journal.proofs.KeptSame.{same_edits_through}
@@ -9,6 +11,14 @@ use Rattle.strip_journal.proofs.MarkedBy.{IsMarking, marking_at, marking_fits, m
 use Rattle.strip_journal.proofs.MovedAt.{on_err_both, on_ok_both}
 use Rattle.strip_journal.proofs.journal.Journal.apply.Goals as goal
 use Rattle.strip_journal.proofs.journal.Journal.apply.Goals.{In_ok-marked}
+
+pub mark-requires-clause-strip : goal.mark-requires-clause-strip
+mark-requires-clause-strip c =
+    subst (λ (p : PlanOf). c.args.self.now.number < length (strips_of p.grid)) c.requires.plan c.requires.journal.strip
+
+pub mark-requires-clause-rays : goal.mark-requires-clause-rays
+mark-requires-clause-rays c =
+    subst (λ (p : PlanOf). AreRays p.grid c.args.self.now.number c.args.self.now.rays) c.requires.plan c.requires.journal.newest.rays
 
 -- what is known of the move once it is marked
 marking : (c : In_ok-marked) → IsMarking c.args.plan.now c.args.self.now c.mark.new.self c.args.number c.in_ok-marked.marked.changes.items
