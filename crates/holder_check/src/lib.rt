@@ -8,5 +8,6 @@ mod point;
 #[cfg(test)]
 mod tests;
 
-pub use counts::{HolderCounts, holder_counts};
+pub use counts::holder_counts;
+pub use job_counts::HolderCounts;
 pub use marks::{HolderMarks, holder_marks};

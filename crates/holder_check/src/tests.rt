@@ -1,9 +1,10 @@
 ghost use Rattle.std.specs.Prelude.{◌≡◌, IfOk, length};
 
-use crate::counts::{HolderCounts, holder_counts};
+use crate::counts::holder_counts;
 use crate::marks::{HolderMarks, holder_marks};
 use axis_cells::Sweep;
 use bern_form::Slab;
+use job_counts::HolderCounts;
 use ray_grid::{Family, Grid, Ray};
 use std::alloc::Global;
 use std::test::Fail;
