@@ -3,11 +3,13 @@
 
 mod counts;
 mod flags;
+mod holder;
 mod marks;
 mod point;
 #[cfg(test)]
 mod tests;
 
 pub use counts::holder_counts;
+pub use holder::Holder;
 pub use job_counts::HolderCounts;
 pub use marks::{HolderMarks, holder_marks};

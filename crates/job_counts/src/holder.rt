@@ -1,7 +1,10 @@
 ghost use Rattle.std.specs.Prelude.{◌≡◌};
 ghost use Rattle.job_counts.specs.Counts.{most_count};
 ghost use Rattle.job_counts.specs.Holder.{
-    HolderCountsWithin, is_holder_clear, no_holder_counts, plus_holder_counts
+  HolderCountsWithin,
+  is_holder_clear,
+  no_holder_counts,
+  plus_holder_counts,
 };
 
 /// How many points the holder of a move meets. What is possible includes what is sure.
