@@ -1,12 +1,11 @@
 -- A holder that is tested only at the points of its window at which it counts finds in a word what it would if it were tested at all points.
-use Rattle.std.proofs.Common.{◌≡◌, ℕ, ◌+◌, ◌*◌, ◌<◌, ◌≤◌, Bool, true, false, not, ◌&&◌, ◌||◌, IsTrue, List, length, arith, refl, sym, subst, ap, ap₂, ◌∙◌, ◌⊎◌, inl, inr, ⊎_elim, leb, ltb, if◌then◌else◌}
+use Rattle.std.proofs.Common.{◌≡◌, ℕ, ◌+◌, ◌*◌, ◌<◌, ◌≤◌, Bool, true, false, not, ◌&&◌, ◌||◌, IsTrue, length, arith, refl, sym, ap, ap₂, ◌∙◌, ◌⊎◌, inl, inr, ⊎_elim, if◌then◌else◌}
 use Rattle.std.specs.List.{range_with_len}
-use Rattle.std.proofs.lemmas.Bool.{and_parts, cases_Bool, cases_lt, false_from_ne_true, le-leb, lt-ltb}
-use Rattle.vf_spans.specs.Members.{has, in_range}
+use Rattle.std.proofs.lemmas.Bool.{cases_Bool, cases_lt, false_from_ne_true, le-leb, lt-ltb}
+use Rattle.vf_spans.specs.Members.{in_range}
 use Rattle.vf_spans.specs.Words.{has_bit}
 use Rattle.vf_spans.proofs.WordBits.{has_bit-zero}
 use Rattle.ray_grid.specs.Lattice.{points_of}
-use Rattle.job_counts.specs.declared.counts.Counts.{Counts}
 use Rattle.dexel_rays.specs.declared.word_sets.WordSets.{WordSets}
 use Rattle.dexel_rays.specs.Asked.{Agree, is_wanted}
 use Rattle.dexel_rays.specs.Findings.{findings, is_outside, met}
@@ -14,7 +13,7 @@ use Rattle.dexel_rays.specs.Sets.{Sets}
 use Rattle.dexel_rays.specs.WordSets.{SureIsPossible, seen_bit, seen_by}
 use Rattle.dexel_rays.proofs.WordLaws.{agree_found}
 use Rattle.ray_words.specs.Rays.{IsWordAt}
-use Rattle.near_points.specs.Rays.{CylinderRayOf, IsHeldBit, IsKeptBit}
+use Rattle.near_points.specs.Rays.{CylinderRayOf, IsKeptBit}
 use Rattle.wanted_marks.specs.Rays.{RayOf, is_possible_at, is_sure_at, is_sure_bit, is_told_at, is_told_bit}
 use Rattle.strip_marks.specs.Marks.{seen_on}
 use Rattle.strip_marks.specs.RayMarks.{IsNearOf, IsWindow}
@@ -38,16 +37,20 @@ told_as : (sure possible : Bool) (b : Bool) → b ≡ false → (if b then sure 
 told_as sure possible true e = cc
 told_as sure possible false e = refl
 
+-- a bit of a word in which none is set
+pub unset_bit : (word b : ℕ) (mark : Bool) → word ≡ 0 → has_bit 0 b ≡ (has_bit word b && mark)
+unset_bit word b mark e = has_bit-zero b ∙ sym (ap (λ x. has_bit x b && mark) e ∙ ap (λ x. x && mark) (has_bit-zero b))
+
 module _ (r : RayOf) (d : Sets) (n : ℕ) (w : WordSets) (near : CylinderRayOf) (lo hi due points sure possible : ℕ)
     (h : AreSetsOf r d) (at : IsWordAt d n w) (window : IsWindow r lo hi) (of : IsNearOf near r)
     (is_due : (b : ℕ) → b < 64 → has_bit due b ≡ (is_due_bit w b && in_range (64 * n + b) (lo, hi)))
     (kept : (b : ℕ) → b < 64 → IsKeptBit near (64 * n) due b → has_bit points b ≡ true)
     (is_sure : (b : ℕ) → b < 64 → has_bit sure b ≡ is_sure_bit r (64 * n) points b)
     (is_told : (b : ℕ) → b < 64 → has_bit possible b ≡ is_told_bit r (64 * n) points 0 b) where
-  S : ℕ → Bool
+  abbrev S : ℕ → Bool
   S b = is_sure_at r (64 * n + b)
 
-  P : ℕ → Bool
+  abbrev P : ℕ → Bool
   P b = is_possible_at r (64 * n + b)
 
   ordered : SureIsPossible w
@@ -63,22 +66,22 @@ module _ (r : RayOf) (d : Sets) (n : ℕ) (w : WordSets) (near : CylinderRayOf) 
 
   -- marked as it is by all marks
   tested : (b : ℕ) → b < 64 → has_bit points b ≡ true → Agree (seen_by w S P true b) (has_bit sure b) (has_bit possible b)
-  tested b lt yes = record {
-    same_sure = λ t. is_sure b lt ∙ ap (λ x. x && S b) yes;
-    same_possible = λ t o. is_told b lt ∙ ap (λ x. x && is_told_at r (has_bit 0 b) (64 * n + b)) yes ∙ told_as (S b) (P b) (has_bit 0 b) (has_bit-zero b);
+  tested b lt set = record {
+    same_sure = λ t. is_sure b lt ∙ ap (λ x. x && S b) set;
+    same_possible = λ t o. is_told b lt ∙ ap (λ x. x && is_told_at r (has_bit 0 b) (64 * n + b)) set ∙ told_as (S b) (P b) (has_bit 0 b) (has_bit-zero b);
   }
 
   -- at a point that isn't tested there are no marks
   untested_sure : (b : ℕ) → b < 64 → has_bit points b ≡ false → has_bit sure b ≡ false
-  untested_sure b lt no = is_sure b lt ∙ ap (λ x. x && S b) no
+  untested_sure b lt unset = is_sure b lt ∙ ap (λ x. x && S b) unset
 
   untested_possible : (b : ℕ) → b < 64 → has_bit points b ≡ false → has_bit possible b ≡ false
-  untested_possible b lt no = is_told b lt ∙ ap (λ x. x && is_told_at r (has_bit 0 b) (64 * n + b)) no
+  untested_possible b lt unset = is_told b lt ∙ ap (λ x. x && is_told_at r (has_bit 0 b) (64 * n + b)) unset
 
   unmarked : (b : ℕ) → b < 64 → has_bit points b ≡ false → S b ≡ false → P b ≡ false → Agree (seen_by w S P true b) (has_bit sure b) (has_bit possible b)
-  unmarked b lt no s p = record {
-    same_sure = λ t. untested_sure b lt no ∙ sym s;
-    same_possible = λ t o. untested_possible b lt no ∙ sym p;
+  unmarked b lt unset s p = record {
+    same_sure = λ t. untested_sure b lt unset ∙ sym s;
+    same_possible = λ t o. untested_possible b lt unset ∙ sym p;
   }
 
   unwanted : (b : ℕ) → is_wanted (seen_by w S P true b) ≡ false → Agree (seen_by w S P true b) (has_bit sure b) (has_bit possible b)
@@ -86,26 +89,26 @@ module _ (r : RayOf) (d : Sets) (n : ℕ) (w : WordSets) (near : CylinderRayOf) 
 
   -- where the holder may be, nothing counts
   met_untested : (b : ℕ) → b < 64 → 64 * n + b < length d.stock → has_bit points b ≡ false → P b ≡ true → is_due_bit w b ≡ false
-  met_untested b lt below no may =
+  met_untested b lt below unset may =
       let l = 64 * n + b in
       let point : l < points_of r.grid r.ray.family = omega (arith, below, h.bound.stock) in
       let held = window.holds l point may in
       false_from_ne_true (is_due_bit w b)
-      (λ t. let set = is_due b lt ∙ ap₂ (λ x y. x && y) t (in_window lo hi l held.0 held.1) in
-      let yes = kept b lt (set, of.holds l point may) in cc)
+      (λ t. let due_is = is_due b lt ∙ ap₂ (λ x y. x && y) t (in_window lo hi l held.0 held.1) in
+      let tested_is = kept b lt (due_is, of.holds l point may) in cc)
 
   each : (b : ℕ) → b < 64 → Agree (seen_by w S P true b) (has_bit sure b) (has_bit possible b) ⊎ IsTrue (is_outside (seen_by w S P true b))
   each b lt =
       ⊎_elim
       (λ (below : 64 * n + b < length d.stock).
-      ⊎_elim (λ yes. inl (tested b lt yes))
-      (λ no.
+      ⊎_elim (λ set. inl (tested b lt set))
+      (λ unset.
       ⊎_elim
       (λ may.
       ⊎_elim (λ none. inl (unwanted b none)) (λ out. inr out)
-      (not_due (has_bit w.stock b) (has_bit w.part b) (has_bit w.fixture b) (has_bit w.sure b) (met_untested b lt below no may)))
+      (not_due (has_bit w.stock b) (has_bit w.part b) (has_bit w.fixture b) (has_bit w.sure b) (met_untested b lt below unset may)))
       (λ out.
-      inl (unmarked b lt no
+      inl (unmarked b lt unset
       (false_from_ne_true (S b) (λ t. let both = window.both (64 * n + b) t in cc)) out))
       (cases_Bool (P b)))
       (cases_Bool (has_bit points b)))

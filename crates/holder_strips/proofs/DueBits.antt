@@ -1,14 +1,11 @@
 -- The bits of the points at which a holder counts.
-use Rattle.std.proofs.Common.{◌≡◌, ℕ, ◌+◌, ◌-◌, ◌*◌, ◌^◌, ◌<◌, ◌≤◌, Bool, true, not, ◌&&◌, ◌||◌, arith, sym, subst, ap, ap₂, ◌∙◌}
+use Rattle.std.proofs.Common.{◌≡◌, ℕ, ◌+◌, ◌-◌, ◌*◌, ◌^◌, ◌<◌, true, not, ◌&&◌, ◌||◌, sym, ap, ap₂, ◌∙◌}
 use Rattle.std.specs.Prelude.{bit_and, bit_or}
 use Rattle.std.proofs.lemmas.Bool.{and_parts}
 use Rattle.vf_spans.specs.Members.{in_range}
 use Rattle.vf_spans.specs.Words.{has_bit}
 use Rattle.vf_spans.proofs.WordBits.{has_bit-and, has_bit-not, has_bit-or}
-use Rattle.ray_grid.specs.Lattice.{points_of}
 use Rattle.dexel_rays.specs.declared.word_sets.WordSets.{WordSets}
-use Rattle.near_points.specs.Rays.{CylinderRayOf, IsHeldBit}
-use Rattle.wanted_marks.specs.Rays.{RayOf}
 use Rattle.strip_marks.proofs.AtWords.{in_range_below}
 use Rattle.holder_strips.specs.Due.{is_due_bit}
 

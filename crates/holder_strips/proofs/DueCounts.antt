@@ -1,5 +1,5 @@
 -- What a holder finds by sets that are right for the stock is what it meets on the strip.
-use Rattle.std.proofs.Common.{◌≡◌, ℕ, ◌<◌, ◌^◌, Bool, true, false, List, [], ◌∷◌, ◌++◌, length, map, arith, refl, sym, ap, ap₂, ◌∙◌, subst}
+use Rattle.std.proofs.Common.{◌≡◌, ℕ, ◌<◌, Bool, true, false, List, [], ◌∷◌, ◌++◌, length, map, arith, refl, sym, ap, ap₂, ◌∙◌}
 use Rattle.std.specs.List.{range_with_len}
 use Rattle.std.proofs.lemmas.List.{get_or-map, length-map}
 use Rattle.std.proofs.lemmas.List.FromFn.{fill_by_all}
@@ -34,10 +34,10 @@ by_stock false p f u q s o rapid u' q' e g = refl
 module _ (job : Job) (holder : HolderSize) (slabs : ℕ) (moves : List JobMove) (edits : List Edit) (before : List JobMove) (move : JobMove) (strip : ℕ)
     (rays : List KeptSets) (some : 0 < job.plan.slabs) (own : 0 < slabs) (are : AreRays job.plan.grid strip rays)
     (right : AreRightAfter job strip before rays) where
-  plan : PlanOf
+  abbrev plan : PlanOf
   plan = record { grid = job.plan.grid; slabs = slabs; depth = job.plan.depth; moves = moves; edits = edits }
 
-  tool : JobMove
+  abbrev tool : JobMove
   tool = holder_move holder move
 
   same_sure : (p : LatticePoint) → is_sure plan tool p ≡ is_sure job.plan tool p
@@ -84,7 +84,7 @@ pub counts_are_due : CountsAreDue
 counts_are_due job holder plan before move strip rays later some own grid depth are are_later right right_later =
     let tool = holder_move holder move in
     let same : plan ≡ record { grid = job.plan.grid; slabs = plan.slabs; depth = job.plan.depth; moves = plan.moves; edits = plan.edits } =
-        λ i. record { grid = grid i; slabs = plan.slabs; depth = depth i; moves = plan.moves; edits = plan.edits } in
+    λ i. record { grid = grid i; slabs = plan.slabs; depth = depth i; moves = plan.moves; edits = plan.edits } in
     ap₂ holder_counts_by
     (ap (λ (x : PlanOf). strip_found x tool strip rays) same ∙ strip_is job holder plan.slabs plan.moves plan.edits before move strip rays some own are right)
     (ap (λ (x : PlanOf). strip_found x tool strip later) same

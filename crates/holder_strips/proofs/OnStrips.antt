@@ -1,9 +1,9 @@
 -- What a holder finds on a strip: the rays of its window are enough.
-use Rattle.std.proofs.Common.{◌≡◌, ℕ, ◌+◌, ◌-◌, ◌*◌, ◌^◌, ◌<◌, ◌≤◌, Bool, true, false, List, length, arith, refl, sym, ap, ap₂, ◌∙◌, subst, ◌⊎◌, inl, inr, ⊎_elim}
+use Rattle.std.proofs.Common.{◌≡◌, ℕ, ◌+◌, ◌-◌, ◌*◌, ◌^◌, ◌<◌, ◌≤◌, true, false, List, length, arith, sym, ap, ap₂, ◌∙◌, subst, ◌⊎◌, inl, inr, ⊎_elim}
 use Rattle.std.specs.List.{range_with_len}
 use Rattle.vf_spans.specs.Members.{has}
 use Rattle.job_counts.specs.declared.counts.Counts.{Counts}
-use Rattle.job_counts.specs.Counts.{AreWithin, most_count, no_counts, plus}
+use Rattle.job_counts.specs.Counts.{AreWithin, no_counts, plus}
 use Rattle.dexel_rays.specs.Findings.{findings}
 use Rattle.dexel_rays.specs.Sets.{Sets}
 use Rattle.ray_grid.specs.Strips.{strips_of}
@@ -56,8 +56,8 @@ ray_more plan move strip lo n rays counts found le few before next =
     let d = sets_of rays n in
     let step : n + 1 - lo ≡ (n - lo) + 1 = omega (arith, le) in
     let own : AreWithin (2 ^ 32) found =
-        subst (AreWithin (2 ^ 32)) (sym next)
-        (found_within (seen_on d (sure_there plan move strip n) (possible_there plan move strip n) move.rapid) 0 (points_at plan.grid strip n) (2 ^ 32) few) in
+    subst (AreWithin (2 ^ 32)) (sym next)
+    (found_within (seen_on d (sure_there plan move strip n) (possible_there plan move strip n) move.rapid) 0 (points_at plan.grid strip n) (2 ^ 32) few) in
     record {
       found =
           ap₂ plus before.found next
@@ -74,8 +74,8 @@ beyond : (plan : PlanOf) (number : ℕ) (move : JobMove) (strip lo hi : ℕ) (ra
 beyond plan number move strip lo hi rays n valid named there are window out lt =
     let d = sets_of rays n in
     let off : (l : ℕ) → l < points_at plan.grid strip n → possible_there plan move strip n l ≡ false = λ l below.
-        nowhere_beyond plan move strip lo hi n l there window (omega (arith, lt, are.many))
-        (λ inside. ⊎_elim (λ (low : n < lo). omega (arith, low, inside.0)) (λ (high : hi ≤ n). omega (arith, high, inside.1)) out) below in
+    nowhere_beyond plan move strip lo hi n l there window (omega (arith, lt, are.many))
+    (λ inside. ⊎_elim (λ (low : n < lo). omega (arith, low, inside.0)) (λ (high : hi ≤ n). omega (arith, high, inside.1)) out) below in
     found_none (seen_on d (sure_there plan move strip n) (possible_there plan move strip n) move.rapid) 0 (points_at plan.grid strip n)
     (λ l ge less.
     let below : l < points_at plan.grid strip n = omega (arith, less) in

@@ -14,13 +14,7 @@ use strip_plan::Plan;
 use wanted_marks::LOW_SLAB;
 
 /// What a holder finds on the rays of a strip from the one number on and below the other.
-fn count_rays(
-    plan: &Plan,
-    number: u32,
-    strip: u32,
-    rays: &StripRays,
-    window: (u32, u32),
-) -> Counts
+fn count_rays(plan: &Plan, number: u32, strip: u32, rays: &StripRays, window: (u32, u32)) -> Counts
     requires plan { IsPlan plan.now }
     requires number { number < length plan.now.moves }
     requires strip { strip < length (strips_of plan.now.grid) }
@@ -41,7 +35,10 @@ fn count_rays(
     let mut counts = Counts::none();
     for n in window.0..window.1 {
         let on_ray = marker.on_ray(n);
-        let found = count_ray(&on_ray, &near, rays.ray(n), n, along, &mut slab);
+        let ray = rays.ray(n);
+        // The bound fits.
+        let _bound = ray.bound();
+        let found = count_ray(&on_ray, &near, ray, n, along, &mut slab);
         counts = counts.plus(&found);
     }
     counts
