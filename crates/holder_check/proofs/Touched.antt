@@ -6,9 +6,10 @@ use Rattle.std.proofs.lemmas.Bool.Decides.{Decides-eqb}
 use Rattle.std.proofs.lemmas.List.FromFn.{get_or-range_with_len, length-range_with_len}
 use Rattle.std.proofs.lemmas.List.Sums.{sum_by-cons}
 use Rattle.vf_spans.specs.Members.{has, count_below}
-use Rattle.holder_check.specs.declared.counts.HolderCounts.{HolderCounts}
+use Rattle.job_counts.specs.declared.holder.HolderCounts.{HolderCounts}
+use Rattle.job_counts.specs.Holder.{is_holder_clear}
 use Rattle.holder_check.specs.declared.marks.HolderMarks.{HolderMarks}
-use Rattle.holder_check.specs.Contacts.{HolderSeen, IsKeptOff, holder_findings, holder_seen_at, is_holder_clear, may_strike_fixture, may_strike_part, may_strike_stock}
+use Rattle.holder_check.specs.Contacts.{HolderSeen, IsKeptOff, holder_findings, holder_seen_at, may_strike_fixture, may_strike_part, may_strike_stock}
 
 -- how many indices two sets have, and how many the first two have and the third has not
 abbrev pub both : List Bool → List Bool → ℕ

@@ -1,7 +1,7 @@
 -- What a holder touches of stock, part and fixtures: six counts, each of the points that pass one test.
-use Rattle.std.specs.Prelude.{◌≡◌, ℕ, ◌==◌, Bool, true, false, not, ◌&&◌, IsTrue, List, count_by}
+use Rattle.std.specs.Prelude.{◌≡◌, ℕ, Bool, true, false, not, ◌&&◌, IsTrue, List, count_by}
 use Rattle.vf_spans.specs.Members.{has}
-use Rattle.holder_check.specs.declared.counts.HolderCounts.{HolderCounts}
+use Rattle.job_counts.specs.declared.holder.HolderCounts.{HolderCounts}
 use Rattle.holder_check.specs.declared.marks.HolderMarks.{HolderMarks}
 
 -- what is known of a point under the holder of a move: which bodies hold it, whether some earlier move was sure of it, whether this move
@@ -59,10 +59,6 @@ holder_seen_at marks stock part fixture sure_before possible_after i = record {
   sure = has marks.sure i;
   possible = has marks.possible i;
 }
-
--- the holder may meet nothing: none of the three counts of what it may meet is above 0
-abbrev pub is_holder_clear : HolderCounts → Bool
-is_holder_clear counts = counts.part_possible == 0 && (counts.fix_possible == 0 && counts.stock_possible == 0)
 
 -- wherever the holder may be, there is neither part nor fixture, and no stock but what some earlier move was sure of
 pub record IsKeptOff (p : HolderSeen) : Type 0 where

@@ -1,2 +1,3 @@
 pub mod Holder
 pub mod Contacts
+pub mod Above

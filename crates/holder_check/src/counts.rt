@@ -1,25 +1,12 @@
 ghost use Rattle.std.specs.Prelude.{◌≡◌, ℕ, ◌<◌, IsTrue, IfOk, length};
 ghost use Rattle.std.specs.List.{range_with_len};
-ghost use Rattle.holder_check.specs.Contacts.{IsKeptOff, holder_findings, holder_seen_at, is_holder_clear};
+ghost use Rattle.job_counts.specs.Holder.{is_holder_clear};
+ghost use Rattle.holder_check.specs.Contacts.{IsKeptOff, holder_findings, holder_seen_at};
 
 use crate::marks::HolderMarks;
+use job_counts::HolderCounts;
 use vf_io::NoMemory;
 use vf_spans::Spans;
-
-/// How many points the holder of a move meets. What is possible includes what is sure.
-#[derive(Clone, Copy)]
-pub struct HolderCounts {
-    /// Part points.
-    pub part_sure: u64,
-    pub part_possible: u64,
-    /// Fixture points.
-    pub fix_sure: u64,
-    pub fix_possible: u64,
-    /// Stock points at which neither this move nor an earlier one was possible.
-    pub stock_sure: u64,
-    /// Stock points of which no earlier move was sure.
-    pub stock_possible: u64,
-}
 
 /// What the holder of a move meets on a ray, by its marks there, the ray's bodies, the points of which some earlier move was sure, and
 /// those at which this move or an earlier one was possible. It takes no memory, so the answer is never `NoMemory`.

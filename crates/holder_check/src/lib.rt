@@ -3,8 +3,11 @@
 
 mod counts;
 mod flags;
+mod holder;
 mod marks;
 mod point;
 
-pub use counts::{HolderCounts, holder_counts};
+pub use counts::holder_counts;
+pub use holder::Holder;
+pub use job_counts::HolderCounts;
 pub use marks::{HolderMarks, holder_marks};

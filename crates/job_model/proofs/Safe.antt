@@ -15,7 +15,7 @@ use Rattle.job_model.specs.Points.{is_fixture, is_part, is_possible, is_stock, i
 use Rattle.job_model.specs.Tasks.{IsJobMove, JobMove, PlanOf}
 use Rattle.job_model.proofs.Lists.{of_all, some_of, unnamed}
 
-some_cells : (depth : ℕ) → 0 < 2 ^ depth
+pub some_cells : (depth : ℕ) → 0 < 2 ^ depth
 some_cells depth = let least : 2 ^ 0 ≤ 2 ^ depth = pow_mono {i = 0} {j = depth} (omega arith) in least
 
 -- what a move is sure of its lower cutter meets; where it is not possible its upper cutter meets nothing
@@ -40,7 +40,7 @@ some_meets plan moves point some valid sure =
     let found = some_of (λ move. is_sure plan move point) moves sure in
     record { move = found.0; among = found.1; met = sure_met plan found.0 point some (of_all IsJobMove moves found.0 valid found.1) found.2 }
 
-in_either : (a b c : Bool) → (a || b) ≡ true → (a && c) ≡ false → (b && c) ≡ false → c ≡ false
+pub in_either : (a b c : Bool) → (a || b) ≡ true → (a && c) ≡ false → (b && c) ≡ false → c ≡ false
 in_either true b c h k l = k
 in_either false true c h k l = l
 in_either false false c h k l = cc
@@ -52,17 +52,17 @@ rapid_out true true false sure r s u h = refl
 rapid_out true false possible sure r s u h = cc
 rapid_out false stock possible sure r s u h = cc
 
-all_zero : (a b c : ℕ) → (a == 0 && (b == 0 && c == 0)) ≡ true → (a ≡ 0) × (b ≡ 0) × (c ≡ 0)
+pub all_zero : (a b c : ℕ) → (a == 0 && (b == 0 && c == 0)) ≡ true → (a ≡ 0) × (b ≡ 0) × (c ≡ 0)
 all_zero a b c h =
     let x = and_parts (a == 0) (b == 0 && c == 0) h in let y = and_parts (b == 0) (c == 0) x.1 in
     (eqb-true a 0 x.0, eqb-true b 0 y.0, eqb-true c 0 y.1)
 
-listed : (grid : GridSize) (point : LatticePoint) → IsPointOf grid point → Contains (lattice_of grid) point
+pub listed : (grid : GridSize) (point : LatticePoint) → IsPointOf grid point → Contains (lattice_of grid) point
 listed grid point of =
     subst (λ (p : List ℤ). Contains (lattice_of grid) record { ray = point.ray; l = point.l; position = p }) (sym of.position) (listed_point grid point.ray point.l of.ray of.index)
 
 -- a move before it met a point of which it is not so that none was sure
-met_before : (plan : PlanOf) (before : List JobMove) (point : LatticePoint) → 0 < plan.slabs → All IsJobMove before → (some_sure plan before point ≡ false → ⊥) → SomeMeets before point
+pub met_before : (plan : PlanOf) (before : List JobMove) (point : LatticePoint) → 0 < plan.slabs → All IsJobMove before → (some_sure plan before point ≡ false → ⊥) → SomeMeets before point
 met_before plan before point some valid not_none =
     ⊎_elim (λ sure. some_meets plan before point some valid sure) (λ none. absurd (not_none none)) (cases_Bool (some_sure plan before point))
 

@@ -1,6 +1,7 @@
 pub mod Tasks
 pub mod Points
 pub mod Findings
+pub mod Holders
 pub mod Answers
 pub mod Meets
 pub mod Law

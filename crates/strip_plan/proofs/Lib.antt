@@ -12,3 +12,4 @@ pub mod Passed
 pub mod Grouped
 pub mod Tables
 pub mod Stacked
+pub mod NearBy

@@ -1,4 +1,5 @@
 pub mod Plans
+pub mod Holders
 pub mod Cutters
 pub mod Windows
 pub mod Ranges

@@ -159,6 +159,14 @@ impl PlanDraft {
         self.edits.as_slice()
     }
 
+    /// A move by its number.
+    pub fn plan_move(&self, number: u32) -> PlanMove
+        requires { number < length self.now.moves }
+        ensures { HasNumber self.now number result }
+    {
+        self.moves[number as usize]
+    }
+
     /// Whether a move is in rapid motion.
     pub(crate) fn is_rapid(&self, number: u32) -> bool
         requires { number < length self.now.moves }

@@ -1,10 +1,11 @@
-ghost use Rattle.std.specs.Prelude.{◌≡◌, ℕ};
+ghost use Rattle.std.specs.Prelude.{◌≡◌, ℕ, IsTrue};
 ghost use Rattle.ray_grid.specs.Grids.{GridSize};
+ghost use Rattle.strip_plan.specs.Holders.{HasNoPoint, HasNoneAlong};
 ghost use Rattle.strip_plan.specs.IndexBoxes.{HasPoint, IsBoxOf, JoinsBoxes, ranges_for};
 ghost use Rattle.strip_plan.specs.Ranges.{IsIn, IsRangeOf, Joins};
 ghost use Rattle.strip_plan.specs.StripRanges.{count_of, index_of};
 
-use crate::ranges::{hull, is_in};
+use crate::ranges::{hull, is_in, is_none};
 use crate::strip_range::StripRange;
 use ray_grid::{Family, Ray};
 
@@ -96,6 +97,22 @@ impl IndexBox {
             Family::Y => self.y.points,
             Family::Z => self.z.points,
         }
+    }
+
+    /// Whether it has no point of a family's rays.
+    fn has_none_along(&self, family: Family) -> bool
+        ensures { IsTrue result → HasNoneAlong self.now family }
+    {
+        is_none(self.first(family)) || is_none(self.second(family)) || is_none(self.along(family))
+    }
+
+    /// Whether it has no point.
+    pub fn is_empty(&self) -> bool
+        ensures { IsTrue result → HasNoPoint self.now }
+    {
+        self.has_none_along(Family::X)
+            && self.has_none_along(Family::Y)
+            && self.has_none_along(Family::Z)
     }
 
     /// A range that the box has of a strip, that of a family's rays with the first node `i`: the numbers of the rays with a point in it, or

@@ -6,6 +6,7 @@ mod boxes;
 mod cutters;
 mod cylinders;
 mod draft;
+mod holders;
 mod index_box;
 mod indexed;
 mod plan;
@@ -18,6 +19,7 @@ mod untouched;
 mod windows;
 
 pub use draft::PlanDraft;
+pub use holders::HolderPlan;
 pub use plan::Plan;
 pub use plan_move::PlanMove;
 pub use prepared::Prepared;

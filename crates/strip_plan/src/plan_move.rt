@@ -1,5 +1,6 @@
 use axis_cells::Sweep;
 use cutter_slabs::Cutter;
+use holder_check::Holder;
 use std::marker::Model;
 
 /// A move of the program with its cutter, whether it is in rapid motion, and the line where its record begins. It is valid by its
@@ -26,6 +27,8 @@ impl Model for PlanMove {
 
 impl PlanMove {
     ghost use Rattle.std.specs.Prelude.{◌≡◌};
+    ghost use Rattle.holder_check.specs.Above.{HolderFits};
+    ghost use Rattle.job_model.specs.Holders.{holder_move};
 
     /// The move of a sweep and a cutter; `line` is counted from 1.
     pub fn new(sweep: Sweep, cutter: Cutter, rapid: bool, line: u32) -> PlanMove
@@ -40,5 +43,13 @@ impl PlanMove {
             rapid,
             line,
         }
+    }
+
+    /// The holder above the move's cutter as a move of its own: on the same way, in rapid motion.
+    pub fn of_holder(&self, holder: &Holder) -> PlanMove
+        requires { HolderFits holder.now self.now.cutter }
+        ensures { result ≡ holder_move holder.now self.now }
+    {
+        PlanMove::new(self.sweep, holder.above(&self.cutter), true, self.line)
     }
 }

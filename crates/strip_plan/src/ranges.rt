@@ -1,4 +1,4 @@
-ghost use Rattle.std.specs.Prelude.{◌↔◌, IsTrue};
+ghost use Rattle.std.specs.Prelude.{◌↔◌, ℕ, IsTrue};
 ghost use Rattle.strip_plan.specs.Ranges.{IsIn, Joins};
 
 /// Whether an index is in a range.
@@ -7,6 +7,14 @@ pub fn is_in(range: (u32, u32), index: u32) -> bool
     ensures { IsTrue result ↔ IsIn range index }
 {
     range.0 <= index && index < range.1
+}
+
+/// Whether no index is in a range.
+#[inline]
+pub fn is_none(range: (u32, u32)) -> bool
+    ensures { IsTrue result → (index : ℕ) → IsIn range index → ⊥ }
+{
+    range.0 >= range.1
 }
 
 /// The least range that holds two ranges. An empty one counts for nothing.

@@ -1,6 +1,7 @@
 use Rattle.std.proofs.Common.{IsTrue, length, subst, ◌∙◌}
-use Rattle.holder_check.specs.Contacts.{holder_seen_at, is_holder_clear}
-use Rattle.holder_check.specs.declared.counts.HolderCounts.{HolderCounts}
+use Rattle.job_counts.specs.Holder.{is_holder_clear}
+use Rattle.job_counts.specs.declared.holder.HolderCounts.{HolderCounts}
+use Rattle.holder_check.specs.Contacts.{holder_seen_at}
 use Rattle.holder_check.proofs.Touched.{counts_are, kept_off}
 use Rattle.holder_check.proofs.counts.holder_counts.Goals as goal
 

@@ -1,0 +1,5 @@
+pub mod DueBits
+pub mod AtDue
+pub mod OnRays
+pub mod OnStrips
+pub mod DueCounts
