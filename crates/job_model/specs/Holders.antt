@@ -1,6 +1,6 @@
 -- What the holder above a move's cutter meets: six counts over points, by the moves before it. And the same holder as a tool of its own in
 -- rapid motion, by which it is counted.
-use Rattle.std.specs.Prelude.{◌^◌, ◌||◌, ◌++◌, Bool, true, List, [], ◌∷◌}
+use Rattle.std.specs.Prelude.{◌≡◌, ◌^◌, ◌||◌, ◌++◌, Bool, true, List, [], ◌∷◌}
 use Rattle.ray_grid.specs.Points.{LatticePoint, lattice_of}
 use Rattle.job_counts.specs.declared.counts.Counts.{Counts}
 use Rattle.job_counts.specs.declared.holder.HolderCounts.{HolderCounts}
@@ -58,3 +58,9 @@ holder_counts_by before after = record {
 abbrev pub holder_found_by : Job → HolderSize → List LatticePoint → List JobMove → JobMove → HolderCounts
 holder_found_by job holder points before move =
     holder_counts_by (found_over job points before (holder_move holder move)) (found_over job points (before ++ move ∷ []) (holder_move holder move))
+
+-- of what the holder may not meet it is sure to meet none either
+pub record SureArePossible (counts : HolderCounts) : Type 0 where
+  pub part : counts.part_possible ≡ 0 → counts.part_sure ≡ 0
+  pub fixture : counts.fix_possible ≡ 0 → counts.fix_sure ≡ 0
+  pub stock : counts.stock_possible ≡ 0 → counts.stock_sure ≡ 0
