@@ -1,22 +1,20 @@
 -- A holder that is clear keeps off, and what a holder is sure to meet is struck.
-use Rattle.std.proofs.Common.{◌≡◌, true, false, not, cond, count_by, [], ◌∷◌, sym, ap, ◌∙◌, subst, ℕ, zero, ◌+◌, ◌^◌, ◌<◌, ◌≤◌, ◌==◌, Bool, ◌&&◌, ◌||◌, List, arith, refl, ⊎_elim}
+use Rattle.std.proofs.Common.{◌≡◌, true, false, not, cond, count_by, [], ◌∷◌, sym, ◌∙◌, subst, ℕ, ◌+◌, ◌^◌, ◌<◌, Bool, ◌&&◌, ◌||◌, List, arith, refl, ⊎_elim}
 use Rattle.std.specs.List.{All}
 use Rattle.std.proofs.lemmas.List.Folds.{list_any_at}
 use Rattle.std.proofs.lemmas.List.Sums.{sum_by-cons}
-use Rattle.std.proofs.lemmas.Bool.{and_parts, cases_Bool, eqb-true}
+use Rattle.std.proofs.lemmas.Bool.{cases_Bool}
 use Rattle.std.proofs.lemmas.Int.{ints}
-use Rattle.std.proofs.Math.Pow.{pow_mono}
 use Rattle.bern_form.specs.Slab.{IsSlab}
 use Rattle.cutter_slabs.specs.Cutter.{CutterSize}
 use Rattle.ray_grid.specs.Points.{IsPointOf, LatticePoint, lattice_of}
 use Rattle.holder_check.specs.Above.{HolderFits, HolderSize, IsHolder, slab_above}
 use Rattle.job_counts.specs.declared.holder.HolderCounts.{HolderCounts}
-use Rattle.job_counts.specs.Holder.{is_holder_clear, no_holder_counts}
+use Rattle.job_counts.specs.Holder.{is_holder_clear}
 use Rattle.holder_check.specs.Contacts.{may_strike_fixture, may_strike_part, may_strike_stock, strikes_fixture, strikes_part, strikes_stock}
 use Rattle.holder_check.proofs.Slabs as slabs
-use Rattle.job_model.specs.Holders.{SureArePossible, holder_found, holder_found_over, holder_seen, is_struck, may_be_struck}
-use Rattle.job_model.specs.Law.{ClearHolderIsZero, ClearHolderKeepsOff, SureHolderIsPossible, SureHolderStrikes}
-use Rattle.job_model.specs.Meets.{HolderStrikes, SomeMeets}
+use Rattle.job_model.specs.Holders.{HolderStrikes, holder_found, holder_found_over, holder_seen, is_struck, may_be_struck}
+use Rattle.job_model.specs.HolderLaws.{ClearHolderIsZero, ClearHolderKeepsOff, SureHolderIsPossible, SureHolderStrikes}
 use Rattle.job_model.specs.Points.{is_fixture, is_part, is_possible, is_stock, is_sure, some_possible, some_sure}
 use Rattle.job_model.specs.Tasks.{IsJobMove, JobMove, PlanOf}
 use Rattle.job_model.proofs.Lists.{of_all, some_of, unnamed}
