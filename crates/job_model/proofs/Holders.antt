@@ -1,6 +1,6 @@
 -- A holder's counts by the tool that it is, and over the lattice as sums over strips.
-use Rattle.std.proofs.Common.{◌≡◌, ◌+◌, ◌<◌, ◌^◌, Bool, true, false, not, ◌&&◌, ◌||◌, List, [], ◌∷◌, ◌++◌, map, count_by, refl, sym, ap, ap₂, ◌∙◌}
-use Rattle.std.specs.List.{flat_map, list_any}
+use Rattle.std.proofs.Common.{◌≡◌, ◌<◌, ◌^◌, Bool, true, false, not, ◌&&◌, ◌||◌, List, [], ◌∷◌, ◌++◌, map, count_by, refl, sym, ap, ◌∙◌}
+use Rattle.std.specs.List.{flat_map}
 use Rattle.std.proofs.lemmas.List.Folds.{list_any-append}
 use Rattle.ray_grid.specs.Grids.{GridSize}
 use Rattle.ray_grid.specs.declared.ray.Ray.{Ray}
@@ -12,7 +12,7 @@ use Rattle.holder_check.specs.Above.{HolderSize}
 use Rattle.holder_check.specs.Contacts.{HolderSeen, holder_findings, may_strike_fixture, may_strike_part, may_strike_stock, strikes_fixture, strikes_part, strikes_stock}
 use Rattle.holder_check.proofs.Stacked.{held_by_holder, possible_by_holder}
 use Rattle.job_model.specs.Holders.{holder_move, holder_seen, is_struck, may_be_struck}
-use Rattle.job_model.specs.Law.{HolderByStrips, HolderIsTool}
+use Rattle.job_model.specs.HolderLaws.{HolderByStrips, HolderIsTool}
 use Rattle.job_model.specs.Points.{is_fixture, is_part, is_possible, is_stock, is_sure, some_possible, some_sure}
 use Rattle.job_model.specs.Sums.{sum_holder_counts}
 use Rattle.job_model.specs.Tasks.{JobMove, PlanOf}

@@ -1,13 +1,14 @@
 -- What the holder above a move's cutter meets: six counts over points, by the moves before it. And the same holder as a tool of its own in
--- rapid motion, by which it is counted.
-use Rattle.std.specs.Prelude.{◌^◌, ◌||◌, ◌++◌, Bool, true, List, [], ◌∷◌}
-use Rattle.ray_grid.specs.Points.{LatticePoint, lattice_of}
+-- rapid motion, by which it is counted; and when it keeps off.
+use Rattle.std.specs.Prelude.{◌≡◌, ◌^◌, ◌||◌, ◌++◌, Bool, false, true, List, [], ◌∷◌}
+use Rattle.ray_grid.specs.Points.{IsPointOf, LatticePoint, lattice_of}
 use Rattle.job_counts.specs.declared.counts.Counts.{Counts}
 use Rattle.job_counts.specs.declared.holder.HolderCounts.{HolderCounts}
 use Rattle.holder_check.specs.Above.{HolderSize, holder_cutter, slab_above}
 use Rattle.holder_check.specs.Contacts.{HolderSeen, holder_findings}
-use Rattle.holder_check.specs.Holder.{is_holder_possible, is_holder_sure}
+use Rattle.holder_check.specs.Holder.{HolderMeets, is_holder_possible, is_holder_sure}
 use Rattle.job_model.specs.Findings.{found_over}
+use Rattle.job_model.specs.Meets.{SomeMeets}
 use Rattle.job_model.specs.Points.{is_fixture, is_part, is_possible, is_stock, some_possible, some_sure}
 use Rattle.job_model.specs.Tasks.{Job, JobMove, PlanOf}
 
@@ -58,3 +59,23 @@ holder_counts_by before after = record {
 abbrev pub holder_found_by : Job → HolderSize → List LatticePoint → List JobMove → JobMove → HolderCounts
 holder_found_by job holder points before move =
     holder_counts_by (found_over job points before (holder_move holder move)) (found_over job points (before ++ move ∷ []) (holder_move holder move))
+
+-- of what the holder may not meet it is sure to meet none either
+pub record SureArePossible (counts : HolderCounts) : Type 0 where
+  pub part : counts.part_possible ≡ 0 → counts.part_sure ≡ 0
+  pub fixture : counts.fix_possible ≡ 0 → counts.fix_sure ≡ 0
+  pub stock : counts.stock_possible ≡ 0 → counts.stock_sure ≡ 0
+
+-- the holder of a move strikes the point: its slab above the move's cutter holds it at some rational time
+abbrev pub HolderStrikes : HolderSize → JobMove → LatticePoint → Type 0
+HolderStrikes holder move point = HolderMeets (slab_above holder move.cutter) move.sweep point.position
+
+-- The holder of a move keeps off: it strikes no lattice point of the part or of a fixture, and of the stock only what some move before it
+-- was sure of, which that move met with its lower cutter.
+pub record HolderKeepsOff (job : Job) (holder : HolderSize) (before : List JobMove) (move : JobMove) : Type 0 where
+  pub solids : (point : LatticePoint) → IsPointOf job.plan.grid point → (is_part job point || is_fixture job point) ≡ true
+      → ¬ HolderStrikes holder move point
+  pub uncut : (point : LatticePoint) → IsPointOf job.plan.grid point → is_stock job point ≡ true
+      → some_sure job.plan before point ≡ false → ¬ HolderStrikes holder move point
+  pub stock : (point : LatticePoint) → IsPointOf job.plan.grid point → is_stock job point ≡ true → HolderStrikes holder move point
+      → SomeMeets before point

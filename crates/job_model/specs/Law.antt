@@ -1,46 +1,13 @@
--- The law of a safe move and that of a clear holder, on which what a report says of safety rests; and how a holder is counted.
-use Rattle.std.specs.Prelude.{◌≡◌, ◌<◌, true, All, List, map}
-use Rattle.std.specs.List.{flat_map}
-use Rattle.ray_grid.specs.Points.{LatticePoint, lattice_of, points_on}
-use Rattle.ray_grid.specs.Strips.{strips_of}
+-- The one law of a safe move, on which what a report says of safety rests.
+use Rattle.std.specs.Prelude.{◌≡◌, ◌<◌, true, All, List}
+use Rattle.ray_grid.specs.Points.{lattice_of}
 use Rattle.job_counts.specs.Counts.{is_safe}
-use Rattle.job_counts.specs.Holder.{is_holder_clear}
-use Rattle.holder_check.specs.Above.{HolderFits, HolderSize, IsHolder}
 use Rattle.job_model.specs.Findings.{found_over}
-use Rattle.job_model.specs.Holders.{holder_found, holder_found_by, holder_found_over, is_struck}
-use Rattle.job_model.specs.Meets.{HolderKeepsOff, HolderStrikes, KeepsOff}
-use Rattle.job_model.specs.Sums.{sum_holder_counts}
-use Rattle.job_model.specs.Tasks.{IsJobMove, Job, JobMove, PlanOf}
+use Rattle.job_model.specs.Meets.{KeepsOff}
+use Rattle.job_model.specs.Tasks.{IsJobMove, Job, JobMove}
 
 -- a valid move, after any valid moves: where nothing is counted against it over the lattice, it keeps off
 abbrev pub SafeMoveKeepsOff : Type 0
 SafeMoveKeepsOff =
     (job : Job) (before : List JobMove) (move : JobMove) → 0 < job.plan.slabs → All IsJobMove before → IsJobMove move
     → is_safe (found_over job (lattice_of job.plan.grid) before move) ≡ true → KeepsOff job before move
-
--- a valid move with a valid holder that fits above its cutter, after any valid moves: where the holder is clear it keeps off
-abbrev pub ClearHolderKeepsOff : Type 0
-ClearHolderKeepsOff =
-    (job : Job) (holder : HolderSize) (before : List JobMove) (move : JobMove) → 0 < job.plan.slabs → All IsJobMove before → IsJobMove move
-    → IsHolder holder → HolderFits holder move.cutter → is_holder_clear (holder_found job holder before move) ≡ true
-    → HolderKeepsOff job holder before move
-
--- a point that the holder is sure to meet is struck
-abbrev pub SureHolderStrikes : Type 0
-SureHolderStrikes =
-    (plan : PlanOf) (holder : HolderSize) (move : JobMove) (point : LatticePoint)
-    → is_struck plan holder move point ≡ true → HolderStrikes holder move point
-
--- over any points a holder's counts are those by the tool that it is
-abbrev pub HolderIsTool : Type 0
-HolderIsTool =
-    (job : Job) (holder : HolderSize) (points : List LatticePoint) (before : List JobMove) (move : JobMove) → 0 < job.plan.slabs
-    → holder_found_over job holder points before move ≡ holder_found_by job holder points before move
-
--- and over the lattice they are those of its strips together
-abbrev pub HolderByStrips : Type 0
-HolderByStrips =
-    (job : Job) (holder : HolderSize) (before : List JobMove) (move : JobMove)
-    → holder_found job holder before move
-    ≡ sum_holder_counts (map (λ strip. holder_found_over job holder (flat_map (points_on job.plan.grid) strip) before move)
-      (strips_of job.plan.grid))

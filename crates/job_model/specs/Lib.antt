@@ -1,8 +1,9 @@
 pub mod Tasks
 pub mod Points
 pub mod Findings
-pub mod Holders
 pub mod Answers
 pub mod Meets
+pub mod Holders
 pub mod Law
 pub mod Sums
+pub mod HolderLaws

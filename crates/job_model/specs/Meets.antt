@@ -1,12 +1,10 @@
 -- What the moves of a job meet, said of the exact cutters: the lower one, with its flank's tangent rounded down, and the upper
 -- one, with the tangent rounded up. They are the same where a cutter isn't a cone.
-use Rattle.std.specs.Prelude.{◌≡◌, true, false, ◌||◌, List}
+use Rattle.std.specs.Prelude.{◌≡◌, true, ◌||◌, List}
 use Rattle.std.specs.List.{Contains}
 use Rattle.cutter_slabs.specs.Meets.{MeetsLower, MeetsUpper}
 use Rattle.ray_grid.specs.Points.{IsPointOf, LatticePoint}
-use Rattle.holder_check.specs.Above.{HolderSize, slab_above}
-use Rattle.holder_check.specs.Holder.{HolderMeets}
-use Rattle.job_model.specs.Points.{is_fixture, is_part, is_stock, some_sure}
+use Rattle.job_model.specs.Points.{is_fixture, is_part, is_stock}
 use Rattle.job_model.specs.Tasks.{Job, JobMove}
 
 -- the move meets the point: its lower, or its upper, cutter holds it at some rational time
@@ -33,17 +31,3 @@ pub record KeepsOff (job : Job) (before : List JobMove) (move : JobMove) : Type 
       → ¬ UpperMeets move point
   pub stock : (point : LatticePoint) → move.rapid ≡ true → IsPointOf job.plan.grid point → is_stock job point ≡ true
       → UpperMeets move point → SomeMeets before point
-
--- the holder of a move strikes the point: its slab above the move's cutter holds it at some rational time
-abbrev pub HolderStrikes : HolderSize → JobMove → LatticePoint → Type 0
-HolderStrikes holder move point = HolderMeets (slab_above holder move.cutter) move.sweep point.position
-
--- The holder of a move keeps off: it strikes no lattice point of the part or of a fixture, and of the stock only what some move before it
--- was sure of, which that move met with its lower cutter.
-pub record HolderKeepsOff (job : Job) (holder : HolderSize) (before : List JobMove) (move : JobMove) : Type 0 where
-  pub solids : (point : LatticePoint) → IsPointOf job.plan.grid point → (is_part job point || is_fixture job point) ≡ true
-      → ¬ HolderStrikes holder move point
-  pub uncut : (point : LatticePoint) → IsPointOf job.plan.grid point → is_stock job point ≡ true
-      → some_sure job.plan before point ≡ false → ¬ HolderStrikes holder move point
-  pub stock : (point : LatticePoint) → IsPointOf job.plan.grid point → is_stock job point ≡ true → HolderStrikes holder move point
-      → SomeMeets before point
