@@ -117,33 +117,33 @@ no_box =
 
 -- the holder whose box has no point may meet none
 off_lattice : (plan : PlanOf) (holder : HolderSize) (hulls boxes : List IndexBox) (starts : List ℕ) (number : ℕ) (move : JobMove)
-    → HasBoxes plan.grid 1 plan.depth (map (holder_move holder) plan.moves) hulls boxes starts (length (map (holder_move holder) plan.moves))
+    → 0 < plan.slabs
+    → HasBoxes plan.grid plan.slabs plan.depth (map (holder_move holder) plan.moves) hulls boxes starts (length (map (holder_move holder) plan.moves))
     → HasNumber plan number move → ((d : IndexBox) → HasNoPoint (get_or hulls number d)) → (ray : Ray) (l : ℕ)
     → IsRay plan.grid ray → l < points_of plan.grid ray.family → may_be_struck plan holder move (point_in plan.grid ray l) ≡ false
-off_lattice plan holder hulls boxes starts number move has named off ray l on_grid index =
-    let single : PlanOf = record { grid = plan.grid; slabs = 1; depth = plan.depth; moves = plan.moves; edits = plan.edits } in
+off_lattice plan holder hulls boxes starts number move some has named off ray l on_grid index =
     let all = map (holder_move holder) plan.moves in
     let there : slice_get all number ≡ Some (holder_move holder move) = slice_get-map (holder_move holder) plan.moves number ∙ ap (option_map (holder_move holder)) named in
     ⊎_elim
     (λ may.
     absurd (off no_box ray l (has.each number (holder_move holder move) no_box ray l (slice_get_within all number (holder_move holder move) there) there
-    record { on_grid = on_grid; index = index; possible = sym (tool_possible single holder move (point_in plan.grid ray l) (omega arith)) ∙ may }).in_hull))
+    record { on_grid = on_grid; index = index; possible = sym (tool_possible plan holder move (point_in plan.grid ray l) some) ∙ may }).in_hull))
     (λ no. no) (cases_Bool (may_be_struck plan holder move (point_in plan.grid ray l)))
 
 -- the plan of those that are near is that of the holders
 pub holders_are : (plan made : PlanOf) (holder : HolderSize) (all near : List JobMove) (hulls boxes : List IndexBox) (starts : List ℕ) (places : List (Option ℕ))
-    → all ≡ map (holder_move holder) plan.moves → HasBoxes plan.grid 1 plan.depth all hulls boxes starts (length all) → AreNear all hulls near places (length all)
-    → made.grid ≡ plan.grid → made.depth ≡ plan.depth → made.slabs ≡ 1 → made.moves ≡ near → AreHoldersOf plan holder record { plan = made; places = places }
-holders_are plan made holder all near hulls boxes starts places all_is has are grid depth slabs moves =
-    let own = subst (λ (xs : List JobMove). HasBoxes plan.grid 1 plan.depth xs hulls boxes starts (length xs)) all_is has in
+    → 0 < plan.slabs → all ≡ map (holder_move holder) plan.moves → HasBoxes plan.grid plan.slabs plan.depth all hulls boxes starts (length all) → AreNear all hulls near places (length all)
+    → made.grid ≡ plan.grid → made.depth ≡ plan.depth → made.slabs ≡ plan.slabs → made.moves ≡ near → AreHoldersOf plan holder record { plan = made; places = places }
+holders_are plan made holder all near hulls boxes starts places some all_is has are grid depth slabs moves =
+    let own = subst (λ (xs : List JobMove). HasBoxes plan.grid plan.slabs plan.depth xs hulls boxes starts (length xs)) all_is has in
     let split = subst (λ (xs : List JobMove). AreNear xs hulls near places (length xs)) all_is are in
     record {
       grid = grid;
       depth = depth;
-      some = omega (arith, slabs);
+      slabs = slabs;
       many = split.many ∙ length-map plan.moves (holder_move holder);
       near = λ number place move at named.
           subst (λ (xs : List JobMove). slice_get xs place ≡ Some (holder_move holder move)) (sym moves)
           (split.there number place (holder_move holder move) at (slice_get-map (holder_move holder) plan.moves number ∙ ap (option_map (holder_move holder)) named));
-      far = λ number move at named. off_lattice plan holder hulls boxes starts number move own named (λ d. split.none number d at);
+      far = λ number move at named. off_lattice plan holder hulls boxes starts number move some own named (λ d. split.none number d at);
     }

@@ -26,12 +26,12 @@ abbrev pub MissesLattice : PlanOf → HolderSize → JobMove → Type 0
 MissesLattice plan holder move =
     (ray : Ray) (l : ℕ) → IsRay plan.grid ray → l < points_of plan.grid ray.family → may_be_struck plan holder move (point_in plan.grid ray l) ≡ false
 
--- The plan of holders is that of a plan's moves: it has their lattice and depth. Where it has a number for a move, the holder of the move
+-- The plan of holders is that of a plan's moves: it has their lattice, slabs and depth. Where it has a number for a move, the holder of the move
 -- has that number there; where it has none, the holder meets no point of the lattice.
 pub record AreHoldersOf (plan : PlanOf) (holder : HolderSize) (holders : HolderPlanOf) : Type 0 where
   pub grid : holders.plan.grid ≡ plan.grid
   pub depth : holders.plan.depth ≡ plan.depth
-  pub some : 0 < holders.plan.slabs
+  pub slabs : holders.plan.slabs ≡ plan.slabs
   pub many : length holders.places ≡ length plan.moves
   pub near : (number place : ℕ) (move : JobMove) → slice_get holders.places number ≡ Some (Some place) → HasNumber plan number move
       → HasNumber holders.plan place (holder_move holder move)

@@ -42,7 +42,7 @@ impl Model for PlanDraft {
     ghost invariant = { λ d. (d.depth ≤ 10) × (length d.moves.items ≤ most_script_moves) × (length d.edits ≤ most_edits)
         × All (AppliesBelow (length d.moves.items)) d.edits
         × IsPlan record { grid = d.grid; slabs = d.cutters.slabs; depth = d.depth; moves = d.moves.items; edits = d.edits }
-        × AreStacksOf d.moves.items d.cutters };
+        × AreStacksOf d.moves.items d.cutters × (d.cutters.slabs ≤ 256) };
 }
 
 impl PlanDraft {

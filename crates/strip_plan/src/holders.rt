@@ -87,16 +87,17 @@ fn near_holders(
 }
 
 impl HolderPlan {
-    /// The holders of a draft's moves. Both stacks of a holder are its one slab, however many are asked for. Fails only when out of memory.
+    /// The holders of a draft's moves, for as many slabs. Fails only when out of memory.
     pub fn new(alloc: Global, draft: &PlanDraft, holder: &Holder) -> Result<HolderPlan, NoMemory>
         requires { All (FitsAbove holder.now) draft.now.moves }
         ensures { IfOk result (AreHoldersOf draft.now holder.now) }
     {
         let all = holders_of(alloc, &draft.moves, holder)?;
-        let cutters = cutters_of(alloc, &all, 1)?;
+        let slabs = draft.cutters.slabs;
+        let cutters = cutters_of(alloc, &all, slabs)?;
         let boxes = boxes_of(alloc, &draft.grid, draft.depth, &all, &cutters)?;
         let NearHolders { moves, places } = near_holders(alloc, &all, &boxes.hulls)?;
-        let plan = Plan::new(alloc, draft.grid, 1, draft.depth, moves, Edits::new(alloc))?;
+        let plan = Plan::new(alloc, draft.grid, slabs, draft.depth, moves, Edits::new(alloc))?;
         Ok(HolderPlan { plan, places })
     }
 

@@ -17,7 +17,7 @@ returns c =
     let hulls = c.in_ok-boxes.boxes.hulls.items in
     let boxes = c.in_ok-boxes.boxes.boxes.items in
     let starts = c.in_ok-boxes.boxes.starts.items in
-    let has : HasBoxes plan.grid 1 plan.depth all hulls boxes starts (length all) =
+    let has : HasBoxes plan.grid plan.slabs plan.depth all hulls boxes starts (length all) =
     subst (λ (k : ℕ). HasBoxes plan.grid k plan.depth all hulls boxes starts (length all)) c.in_ok-cutters.ensures.slabs
     (subst (λ (xs : List JobMove). HasBoxes plan.grid c.in_ok-cutters.cutters.slabs plan.depth xs hulls boxes starts (length xs)) c.deref-3.ensures.value c.in_ok-boxes.ensures) in
     let near = c.in_ok-moves.field-0.moves.items in
@@ -27,5 +27,5 @@ returns c =
     (subst (λ (bs : List IndexBox). AreNear c.deref-4.result.now bs near places (length c.deref-4.result.now)) c.deref-5.ensures.value c.in_ok-moves.ensures) in
     let made = c.in_ok-plan.ensures in
     subst (λ (p : PlanOf). AreHoldersOf p holder record { plan = c.in_ok-plan.plan; places = places }) c.draft.view_is
-    (holders_are plan c.in_ok-plan.plan holder all near hulls boxes starts places all_is has are (ap (λ (p : PlanOf). p.grid) made) (ap (λ (p : PlanOf). p.depth) made)
+    (holders_are plan c.in_ok-plan.plan holder all near hulls boxes starts places c.draft.invariant.4.some all_is has are (ap (λ (p : PlanOf). p.grid) made) (ap (λ (p : PlanOf). p.depth) made)
     (ap (λ (p : PlanOf). p.slabs) made) (ap (λ (p : PlanOf). p.moves) made))
