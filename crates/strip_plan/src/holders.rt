@@ -97,7 +97,14 @@ impl HolderPlan {
         let cutters = cutters_of(alloc, &all, slabs)?;
         let boxes = boxes_of(alloc, &draft.grid, draft.depth, &all, &cutters)?;
         let NearHolders { moves, places } = near_holders(alloc, &all, &boxes.hulls)?;
-        let plan = Plan::new(alloc, draft.grid, slabs, draft.depth, moves, Edits::new(alloc))?;
+        let plan = Plan::new(
+            alloc,
+            draft.grid,
+            slabs,
+            draft.depth,
+            moves,
+            Edits::new(alloc),
+        )?;
         Ok(HolderPlan { plan, places })
     }
 
