@@ -2,7 +2,6 @@
 use Rattle.std.proofs.Common.{◌≡◌, ◌<◌, List, Some, length, arith, sym, ap, ◌∙◌}
 use Rattle.std.specs.Prelude.{slice_get}
 use Rattle.std.proofs.lemmas.Option.{slice_get-get_or}
-use Rattle.job_model.specs.Tasks.{PlanOf}
 use Rattle.strip_journal.specs.LookedBack.{LookedBackOf}
 use Rattle.turn_tests.proofs.looked_back.strip_back.Goals as goal
 
